@@ -1,10 +1,10 @@
 #![tactic(auto)]
 
-//! The program of the suite: `mkv_run` over the files, the disk and the standard output of the system.
+//! The program of the suite: `suite` over the files, the disk and the standard output of the system.
 
 use mkv_host::{RealDisk, RealFiles, RealReport};
-use mkv_run::{program, words_of};
 use std::process::ExitCode;
+use suite::{program, words_of};
 
 // Runs the program on the system's files, and returns its exit status.
 fn main(rt: HostRuntime) -> ExitCode {

@@ -11,8 +11,7 @@ use Rattle.mkv_disk.specs.Pair.{IsPairImage}
 use Rattle.mkv_disk.proofs.MomentsLemmas.{stays}
 use Rattle.mkv_disk.specs.declared.disk.Disk as disks
 use Rattle.mkv_lines.specs.Said.{HasSayCause, ReportLines, Says, SaysLast, SaysPart}
-use Rattle.mkv_lines.specs.Verdict.{Reaches, StopsSaying, Verdict}
-use Rattle.mkv_lines.specs.Ordinary.{IsOrdinary}
+use Rattle.mkv_lines.specs.Verdict.{StopsSaying, Verdict}
 use Rattle.sidecar_edit.proofs.GateLemmas.{both_image}
 use Rattle.mkv_propedit.specs.Recover.{DiskWorld, disk_world}
 use Rattle.mkv_propedit.specs.Recovery.{HasDiskStop}
@@ -20,8 +19,8 @@ use Rattle.mkv_propedit.proofs.RecoverLemmas.{recovery-still}
 use Rattle.mkv_propedit.specs.Left.{writes_of_edits}
 use Rattle.mkv_propedit.specs.Reindex.{writes_of_index}
 use Rattle.mkv_propedit.proofs.PropeditLemmas.{edit-still}
-use Rattle.mkv_run.specs.Ends.{Ends, SaysFault}
-use Rattle.mkv_run.specs.Run.{ReadsWithinAfter}
+use Rattle.mkv_run.specs.Ends.{SaysFault}
+use Rattle.mkv_run.specs.Run.{LeavesReadable, MergesReadableIn, ReadsWithinAfter}
 use Rattle.mkv_run.specs.RunSeen.{HasRunStop, IsSilent, RunSeen}
 use Rattle.mkv_run.specs.Touched.{IsInPlace, LeftOnTheWay, Reach, Touches, edited, files, indexed, nothing, recovered}
 use Rattle.mkv_lines.specs.declared.status.Status.{Status}
@@ -87,13 +86,15 @@ fault-alone fault before now old mid new all r same says cause some =
     none : SaysPart old mid []
     none = subst (λ (held : ReportLines). SaysPart old held []) (sym same) (SaysPart-none old [])
 
--- A command that ended by itself ends the run.
-pub ends-done : (old new : RunSeen) (s : Status) (v : Verdict) → IsOrdinary s → Reaches old.seen new.seen (Ok s) v → Ends old new s v
-ends-done old new status.Done v ordinary reaches = reaches
-ends-done old new status.Warned v ordinary reaches = reaches
-ends-done old new status.Refused v ordinary reaches = reaches
-ends-done old new status.NoMemory v ordinary reaches = absurd ordinary
-ends-done old new status.Outside v ordinary reaches = absurd ordinary
+-- ---- outputs that can be read again
+
+-- A command that ended by itself leaves outputs that can be read again.
+pub leaves-readable : (names : Names) (words : List (List ℕ)) (s : Status) → MergesReadableIn names words (Ok s) → LeavesReadable names words s
+leaves-readable names words status.Done readable = readable
+leaves-readable names words status.Warned readable = readable
+leaves-readable names words status.Refused readable = readable
+leaves-readable names words status.NoMemory readable = tt
+leaves-readable names words status.Outside readable = tt
 
 -- ---- the reason why a command stops
 
@@ -172,7 +173,6 @@ touches-nothing r d (edited name edits) before disk rest only = (
     leaves = edit-still d (writes_of_edits edits) disk status.NoMemory (rest tt) (λ M S p same. same) only;
     opened = inr record { standing = refl; not_done = λ is. absurd (cc); missing = λ is told. absurd (cc) };
   },
-  tt,
 )
 touches-nothing r d (indexed name) before disk rest only = (
   refl,
@@ -180,7 +180,6 @@ touches-nothing r d (indexed name) before disk rest only = (
     leaves = edit-still d writes_of_index disk status.NoMemory (rest tt) (λ M S p same. same) only;
     opened = inr record { standing = refl; not_done = λ is. absurd (cc); missing = λ is told. absurd (cc) };
   },
-  tt,
 )
 touches-nothing r d nothing before disk rest only = (refl, refl)
 touches-nothing r d files before disk rest only = refl

@@ -1,10 +1,6 @@
+pub mod Asked
 pub mod ByWords
 pub mod Ends
-pub mod Exit
-pub mod Kept
 pub mod Run
 pub mod RunSeen
 pub mod Touched
-pub mod Asked
-pub mod Outside
-pub mod Runs

@@ -12,6 +12,7 @@ use Rattle.mkv_args.specs.declared.command.Command.TheVariants.{Help, Version, E
 use Rattle.mkv_lines.specs.Line.{word_line}
 use Rattle.mkv_lines.specs.Verdict.{Verdict, done, refused}
 use Rattle.mkv_lines.specs.declared.status.Status.{Status}
+use Rattle.mkv_lines.specs.declared.status.Status.TheVariants as status
 use Rattle.mkv_lines.specs.declared.status.CommandEnd.{CommandEnd}
 use Rattle.mkv_info.specs.Bound.{most_to_tell}
 use Rattle.mkv_info.specs.Info.{info_verdict}
@@ -27,8 +28,6 @@ use Rattle.mkv_generate.specs.Generate.{generate_verdict}
 use Rattle.mkv_merge.specs.Bound.{most_read}
 use Rattle.mkv_merge.specs.Merge.{merge_verdict, sources_of}
 use Rattle.mkv_merge.specs.Records.{EndsReadable}
-use Rattle.merge_laws.specs.Merge.{MergesWell}
-use Rattle.remerge_laws.specs.MergedAgain.{MergesAgain}
 
 -- the message that names the first wrong word and the reason
 abbrev pub usage_line : Usage → List ℕ
@@ -95,8 +94,9 @@ MergesReadable names _ r = ⊤
 abbrev pub MergesReadableIn : Names → List (List ℕ) → Result Status CommandEnd → Type 0
 MergesReadableIn names words r = IfOk (command words) (λ (c : Command). MergesReadable names c r)
 
--- A successful merge has written the output that `words` ask for. If `words` merge the output of a merge by itself and without options, the new
--- output has the same bytes. The run neither refuses nor warns.
-pub record WritesMerge (old : Names) (words : List (List ℕ)) (new : Names) (s : Status) : Type 0 where
-  pub well : MergesWell old words new s
-  pub again : MergesAgain old words new s
+-- The output of a command line `words` that merges can be read again after a run with this status, unless memory ran out or a call of the system
+-- failed.
+abbrev pub LeavesReadable : Names → List (List ℕ) → Status → Type 0
+LeavesReadable names words status.NoMemory = ⊤
+LeavesReadable names words status.Outside = ⊤
+LeavesReadable names words s = MergesReadableIn names words (Ok s)

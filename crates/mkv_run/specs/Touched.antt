@@ -10,7 +10,6 @@ use Rattle.mkv_lines.specs.declared.status.Status.{Status}
 use Rattle.mkv_propedit.specs.Recovery.{IsRecoveryOf, LeftByRecovery}
 use Rattle.mkv_propedit.specs.Left.{IsEditOf, LeftByEdit, writes_of_edits}
 use Rattle.mkv_propedit.specs.Reindex.{writes_of_index}
-use Rattle.mkv_run.specs.Kept.{EditKeepsRest, IndexKeepsRest}
 use Rattle.mkv_lines.specs.Code.{status_of}
 use Rattle.mkv_lines.specs.declared.status.CommandEnd.{CommandEnd}
 
@@ -50,13 +49,13 @@ IsInPlace (edited file edits) = ⊤
 IsInPlace (indexed file) = ⊤
 
 -- Objects that a command doesn't work on are unchanged. An edit in place leaves the files, any other command the disk, and help or refused words
--- both. An edit or a new index keeps the rest of its file.
+-- both. A file in place is left as its recovery, edit or new index allows.
 abbrev pub Touches : {F D : Type 0} → reads.Ghosts D → disks.Ghosts D → Reach → F → F → D → D → Status → Type 0
 Touches r d nothing old new disk disk_now s = (new ≡ old) × (disk_now ≡ disk)
 Touches r d files old new disk disk_now s = disk_now ≡ disk
 Touches r d (recovered file) old new disk disk_now s = (new ≡ old) × IsRecoveryOf r d file disk disk_now s
-Touches r d (edited file edits) old new disk disk_now s = (new ≡ old) × IsEditOf r d file (writes_of_edits edits) disk disk_now s × EditKeepsRest d edits disk disk_now s
-Touches r d (indexed file) old new disk disk_now s = (new ≡ old) × IsEditOf r d file writes_of_index disk disk_now s × IndexKeepsRest d disk disk_now s
+Touches r d (edited file edits) old new disk disk_now s = (new ≡ old) × IsEditOf r d file (writes_of_edits edits) disk disk_now s
+Touches r d (indexed file) old new disk disk_now s = (new ≡ old) × IsEditOf r d file writes_of_index disk disk_now s
 
 -- A command that ended with `result` leaves the objects that it doesn't work on as they were, by the status of the run.
 abbrev pub Touched : {F D : Type 0} → reads.Ghosts D → disks.Ghosts D → Reach → F → F → D → D → Result Status CommandEnd → Type 0

@@ -13,14 +13,11 @@ ghost use Rattle.mkv_propedit.specs.Recover.{disk_world};
 ghost use Rattle.word_values.specs.Place.{texts};
 ghost use Rattle.mkv_run.specs.Asked.{AsksByWords, AsksToObey, LeavesFiles};
 ghost use Rattle.mkv_run.specs.ByWords.{CrashLeaves, EndsFor, HasCauseFor, ReadsFor, ReadsToObey, reach_for, verdict_for};
-ghost use Rattle.mkv_run.specs.Run.{MergesReadable, MergesReadableIn, WritesMerge, verdict_of};
-ghost use Rattle.mkv_run.specs.Outside.{outside};
+ghost use Rattle.mkv_run.specs.Run.{LeavesReadable, MergesReadable, MergesReadableIn, verdict_of};
 ghost use Rattle.mkv_run.specs.RunSeen.{HasObeyed};
-ghost use Rattle.mkv_run.specs.Runs.{Runs};
 ghost use Rattle.mkv_run.specs.Touched.{IsInPlace, Touched, Touches, reach_of};
 
 use crate::help::{explain, help, version};
-use edit_laws::{edits_change_nothing_else, new_index_is_whole};
 use mkv_args::{ArgsEnd, Command, read_words};
 use mkv_disk::Disk;
 use mkv_extract::extract_of;
@@ -30,27 +27,11 @@ use mkv_io::{Files, Report};
 use mkv_lines::{CommandEnd, Line, Status, say_disk_fault, say_files_fault};
 use mkv_merge::merge_of;
 use mkv_propedit::{propedit_of, recover_of, reindex_of};
-use remerge_laws::outputs_are_written_again;
 use std::alloc::Global;
 
-/// Does what `words` ask for, and prints its messages. Requires that nothing on the disk is left to sync if the
-/// command edits or recovers a file in place.
-pub fn run<F: Files, D: Disk, R: Report>(
-    alloc: Global,
-    words: &Vec<String>,
-    files: &mut F,
-    disk: &mut D,
-    report: &mut R,
-) -> Status
-    requires { IsInPlace (reach_for words.now.items) → AtRest D.Disk.own disk.old }
-    ensures { let seen = outside F.Reads F.Files.own D.Reads D.Disk.own R.Report in
-        Runs (texts words.now.items) (seen files.old disk.old report.old) (seen files.new disk.new report.new) result }
-{
-    run_to_end(alloc, words, files, disk, report)
-}
-
-// Does what `words` ask for, and prints the message of a failure of the files or the disk.
-fn run_to_end<F: Files, D: Disk, R: Report>(
+/// Does what `words` ask for, and prints its messages; after a failure of the files or the disk, prints the message of
+/// the failure, too. Requires that nothing on the disk is left to sync if the command edits or recovers a file in place.
+pub fn run_command_line<F: Files, D: Disk, R: Report>(
     alloc: Global,
     words: &Vec<String>,
     files: &mut F,
@@ -64,10 +45,8 @@ fn run_to_end<F: Files, D: Disk, R: Report>(
     ensures verdict { EndsFor F.Reads F.Files.own D.Reads D.Disk.own R.Report files.old files.new disk.old disk.new
         report.old report.new words.now.items result }
 
-    // After a successful merge the output holds the merge, if the contents of the files are visible to the proof.
-    // Merging the output of a default merge again, by itself and without options, gives the same bytes. It must be
-    // within a reader's limits.
-    ensures merged { WritesMerge (F.names files.old) (texts words.now.items) (F.names files.new) result }
+    // The outputs of a merge can be read again, unless a call of the system failed or memory ran out.
+    ensures readable { LeavesReadable (F.names files.old) (texts words.now.items) result }
 
     // `Outside` is returned exactly if a count of failures has increased. If memory runs out, an edit in place prints
     // nothing.
@@ -81,14 +60,13 @@ fn run_to_end<F: Files, D: Disk, R: Report>(
     ensures octets { ReadsFor F.Reads F.Files.own D.Reads D.Disk.own files.old files.new disk.old disk.new words.now.items }
 
     // An edit in place leaves the files as they are, and every other command the disk; help and refused words leave
-    // both. An edit or a new index keeps the rest of the file.
+    // both. FILE and journal of an edit are those that its definition gives.
     ensures touches { Touches D.Reads D.Disk.own (reach_for words.now.items) files.old files.new disk.old disk.new result }
 
     // If nothing was left to sync, a crash leaves the two files of the disk as they were, or as the command can leave
     // them.
     ensures any_moment { CrashLeaves D.Disk.own disk.old disk.new (reach_for words.now.items) result }
 {
-    outputs_are_written_again();
     match carry_out(alloc, words, files, disk, report) {
         Ok(status) => status,
         Err(CommandEnd::Memory) => Status::NoMemory,
@@ -155,12 +133,8 @@ fn execute<F: Files, D: Disk, R: Report>(
         Command::Info { file } => info_of(alloc, Form::Lines, file.as_str(), files, report),
         Command::Identify { file } => info_of(alloc, Form::Json, file.as_str(), files, report),
         Command::Recover { file } => recover_of(alloc, file.as_str(), disk, report),
-        Command::Reindex { file } => {
-            new_index_is_whole();
-            reindex_of(alloc, file.as_str(), disk, report)
-        }
+        Command::Reindex { file } => reindex_of(alloc, file.as_str(), disk, report),
         Command::Propedit { file, edits } => {
-            edits_change_nothing_else();
             propedit_of(alloc, file.as_str(), edits, disk, report)
         }
         Command::Extract { file, job } => extract_of(alloc, file.as_str(), job, files, report),

@@ -11,7 +11,7 @@ use mkv_disk::{Disk, MEDIA};
 use mkv_io::{LONGEST_FILE, Reads};
 use mkv_lines::Status;
 use mkv_memory::{MemDisk, MemFiles, MemReport};
-use mkv_run::run;
+use mkv_run::run_command_line;
 use std::alloc::Global;
 
 /// Number of images of a crash that are tried; each is made by its number, the pick.
@@ -35,7 +35,7 @@ fn run_on(
 {
     let mut files = MemFiles::new(alloc)?;
     let mut report = MemReport::new(alloc, 10, 1000)?;
-    let status = run(alloc, words, &mut files, disk, &mut report);
+    let status = run_command_line(alloc, words, &mut files, disk, &mut report);
     Ok((status, report))
 }
 

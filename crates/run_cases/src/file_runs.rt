@@ -6,7 +6,7 @@ use crate::outputs::{are_untouched, are_whole, stopped_at};
 use mkv_io::LONGEST_FILE;
 use mkv_lines::Status;
 use mkv_memory::{MemDisk, MemFiles, MemReport};
-use mkv_run::run;
+use mkv_run::run_command_line;
 use std::alloc::Global;
 
 /// Call that fails.
@@ -53,7 +53,7 @@ fn run_over(
     mut report: MemReport,
 ) -> Result<Ran, Fault> {
     let mut disk = MemDisk::new(alloc, &[], &[], 0, 0)?;
-    let status = run(alloc, &case.words, &mut files, &mut disk, &mut report);
+    let status = run_command_line(alloc, &case.words, &mut files, &mut disk, &mut report);
     Ok(Ran {
         files,
         report,

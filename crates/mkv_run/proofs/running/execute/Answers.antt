@@ -28,7 +28,6 @@ use Rattle.mkv_generate.specs.Generate.{names_of}
 use Rattle.mkv_run.specs.Asked.{AsksToObey}
 use Rattle.mkv_run.specs.Run.{ReadsWithin, verdict_of}
 use Rattle.mkv_run.specs.Touched.{IsInPlace, Touches, reach_of}
-use Rattle.mkv_run.proofs.KeptLemmas.{edit-keeps, index-keeps}
 use Rattle.mkv_run.proofs.RunLemmas.{disk-alone, files-alone, job-done, media-told, reads-nothing}
 use Rattle.mkv_run.proofs.running.execute.Goals as goal
 
@@ -138,13 +137,13 @@ returns-in-Merge-clause-octets g c =
 
 -- ---- objects that are changed
 
--- An edit keeps the rest of the file.
+-- An edit leaves its file and the journal as its definition gives them.
 pub returns-in-Propedit-clause-touches : goal.returns-in-Propedit-clause-touches
 returns-in-Propedit-clause-touches g c =
     let d = g.D.Disk in let a = c.args.disk.now in let b = c.propedit_of.new.disk in let s = status_of c.propedit_of.result in let edits = c.in-Propedit.edits in
     let is = subst (λ (name : List ℕ). IsEditOf g.D.Reads d name (writes_of_edits edits) a b s) c.as_str-in-Propedit.ensures.same c.propedit_of.ensures.edit in
     subst (λ (asked : Command). Touches g.D.Reads d (reach_of asked) c.args.files.now c.args.files.now a b s) (sym c.in-Propedit.is)
-    (refl, is, edit-keeps d edits a b s c.edits_change_nothing_else.ensures is.leaves)
+    (refl, is)
 
 -- A new index keeps the rest of the file.
 pub returns-in-Reindex-clause-touches : goal.returns-in-Reindex-clause-touches
@@ -152,7 +151,7 @@ returns-in-Reindex-clause-touches g c =
     let d = g.D.Disk in let a = c.args.disk.now in let b = c.reindex_of.new.disk in let s = status_of c.reindex_of.result in
     let is = subst (λ (name : List ℕ). IsEditOf g.D.Reads d name writes_of_index a b s) c.as_str-in-Reindex.ensures.same c.reindex_of.ensures.edit in
     subst (λ (asked : Command). Touches g.D.Reads d (reach_of asked) c.args.files.now c.args.files.now a b s) (sym c.in-Reindex.is)
-    (refl, is, index-keeps d a b s c.new_index_is_whole.ensures is.leaves)
+    (refl, is)
 
 -- A command in place recovers, edits or indexes its file.
 pub recover_of-requires : goal.recover_of-requires

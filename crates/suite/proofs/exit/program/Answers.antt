@@ -1,7 +1,7 @@
 use Rattle.std.proofs.Common.{◌∙◌}
 use Rattle.std.specs.Process.{exit_status}
-use Rattle.mkv_run.proofs.MergedLemmas.{code-merged}
-use Rattle.mkv_run.proofs.exit.program.Goals as goal
+use Rattle.suite.proofs.MergedLemmas.{code-merged}
+use Rattle.suite.proofs.exit.program.Goals as goal
 
 -- The exit status is the number of the run's status, and a successful run has written its merge.
 pub returns-in-Ok-clause-merged : goal.returns-in-Ok-clause-merged

@@ -15,8 +15,8 @@ use Rattle.merge_laws.specs.Merge.{MergesWell}
 use Rattle.remerge_laws.specs.MergedAgain.{MergesAgain}
 use Rattle.mkv_run.specs.Asked.{IsBesidesAfter}
 use Rattle.mkv_run.specs.Ends.{Ends}
-use Rattle.mkv_run.specs.Kept.{HasNewIndex, KeepsRest}
-use Rattle.mkv_run.specs.Outside.{Outside, bytes_read, seen_of, world_of}
+use Rattle.suite.specs.Kept.{HasNewIndex, KeepsRest}
+use Rattle.suite.specs.Outside.{Outside, bytes_read, seen_of, world_of}
 use Rattle.mkv_run.specs.Run.{ReadsWithinIn, verdict_in}
 use Rattle.mkv_run.specs.RunSeen.{HasStatusCause}
 use Rattle.mkv_run.specs.Touched.{LeftOnTheWay, Reach, edited, files, indexed, nothing, reach_in, recovered}

@@ -31,7 +31,7 @@ use Rattle.mkv_propedit.specs.Recover.{DiskWorld}
 use Rattle.remerge_laws.specs.MergedAgain.{MergesAgain, OutputsAreWrittenAgain, WhereMergedAgain}
 use Rattle.remerge_laws.specs.Plain.{plain_merge}
 use Rattle.mkv_run.specs.Ends.{Ends}
-use Rattle.mkv_run.specs.Run.{MergesReadable, MergesReadableIn, verdict_after, verdict_in}
+use Rattle.mkv_run.specs.Run.{LeavesReadable, MergesReadable, MergesReadableIn, verdict_after, verdict_in}
 use Rattle.mkv_run.specs.RunSeen.{RunSeen}
 
 -- The words of a command line are valid UTF-8.
@@ -52,7 +52,7 @@ has-merged old new disk words s other utf8 readable reached = λ world told hold
         merges world told
 
 -- A successful run has written the merge.
-pub merges-well : (old new : RunSeen) (disk : Option DiskWorld) (words : List (String Global)) (s : Status) → MergesReadableIn old.seen.names (texts words) (Ok s) → IfVisible (verdict_in old.seen.names disk (texts words)) (Ends old new s) → MergesWell old.seen.names (texts words) new.seen.names s
+pub merges-well : (old new : RunSeen) (disk : Option DiskWorld) (words : List (String Global)) (s : Status) → LeavesReadable old.seen.names (texts words) s → IfVisible (verdict_in old.seen.names disk (texts words)) (Ends old new s) → MergesWell old.seen.names (texts words) new.seen.names s
 merges-well old new disk words status.Done readable told = has-merged old.seen new.seen disk (texts words) status.Done (λ same. cc) (texts-utf8 words) readable told
 merges-well old new disk words status.Warned readable told = has-merged old.seen new.seen disk (texts words) status.Warned (λ same. cc) (texts-utf8 words) readable told
 merges-well old new disk words status.Refused readable told = tt

@@ -8,11 +8,15 @@ use Rattle.mkv_disk.specs.Moments.{LeavesOnly}
 use Rattle.mkv_disk.specs.declared.disk.Disk.{Ghosts as DiskGhosts}
 use Rattle.mkv_lines.specs.declared.status.Status.{Status}
 use Rattle.mkv_lines.specs.declared.status.Status.TheVariants as status
+use Rattle.mkv_propedit.specs.Left.{IsEdit, writes_of_edits}
 use Rattle.mkv_propedit.specs.Recovery.{IsUnopened}
-use Rattle.mkv_run.specs.Kept.{EditKeepsRest, IndexKeepsRest}
+use Rattle.mkv_propedit.specs.Reindex.{writes_of_index}
 use Rattle.requests.specs.declared.edit.Edit.{Edit}
-use Rattle.mkv_run.specs.Outside.{Outside, outside}
-use Rattle.mkv_run.specs.Runs.{CrashLeavesOnly, DiskStays, FilesStay, IndexesAll, KeepsRestOf, Leaves, OpensOrLeaves}
+use Rattle.edit_laws.specs.IndexLaws.{NewIndexIsWhole}
+use Rattle.edit_laws.specs.Laws.{EditsChangeNothingElse}
+use Rattle.suite.specs.Outside.{Outside, outside}
+use Rattle.suite.proofs.KeptLemmas.{edit-keeps, index-keeps}
+use Rattle.suite.specs.Runs.{CrashLeavesOnly, DiskStays, FilesStay, IndexesAll, KeepsRestOf, Leaves, OpensOrLeaves}
 use Rattle.mkv_run.specs.Touched.{Reach, Touches, edited, files, indexed, nothing, recovered}
 
 module _ {F D R : Type 0} (r : ReadsGhosts F) (f : FilesGhosts F) (s : ReadsGhosts D) (d : DiskGhosts D) (p : ReportGhosts R)
@@ -58,27 +62,31 @@ module _ {F D R : Type 0} (r : ReadsGhosts F) (f : FilesGhosts F) (s : ReadsGhos
   opens name e (inl is) = inl is
   opens name e (inr is) = unopened name e is
 
-  rest-kept : (edits : List Edit) (e : Status) → EditKeepsRest d edits old new e → KeepsRestOf edits before after e
-  rest-kept edits status.Done kept = kept
-  rest-kept edits status.Warned kept = tt
-  rest-kept edits status.Refused kept = tt
-  rest-kept edits status.NoMemory kept = tt
-  rest-kept edits status.Outside kept = tt
+  -- A successful edit keeps the rest of its file.
+  rest-kept : EditsChangeNothingElse → (edits : List Edit) (e : Status) → IsEdit d (writes_of_edits edits) old new e → KeepsRestOf edits before after e
+  rest-kept law edits status.Done is = edit-keeps d edits old new law is
+  rest-kept law edits status.Warned is = tt
+  rest-kept law edits status.Refused is = tt
+  rest-kept law edits status.NoMemory is = tt
+  rest-kept law edits status.Outside is = tt
 
-  all-indexed : (e : Status) → IndexKeepsRest d old new e → IndexesAll before after e
-  all-indexed status.Done kept = kept
-  all-indexed status.Warned kept = tt
-  all-indexed status.Refused kept = tt
-  all-indexed status.NoMemory kept = tt
-  all-indexed status.Outside kept = tt
+  -- So does a new index.
+  all-indexed : NewIndexIsWhole → (e : Status) → IsEdit d writes_of_index old new e → IndexesAll before after e
+  all-indexed law status.Done is = index-keeps d old new law is
+  all-indexed law status.Warned is = tt
+  all-indexed law status.Refused is = tt
+  all-indexed law status.NoMemory is = tt
+  all-indexed law status.Outside is = tt
 
-  -- Objects that a command doesn't work on look the same.
-  pub leaves-seen : (reach : Reach) (e : Status) → Touches s d reach was now old new e → Leaves reach before after e
-  leaves-seen nothing e touches = (files-stay touches.0, disk-stays touches.1)
-  leaves-seen files e touches = disk-stays touches
-  leaves-seen (recovered file) e touches = (files-stay touches.0, opens file e touches.1.opened, touches.1.leaves.pair)
-  leaves-seen (edited file edits) e touches = (files-stay touches.0, opens file e touches.1.opened, touches.1.leaves.pair, rest-kept edits e touches.2)
-  leaves-seen (indexed file) e touches = (files-stay touches.0, opens file e touches.1.opened, touches.1.leaves.pair, all-indexed e touches.2)
+  -- Objects that a command doesn't work on look the same, and an edit or a new index keeps the rest of its file.
+  pub leaves-seen : EditsChangeNothingElse → NewIndexIsWhole → (reach : Reach) (e : Status) → Touches s d reach was now old new e → Leaves reach before after e
+  leaves-seen edit index nothing e touches = (files-stay touches.0, disk-stays touches.1)
+  leaves-seen edit index files e touches = disk-stays touches
+  leaves-seen edit index (recovered file) e touches = (files-stay touches.0, opens file e touches.1.opened, touches.1.leaves.pair)
+  leaves-seen edit index (edited file edits) e touches =
+      (files-stay touches.0, opens file e touches.1.opened, touches.1.leaves.pair, rest-kept edit edits e touches.1.leaves)
+  leaves-seen edit index (indexed file) e touches =
+      (files-stay touches.0, opens file e touches.1.opened, touches.1.leaves.pair, all-indexed index e touches.1.leaves)
 
   -- A crash leaves only what the command allows.
   pub crash-seen : (P : List ℕ → List ℕ → Type 0) → LeavesOnly d.moment d.left_since old new P → CrashLeavesOnly before after P

@@ -1,6 +1,7 @@
 -- Edits and a new index keep the rest of a file.
 use Rattle.std.proofs.Common.{◌≡◌, ℕ, List, Result, Ok, Err, refl, sym, subst, ap}
 use Rattle.mkv_io.specs.declared.damage.Damage.{Damage}
+use Rattle.mkv_disk.specs.Calls.{OfReads}
 use Rattle.mkv_disk.specs.Pair.{Pair}
 use Rattle.mkv_disk.specs.declared.disk.Disk.{Ghosts}
 use Rattle.sidecar_edit.specs.Writes.{Write, applied}
@@ -16,11 +17,10 @@ use Rattle.reindex.specs.Index.{indexable}
 use Rattle.reindex.specs.Plan.{Index, index_of, index_with}
 use Rattle.reindex.specs.Points.{index_points}
 use Rattle.edit_laws.specs.IndexLaws.{HoldsIndex, NewIndexIsWhole}
-use Rattle.mkv_lines.specs.declared.status.Status.{Status}
-use Rattle.mkv_lines.specs.declared.status.Status.TheVariants as status
+use Rattle.mkv_lines.specs.declared.status.Status.TheVariants.{Done}
 use Rattle.mkv_propedit.specs.Left.{IsEdit, writes_of_edits}
 use Rattle.mkv_propedit.specs.Reindex.{writes_of_index}
-use Rattle.mkv_run.specs.Kept.{EditKeepsRest, IndexKeepsRest, HasNewIndex, KeepsRest}
+use Rattle.suite.specs.Kept.{HasNewIndex, KeepsRest}
 
 -- A content that was edited could be edited, and so could its trees.
 record IsChanged (edits : List Edit) (bytes : List ℕ) : Type 0 where
@@ -53,17 +53,13 @@ rest-kept law edits bytes new made =
       holds = λ octets short outside. law bytes new edits c.file c.trees octets short outside c.editable c.changed made;
     }
 
--- `propedit` keeps the rest of its file.
-pub edit-keeps : {D : Type 0} (d : Ghosts D) (edits : List Edit) (old new : D) (s : Status) → EditsChangeNothingElse → IsEdit d (writes_of_edits edits) old new s → EditKeepsRest d edits old new s
-edit-keeps d edits old new status.Done law is = λ told.
+-- A successful `propedit` keeps the rest of its file.
+pub edit-keeps : {D : Type 0} (d : Ghosts D) (edits : List Edit) (old new : D) → EditsChangeNothingElse → IsEdit d (writes_of_edits edits) old new Done → OfReads d old (λ M S. KeepsRest edits M (d.pair new).media.reads)
+edit-keeps d edits old new law is = λ told.
     let made = is.pair told in
     let bytes = (d.pair old).media.reads in
     let whole = ap (λ (r : Result (List Write) Refusal). and_then r (λ ws. Ok (applied bytes ws))) made.made in
     subst (KeepsRest edits bytes) (sym (ap (λ (p : Pair). p.media.reads) made.pair)) (rest-kept law edits bytes (applied bytes made.writes) whole)
-edit-keeps d edits old new status.Warned law is = tt
-edit-keeps d edits old new status.Refused law is = tt
-edit-keeps d edits old new status.NoMemory law is = tt
-edit-keeps d edits old new status.Outside law is = tt
 
 -- ---- a new index
 
@@ -85,13 +81,9 @@ indexed-kept law bytes ws (Ok x) found made =
     }
 indexed-kept law bytes ws (Err why) found made = absurd (cc)
 
--- `reindex` keeps the rest of its file.
-pub index-keeps : {D : Type 0} (d : Ghosts D) (old new : D) (s : Status) → NewIndexIsWhole → IsEdit d writes_of_index old new s → IndexKeepsRest d old new s
-index-keeps d old new status.Done law is = λ told.
+-- A successful `reindex` keeps the rest of its file, and its index is complete.
+pub index-keeps : {D : Type 0} (d : Ghosts D) (old new : D) → NewIndexIsWhole → IsEdit d writes_of_index old new Done → OfReads d old (λ M S. HasNewIndex M (d.pair new).media.reads)
+index-keeps d old new law is = λ told.
     let made = is.pair told in
     let bytes = (d.pair old).media.reads in
     subst (HasNewIndex bytes) (sym (ap (λ (p : Pair). p.media.reads) made.pair)) (indexed-kept law bytes made.writes (index_of bytes) refl made.made)
-index-keeps d old new status.Warned law is = tt
-index-keeps d old new status.Refused law is = tt
-index-keeps d old new status.NoMemory law is = tt
-index-keeps d old new status.Outside law is = tt

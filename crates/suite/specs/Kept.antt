@@ -1,10 +1,8 @@
 -- The content of a file that an edit or a new index keeps: RFC 9559, section 5.1 (Segment Element).
-use Rattle.std.specs.Prelude.{◌≡◌, ◌≤◌, ⊤, ℕ, List, All, length, Ok}
+use Rattle.std.specs.Prelude.{◌≡◌, ◌≤◌, ℕ, List, All, length, Ok}
 use Rattle.ebml_numbers.specs.Number.{AreOctets}
 use Rattle.mkv_schema.specs.Outline.{segment_run}
 use Rattle.mkv_io.specs.declared.outside.TheConstants.{LONGEST_FILE}
-use Rattle.mkv_disk.specs.Calls.{OfReads}
-use Rattle.mkv_disk.specs.declared.disk.Disk.{Ghosts}
 use Rattle.requests.specs.declared.edit.Edit.{Edit}
 use Rattle.edit_changes.specs.declared.trees.Trees.{Trees}
 use Rattle.edit_changes.specs.Change.{edited_trees}
@@ -13,8 +11,6 @@ use Rattle.edit_laws.specs.Laws.{HoldsEdited, IsOutside}
 use Rattle.reindex.specs.Index.{indexable}
 use Rattle.reindex.specs.Plan.{Index, index_of}
 use Rattle.edit_laws.specs.IndexLaws.{HoldsIndex}
-use Rattle.mkv_lines.specs.declared.status.Status.{Status}
-use Rattle.mkv_lines.specs.declared.status.Status.TheVariants.{Done}
 
 -- The content `old` could be edited, and `new` holds the same, except for the changes of `edits`. The second needs that `old` consists of bytes,
 -- at most 2^48 of them, and has neither a Timestamp nor a block at level 1.
@@ -25,11 +21,6 @@ pub record KeepsRest (edits : List Edit) (old new : List ℕ) : Type 0 where
   pub changed : edited_trees edits file.trees ≡ Ok trees
   pub holds : AreOctets old → length old ≤ LONGEST_FILE → All IsOutside (segment_run old file.outline.segment).list → HoldsEdited old new file trees
 
--- After successful `edits`, the film on the disk keeps its rest.
-abbrev pub EditKeepsRest : {D : Type 0} → Ghosts D → List Edit → D → D → Status → Type 0
-EditKeepsRest d edits old new Done = OfReads d old (λ M S. KeepsRest edits M (d.pair new).media.reads)
-EditKeepsRest d edits old new s = ⊤
-
 -- The content `old` could be indexed, and `new` holds the same, with the points of the new index. The second needs that `old` consists of bytes,
 -- at most 2^48 of them, and has neither a Timestamp nor a block at level 1.
 pub record HasNewIndex (old new : List ℕ) : Type 0 where
@@ -38,8 +29,3 @@ pub record HasNewIndex (old new : List ℕ) : Type 0 where
   pub indexable : indexable old ≡ Ok file
   pub made : index_of old ≡ Ok index
   pub holds : AreOctets old → length old ≤ LONGEST_FILE → All IsOutside (segment_run old file.outline.segment).list → HoldsIndex old new file index.points
-
--- After a successful `reindex`, the film on the disk keeps its rest and has the new index.
-abbrev pub IndexKeepsRest : {D : Type 0} → Ghosts D → D → D → Status → Type 0
-IndexKeepsRest d old new Done = OfReads d old (λ M S. HasNewIndex M (d.pair new).media.reads)
-IndexKeepsRest d old new s = ⊤

@@ -1,19 +1,15 @@
 use Rattle.std.proofs.Common.{inl, inr, ap, subst}
 use Rattle.mkv_io.specs.Faults.{HasIncreased}
-use Rattle.mkv_io.specs.Told.{IfVisible}
 use Rattle.mkv_lines.specs.declared.status.Status.TheVariants.{NoMemory, Outside}
 use Rattle.mkv_lines.specs.Faults.{Counts}
 use Rattle.mkv_lines.specs.Line.{disk_fault_line, files_fault_line}
 use Rattle.mkv_lines.specs.Said.{SaysPart}
-use Rattle.mkv_propedit.specs.Recover.{disk_world}
 use Rattle.word_values.specs.Place.{texts}
 use Rattle.mkv_run.specs.ByWords.{reach_for}
-use Rattle.mkv_run.specs.Ends.{Ends, EndsOutside}
-use Rattle.mkv_run.specs.Run.{verdict_in}
-use Rattle.mkv_run.specs.RunSeen.{RunSeen, run_seen}
-use Rattle.mkv_run.proofs.MergedLemmas.{merges-again, merges-well}
-use Rattle.mkv_run.proofs.RunLemmas.{ends-done, fault-alone, fault-told, stops-saying, touches-moment}
-use Rattle.mkv_run.proofs.running.run_to_end.Goals as goal
+use Rattle.mkv_run.specs.Ends.{EndsOutside}
+use Rattle.mkv_run.specs.RunSeen.{run_seen}
+use Rattle.mkv_run.proofs.RunLemmas.{fault-alone, fault-told, leaves-readable, stops-saying, touches-moment}
+use Rattle.mkv_run.proofs.running.run_command_line.Goals as goal
 
 -- ---- lines and outputs
 
@@ -65,17 +61,9 @@ returns-in-Err-Report-clause-verdict g c = λ verdict told.
     (λ all part. inr (inr (cause.0, part)))
     stopped
 
--- A successful command has written the merge that was asked for, and the output of a merge again with the same bytes.
-pub returns-in-Ok-clause-merged : goal.returns-in-Ok-clause-merged
-returns-in-Ok-clause-merged g c =
-    let before : RunSeen = run_seen g.F.Reads g.F.Files g.D.Reads g.D.Disk g.R.Report c.args.files.now c.args.disk.now c.args.report.now in
-    let now : RunSeen = run_seen g.F.Reads g.F.Files g.D.Reads g.D.Disk g.R.Report c.carry_out.new.files c.carry_out.new.disk c.carry_out.new.report in
-    let words = c.args.words.now.items in
-    let disk = disk_world g.D.Disk c.args.disk.now in
-    let status = c.in-Ok.status in
-    let ended : IfVisible (verdict_in before.seen.names disk (texts words)) (Ends before now status) = λ verdict told. ends-done before now status verdict c.in-Ok.ensures.ended.ordinary (c.in-Ok.ensures.verdict verdict told) in
-    let well = merges-well before now disk words status c.in-Ok.ensures.readable ended in
-    record { well = well; again = merges-again c.outputs_are_written_again.ensures before now disk words status well ended }
+-- A command that ended by itself leaves outputs that can be read again.
+pub returns-in-Ok-clause-readable : goal.returns-in-Ok-clause-readable
+returns-in-Ok-clause-readable g c = leaves-readable (g.F.Files.names c.args.files.now) (texts c.args.words.now.items) c.in-Ok.status c.in-Ok.ensures.readable
 
 -- ---- crashes
 

@@ -6,10 +6,10 @@ ghost use Rattle.mkv_disk.specs.Calls.{AtRest};
 ghost use Rattle.mkv_lines.specs.Code.{code_of};
 ghost use Rattle.word_values.specs.Place.{texts};
 ghost use Rattle.mkv_run.specs.ByWords.{reach_for};
-ghost use Rattle.mkv_run.specs.Outside.{outside};
-ghost use Rattle.mkv_run.specs.Runs.{Exits, IsIdle};
+ghost use Rattle.suite.specs.Outside.{outside};
+ghost use Rattle.suite.specs.Runs.{Exits, IsIdle};
 ghost use Rattle.mkv_run.specs.Touched.{IsInPlace};
-ghost use Rattle.mkv_run.specs.Exit.{ExitsMerged};
+ghost use Rattle.suite.specs.Exit.{ExitsMerged};
 
 use crate::running::run;
 use mkv_disk::Disk;

@@ -1,0 +1,4 @@
+pub mod Exit
+pub mod Kept
+pub mod Outside
+pub mod Runs
