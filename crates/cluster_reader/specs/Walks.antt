@@ -179,6 +179,6 @@ broken_off c w = record w { place = behind_damage w.place c; stopped = not c.clo
 abbrev pub ended : Walk → Walk
 ended w = record w { place = at_end w.place; stopped = true }
 
--- A block is skipped exactly if the filter doesn't want it and the bytes in the walk's window are enough to know its head and frame count.
+-- A block is skipped exactly if the filter doesn't want it and its head and frame count are known from the walk's window.
 abbrev pub PassesWhereSettled : BlockFilter → ℕ → Header → Walk → Walk → Bool → Type 0
 PassesWhereSettled takes ticks h old new passed = IsPassedWhere (settled_in takes old.scale ticks h new.window) new.block passed

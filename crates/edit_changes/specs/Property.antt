@@ -98,12 +98,12 @@ is_short passes octets = is_between 1 63 (length octets) && list_all passes octe
 abbrev pub where_text : Bool → List ℕ → Option (List ℕ)
 where_text test octets = if test then Some octets else None
 
--- a number from `least` to `most` in its fewest bytes
+-- the fewest bytes of a number, if there is one from `least` to `most`
 abbrev pub where_number : ℕ → ℕ → Option ℕ → Option (List ℕ)
 where_number least most None = None
 where_number least most (Some n) = if is_between least most n then Some (uint_octets n) else None
 
--- a decimal number from `least` to `most`, in its fewest bytes
+-- the fewest bytes of the decimal number `octets`, if it is from `least` to `most`
 abbrev pub number_in : ℕ → ℕ → List ℕ → Option (List ℕ)
 number_in least most octets = where_number least most (number octets)
 

@@ -55,6 +55,6 @@ is_text_fault Memory = false
 abbrev pub octets_within : ℕ → ℕ → ℕ
 octets_within most size = if nat_lt most size then 0 else size
 
--- the failure for a file that is too large
+-- the end of reading a text file that is too large
 abbrev pub too_large : TextFileEnd
 too_large = Refused TooLarge

@@ -14,11 +14,11 @@ use Rattle.lacing.specs.Lace.{bias, FindsLace}
 
 -- ---- one size at the start of the bytes, and the number of bytes that encode it
 
--- the sum of bytes 255 and the byte after them
+-- the size at the start of the bytes in Xiph lacing: the sum of bytes 255 and the byte after them
 abbrev pub xiph_size : List ℕ → Option (ℕ × ℕ)
 xiph_size octets = option_map (λ run. (255 * run + slice_index octets run, run + 1)) (position (λ octet. not (octet == 255)) octets)
 
--- a size that is known, with its number of bytes
+-- a size of an EBML number of `len` bytes, if it is known
 abbrev pub known_size : Size → ℕ → Option (ℕ × ℕ)
 known_size (Known size) len = Some (size, len)
 known_size Unknown len = None
@@ -44,14 +44,14 @@ abbrev pub ebml_size : Option ℕ → List ℕ → Option (ℕ × ℕ)
 ebml_size None octets = first_size (size_at octets)
 ebml_size (Some before) octets = next_size before (size_at octets)
 
--- a size in the encoding of its kind
+-- the size at the start of the bytes in the encoding of its kind, after the size `before`, if any
 abbrev pub any_size : Lace → Option ℕ → List ℕ → Option (ℕ × ℕ)
 any_size lace.None before octets = None
 any_size lace.Xiph before octets = xiph_size octets
 any_size lace.Fixed before octets = None
 any_size lace.Ebml before octets = ebml_size before octets
 
--- a size whose frame fits in `total` bytes with it
+-- a size that was read, if its frame fits in `total` bytes together with the bytes of the size
 abbrev pub fitting : ℕ → Option (ℕ × ℕ) → Option (ℕ × ℕ)
 fitting total None = None
 fitting total (Some (size, len)) = if nat_le (size + len) total then Some (size, len) else None

@@ -8,13 +8,13 @@ use Rattle.merge_inputs.specs.declared.input.InputEnd.{InputEnd}
 use Rattle.merge_inputs.specs.declared.input.InputEnd.TheVariants as input_end
 use Rattle.merge_inputs.specs.declared.input.InputRefusal.TheVariants.{Damaged, Text}
 
--- the failure for a failed read of the outline or records
+-- the end of reading an outline or records, as the end of reading an input
 abbrev pub end_of : OutlineEnd → InputEnd
 end_of (outline_end.Refused d) = input_end.Refused (Damaged d)
 end_of outline_end.ReadFault = input_end.ReadFault
 end_of outline_end.Memory = input_end.Memory
 
--- the failure for a failed read of a text
+-- the end of reading a text file, as the end of reading an input
 abbrev pub text_end_of : TextFileEnd → InputEnd
 text_end_of (text_end.Refused why) = input_end.Refused (Text why)
 text_end_of text_end.ReadFault = input_end.ReadFault

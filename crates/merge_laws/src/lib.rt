@@ -25,7 +25,8 @@ pub fn whole_merges_are_one()
     ensures { WholeMergesAreOne }
 {}
 
-/// The bytes of each output hold it.
+/// Law: the bytes of each output of a merge, read by the definitions, have the tracks, blocks and records that the
+/// merge gives it. They must be at most 2^48.
 pub fn layouts_hold_outputs()
     ensures { LayoutsHoldOutputs }
 {}

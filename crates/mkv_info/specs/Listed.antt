@@ -38,12 +38,12 @@ status_with (Some d) = Warned
 abbrev pub listed : List ℕ → Outlined → List Track → Verdict
 listed name o tracks = only_said (status_with o.damage) (element_lines o ++ (track_lines 0 tracks ++ warnings name o.damage))
 
--- a file whose tracks are refused isn't listed
+-- the result of `info` for a file with the outline `o`, given its tracks, or the refusal because of them
 abbrev pub with_tracks : List ℕ → Outlined → Result (List Track) Damage → Verdict
 with_tracks name o (Ok tracks) = listed name o tracks
 with_tracks name o (Err d) = refused (refusal_line name d)
 
--- a file whose outline or whose tracks are refused isn't listed
+-- the result of `info` for a file with the content `bytes`, given its outline, or the refusal because of its outline or tracks
 abbrev pub listed_or_refused : List ℕ → List ℕ → Result Outlined Damage → Verdict
 listed_or_refused name bytes (Ok o) = with_tracks name o (file_tracks bytes o.segment)
 listed_or_refused name bytes (Err d) = refused (refusal_line name d)

@@ -44,7 +44,7 @@ FoundBlocksAreOfTheirKind =
     (r : Rules) (bytes : List ℕ) (timestamp : Option ℕ) (h : Header) (b : Block) → AreOctets bytes → stated_end h ≤ length bytes
     → found_at r bytes timestamp h ≡ Ok b ∷ [] → IsOfItsKind b
 
--- Each block of a file of bytes is as a reader with limits finds it.
+-- Each block of a file is a block as a reader with limits finds it, if the file's content consists of bytes.
 abbrev pub FileBlocksAreRead : Type 0
 FileBlocksAreRead =
     (scale : ℕ) (bytes : List ℕ) (segment : Header) → AreOctets bytes → All IsReadBlock (blocks_of (events_of (with_limits scale) bytes segment))

@@ -24,7 +24,7 @@ pub record IsOfItsKind (b : Block) : Type 0 where
   pub simple : b.group ≡ false → IsReadSimple b
   pub group : b.group ≡ true → IsReadGroup b
 
--- `b` is a block as a reader with limits finds it.
+-- `b` is a block as a reader with limits finds it: within these limits, and valid for its kind, SimpleBlock or BlockGroup.
 pub record IsReadBlock (b : Block) : Type 0 where
   pub small : IsSmall b
   pub kind : IsOfItsKind b

@@ -8,7 +8,7 @@ pub fn limits_change_nothing()
     ensures { LimitsChangeNothing }
 {}
 
-/// A block that is read with limits is small.
+/// Law: each block of a file that is read with limits is within the limits on lengths and counts.
 pub fn blocks_are_small()
     ensures { BlocksAreSmall }
 {}

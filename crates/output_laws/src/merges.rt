@@ -28,7 +28,8 @@ pub fn found_blocks_are_of_their_kind()
     ensures { FoundBlocksAreOfTheirKind }
 {}
 
-/// Each block of a file of bytes is as a reader with limits finds it.
+/// Law: each block that a reader with limits finds in a file is within these limits, and valid for its kind
+/// (SimpleBlock or BlockGroup).
 pub fn file_blocks_are_read()
     ensures { FileBlocksAreRead }
 {}

@@ -55,7 +55,7 @@ pub record IsRepeated (out name : List ℕ) (d : Document) (r : FileRecords) : T
   pub outputs : map laid_out (outputs_of (plain_merge out name) (source_again name d r ∷ [])) ≡ record { name = out; content = layout d } ∷ []
   pub undamaged : has_damage (source_again name d r ∷ []) ≡ false
 
--- The output of such a merge is repeated if it keeps a reader's limits.
+-- The output of a merge with default options and plain sources is repeated, if it keeps a reader's limits.
 abbrev pub OutputsAreRepeated : Type 0
 OutputsAreRepeated =
     (words : MergeWords) (sources : List Source) (out name : List ℕ) → IsDefault words → IsSoundMerge words → AreTexts words → AreSources words sources

@@ -52,12 +52,12 @@ pub fn lanes_are_merged_again()
     lanes_are_read_again();
 }
 
-/// All tracks of an output are selected, and aren't changed.
+/// If an output is merged by itself, all its tracks are selected, and their options change nothing.
 pub fn tracks_are_taken_again()
     ensures { TracksAreTakenAgain }
 {}
 
-/// The entries of an output's tracks are written as they were.
+/// If an output is merged by itself, the TrackEntries of its tracks are written as they were.
 pub fn entries_are_written_again()
     ensures { EntriesAreWrittenAgain }
 {
@@ -76,7 +76,8 @@ pub fn info_is_written_again()
     ensures { InfoIsWrittenAgain }
 {}
 
-/// The sources of a merge with default options are plain.
+/// The sources of a merge with default options are plain, if the contents of files are bytes. That is, only the types
+/// of their tracks decide on cue points, and the title has no zero byte.
 pub fn sources_are_plain()
     ensures { SourcesArePlain }
 {

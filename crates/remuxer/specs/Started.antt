@@ -20,7 +20,7 @@ pub record IsStarted (scale : ℕ) (p : PlannedLane) (l : LaneSeen) : Type 0 whe
   pub starts : (f : LiveFiles) → Starts f scale p.spec.links l
   pub begins : Begins scale p.spec.links l
 
--- One more output track was started.
+-- `new` is `old` with the planned output track `p` started, at `scale` nanoseconds per tick.
 pub record AddsLane (scale : ℕ) (p : PlannedLane) (old new : StartedLanes) : Type 0 where
   pub lane : LaneSeen
   pub started : IsStarted scale p lane

@@ -39,7 +39,7 @@ abbrev pub timed_in : Option FirstLine → Option Timed
 timed_in None = None
 timed_in (Some f) = Some (timed_of f)
 
--- `xs`, which was read, and the rest
+-- the list `xs`, which was read already, and after it the rest, or the number of the first bad line
 abbrev pub in_front_of : {X : Type 0} → List X → Result (List X) ℕ → Result (List X) ℕ
 in_front_of xs (Ok ys) = Ok (xs ++ ys)
 in_front_of xs (Err n) = Err n
