@@ -8,6 +8,7 @@ use Rattle.mkv_schema.specs.declared.ids.TheConstants.{TITLE, SEGMENT_FILENAME, 
 use Rattle.requests.specs.declared.edit.Selector.{Selector}
 use Rattle.requests.specs.declared.edit.Selector.TheVariants.{Info, Nth, Typed, Uid, Number}
 use Rattle.requests.specs.Decimal.{number}
+use Rattle.requests.specs.Language.{is_language_tag}
 use Rattle.edit_changes.specs.declared.property.Property.{Property}
 use Rattle.edit_changes.specs.declared.property.ValueKind.{ValueKind}
 use Rattle.edit_changes.specs.declared.property.ValueKind.TheVariants.{Words, Language, LanguageTag, Codec, Duration, Flag}
@@ -78,21 +79,13 @@ is_between least most n = nat_le least n && nat_le n most
 abbrev pub is_lower : ℕ → Bool
 is_lower c = is_between 0x61 0x7A c
 
--- The byte is a letter of ASCII.
-abbrev pub is_letter : ℕ → Bool
-is_letter c = is_lower c || is_between 0x41 0x5A c
-
--- The byte may be in a language tag of RFC 5646: an ASCII letter or digit, or a hyphen.
-abbrev pub is_in_tag : ℕ → Bool
-is_in_tag c = is_letter c || is_between 0x30 0x39 c || c == 0x2D
-
 -- The byte is a printable character of ASCII, or a space.
 abbrev pub is_printable : ℕ → Bool
 is_printable c = is_between 0x20 0x7E c
 
--- The value has 1 to 63 bytes, which all pass the test.
-abbrev pub is_short : (ℕ → Bool) → List ℕ → Bool
-is_short passes octets = is_between 1 63 (length octets) && list_all passes octets
+-- The value has 1 to 63 printable ASCII characters.
+abbrev pub is_codec : List ℕ → Bool
+is_codec octets = is_between 1 63 (length octets) && list_all is_printable octets
 
 -- the bytes of a value, if it passes a test
 abbrev pub where_text : Bool → List ℕ → Option (List ℕ)
@@ -123,7 +116,7 @@ is_language value = length value == 3 && list_all is_lower value
 abbrev pub value_of : ValueKind → List ℕ → Option (List ℕ)
 value_of Words value = where_text (is_words value) value
 value_of Language value = where_text (is_language value) value
-value_of LanguageTag value = where_text (is_short is_in_tag value) value
-value_of Codec value = where_text (is_short is_printable value) value
+value_of LanguageTag value = where_text (is_language_tag value) value
+value_of Codec value = where_text (is_codec value) value
 value_of Duration value = number_in 1 (2 ^ 48 - 1) value
 value_of Flag value = number_in 0 1 value

@@ -12,7 +12,7 @@ ghost use Rattle.edit_changes.specs.Properties.{IsPropertyOf};
 use crate::property::{Property, ValueKind};
 use ebml_tree::{Tree, text_leaf, uint_leaf};
 use mkv_io::Text;
-use requests::number;
+use requests::{is_language_tag, number};
 use std::alloc::{AllocError, Global};
 
 /// Checks whether `n` is from `least` to `most`.
@@ -27,13 +27,6 @@ fn is_lower(octet: u8) -> bool
     ensures { result ≡ spec.is_lower octet }
 {
     octet.is_ascii_lowercase()
-}
-
-/// Checks whether a byte may be in a language tag: a letter, a digit or a hyphen.
-fn is_in_tag(octet: u8) -> bool
-    ensures { result ≡ spec.is_in_tag octet }
-{
-    octet.is_ascii_alphanumeric() || octet == b'-'
 }
 
 /// Checks whether a byte is printable ASCII or a space.
@@ -57,13 +50,6 @@ fn are_lower(octets: &[u8]) -> bool
     octets.iter().all(|&octet| is_lower(octet))
 }
 
-/// Checks whether all bytes may be in a language tag.
-fn are_in_tag(octets: &[u8]) -> bool
-    ensures { result ≡ list_all spec.is_in_tag octets.now }
-{
-    octets.iter().all(|&octet| is_in_tag(octet))
-}
-
 /// Checks whether all bytes are printable ASCII or spaces.
 fn are_printable(octets: &[u8]) -> bool
     ensures { result ≡ list_all spec.is_printable octets.now }
@@ -85,16 +71,9 @@ fn is_language(octets: &[u8]) -> bool
     octets.len() == 3 && are_lower(octets)
 }
 
-/// Checks whether a value is a language tag of 1 to 63 letters, digits and hyphens.
-fn is_tag(octets: &[u8]) -> bool
-    ensures { result ≡ spec.is_short spec.is_in_tag octets.now }
-{
-    is_between(1, 63, octets.len() as u64) && are_in_tag(octets)
-}
-
 /// Checks whether a value may be a CodecID: 1 to 63 printable bytes.
 fn is_codec(octets: &[u8]) -> bool
-    ensures { result ≡ spec.is_short spec.is_printable octets.now }
+    ensures { result ≡ spec.is_codec octets.now }
 {
     is_between(1, 63, octets.len() as u64) && are_printable(octets)
 }
@@ -141,7 +120,7 @@ pub fn leaf_of(alloc: Global, property: Property, value: &Text) -> Result<Option
     match property.kind {
         ValueKind::Words => text_where(alloc, id, is_words(text), text),
         ValueKind::Language => text_where(alloc, id, is_language(octets), text),
-        ValueKind::LanguageTag => text_where(alloc, id, is_tag(octets), text),
+        ValueKind::LanguageTag => text_where(alloc, id, is_language_tag(octets), text),
         ValueKind::Codec => text_where(alloc, id, is_codec(octets), text),
         ValueKind::Duration => number_where(alloc, id, 1, (1 << 48) - 1, octets),
         ValueKind::Flag => number_where(alloc, id, 0, 1, octets),

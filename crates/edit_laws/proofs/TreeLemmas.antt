@@ -1,5 +1,5 @@
 -- Edited trees are valid in their places, and not too deep.
-use Rattle.std.proofs.Common.{◌≡◌, ◌<◌, ◌≤◌, ℕ, zero, suc, ◌+◌, ◌-◌, ◌==◌, ◌^◌, not, Bool, true, false, ◌&&◌, if◌then◌else◌, List, [], ◌∷◌, ◌++◌, length, Option, Some, None, IfSome, Result, Ok, Err, slice_get, slice_set, slice_index, slice_index_or, refl, sym, ◌∙◌, ap, subst, arith}
+use Rattle.std.proofs.Common.{◌≡◌, ◌<◌, ◌≤◌, ℕ, zero, suc, ◌+◌, ◌-◌, ◌==◌, ◌^◌, nat_le, not, Bool, true, false, ◌&&◌, if◌then◌else◌, List, [], ◌∷◌, ◌++◌, length, Option, Some, None, IfSome, Result, Ok, Err, slice_get, slice_set, slice_index, slice_index_or, refl, sym, ◌∙◌, ap, subst, arith}
 use Rattle.std.specs.List.{All, list_all}
 use Rattle.std.specs.Str.{is_utf8, IsUtf8, IsAscii}
 use Rattle.std.proofs.lemmas.Str.{IsUtf8-from_is_utf8, IsUtf8-from_ascii}
@@ -27,7 +27,8 @@ use Rattle.edit_changes.specs.declared.property.ValueKind.TheVariants.{Words, La
 use Rattle.edit_changes.specs.declared.refusal.EditRefusal.{EditRefusal}
 use Rattle.edit_changes.specs.declared.refusal.EditRefusal.TheVariants as why
 use Rattle.edit_changes.specs.declared.trees.Trees.{Trees}
-use Rattle.edit_changes.specs.Property.{is_between, is_info, is_in_tag, is_language, is_lower, is_not_zero, is_printable, is_short, is_words, property_of, value_of, where_text, where_number}
+use Rattle.requests.specs.Language.{is_in_tag, is_language_tag}
+use Rattle.edit_changes.specs.Property.{is_between, is_codec, is_info, is_language, is_lower, is_not_zero, is_printable, is_words, property_of, value_of, where_text, where_number}
 use Rattle.edit_changes.specs.Change.{are_of_info, are_of_tracks, added, added_to, changed, edited_from, edited_node, edited_once, has, in_entry, in_info, in_tracks, named, numbered, place_of, set}
 use Rattle.mkv_io.specs.Results.{and_then}
 use Rattle.edit_changes.specs.Properties.{IsOfKind, IsPropertyOf, section_of}
@@ -75,9 +76,9 @@ leaf-stands parent id Words value octets stands is =
 leaf-stands parent id Language value octets stands is =
     text-leaf parent id value octets (is_language value) stands is (λ three. IsUtf8-from_ascii value (list-ascii is_lower value (λ c is. grind (arith, nat_tests)) (and_parts (length value == 3) (list_all is_lower value) three).1))
 leaf-stands parent id LanguageTag value octets stands is =
-    text-leaf parent id value octets (is_short is_in_tag value) stands is (λ few. IsUtf8-from_ascii value (list-ascii is_in_tag value (λ c is. grind (arith, nat_tests)) (and_parts (is_between 1 63 (length value)) (list_all is_in_tag value) few).1))
+    text-leaf parent id value octets (is_language_tag value) stands is (λ tag. IsUtf8-from_ascii value (list-ascii is_in_tag value (λ c is. grind (arith, nat_tests)) (and_parts (nat_le 1 (length value) && nat_le (length value) 63) (list_all is_in_tag value) tag).1))
 leaf-stands parent id Codec value octets stands is =
-    text-leaf parent id value octets (is_short is_printable value) stands is (λ few. IsUtf8-from_ascii value (list-ascii is_printable value (λ c is. grind (arith, nat_tests)) (and_parts (is_between 1 63 (length value)) (list_all is_printable value) few).1))
+    text-leaf parent id value octets (is_codec value) stands is (λ few. IsUtf8-from_ascii value (list-ascii is_printable value (λ c is. grind (arith, nat_tests)) (and_parts (is_between 1 63 (length value)) (list_all is_printable value) few).1))
 leaf-stands parent id Duration value octets stands is = uint-leaf parent id 1 (2 ^ 48 - 1) (number value) octets (omega arith) stands is
 leaf-stands parent id Flag value octets stands is = uint-leaf parent id 0 1 (number value) octets (omega arith) stands is
 

@@ -46,8 +46,10 @@ taken uid type codec later word = record {
   };
   name = None;
   language = None;
+  language_tag = None;
   flag_default = None;
   flag_forced = None;
+  flags = record { enabled = None; hearing_impaired = None; visual_impaired = None; text_descriptions = None; original = None; commentary = None };
   delay = later;
   cues = word;
 }

@@ -8,6 +8,8 @@ use Rattle.file_format.specs.Tracks.{IsTrack}
 use Rattle.track_records.specs.Sound.{IsEntry}
 use Rattle.track_records.specs.Track.{track_of}
 use Rattle.track_records.specs.declared.track.Track.{Track}
+use Rattle.track_records.specs.declared.track_change.FlagChange.{FlagChange}
+use Rattle.requests.specs.declared.merge.FlagWords.{FlagWords}
 use Rattle.requests.specs.declared.merge.FileWords.{FileWords}
 use Rattle.merge_inputs.specs.Select.{is_taken}
 use Rattle.merge_inputs.specs.declared.taken.TakenTrack.{TakenTrack}
@@ -17,6 +19,17 @@ abbrev pub value_for : {T : Type 0} → ℕ → List (ℕ × T) → Option T
 value_for id [] = None
 value_for id (pair ∷ pairs) = if pair.0 == id then Some pair.1 else value_for id pairs
 
+-- the first value of each flag for an ID
+abbrev pub flags_for : ℕ → FlagWords → FlagChange
+flags_for id words = record {
+  enabled = value_for id words.enabled;
+  hearing_impaired = value_for id words.hearing_impaired;
+  visual_impaired = value_for id words.visual_impaired;
+  text_descriptions = value_for id words.text_descriptions;
+  original = value_for id words.original;
+  commentary = value_for id words.commentary;
+}
+
 -- the track `t` with the options for its ID, and a delay of 0 by default
 abbrev pub taken_track : FileWords → ℕ → Track → TakenTrack
 taken_track words id t = record {
@@ -24,8 +37,10 @@ taken_track words id t = record {
   track = t;
   name = value_for id words.names;
   language = value_for id words.languages;
+  language_tag = value_for id words.language_tags;
   flag_default = value_for id words.defaults;
   flag_forced = value_for id words.forced;
+  flags = flags_for id words.flags;
   delay = unwrap_or (value_for id words.syncs) (pos 0);
   cues = value_for id words.cues;
 }

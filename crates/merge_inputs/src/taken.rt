@@ -4,13 +4,13 @@ ghost use Rattle.std.specs.Prelude.{◌≡◌, ℕ, List, IfOk};
 ghost use Rattle.std.specs.List.{All};
 ghost use Rattle.std.specs.Option.{option_copied};
 ghost use Rattle.track_records.specs.Sound.{IsEntry};
-ghost use Rattle.merge_inputs.specs.Taken.{first_unusable, taken_from, taken_track, value_for};
+ghost use Rattle.merge_inputs.specs.Taken.{first_unusable, flags_for, taken_from, taken_track, value_for};
 
 use crate::select::is_taken;
 use mkv_io::{Damage, List, Text};
-use requests::{CueWord, FileWords};
+use requests::{CueWord, FileWords, FlagWords};
 use std::alloc::{AllocError, Global};
-use track_records::{Track, usable};
+use track_records::{FlagChange, Track, usable};
 
 /// Copied track, with its options
 #[derive(Drop)]
@@ -20,8 +20,10 @@ pub struct TakenTrack {
     pub track: Track,
     pub name: Option<Text>,
     pub language: Option<Text>,
+    pub language_tag: Option<Text>,
     pub flag_default: Option<bool>,
     pub flag_forced: Option<bool>,
+    pub flags: FlagChange,
     /// Delay in nanoseconds
     pub delay: i64,
     pub cues: Option<CueWord>,
@@ -59,11 +61,27 @@ fn taken_track(
         track,
         name: text_for(alloc, id, words.names.as_slice())?,
         language: text_for(alloc, id, words.languages.as_slice())?,
+        language_tag: text_for(alloc, id, words.language_tags.as_slice())?,
         flag_default: value_for(id, words.defaults.as_slice()).copied(),
         flag_forced: value_for(id, words.forced.as_slice()).copied(),
+        flags: flags_for(id, &words.flags),
         delay: value_for(id, words.syncs.as_slice()).copied().unwrap_or(0),
         cues: value_for(id, words.cues.as_slice()).copied(),
     })
+}
+
+/// Returns the first value of each flag for an ID.
+fn flags_for(id: u64, words: &FlagWords) -> FlagChange
+    ensures { result ≡ flags_for id words.now }
+{
+    FlagChange {
+        enabled: value_for(id, words.enabled.as_slice()).copied(),
+        hearing_impaired: value_for(id, words.hearing_impaired.as_slice()).copied(),
+        visual_impaired: value_for(id, words.visual_impaired.as_slice()).copied(),
+        text_descriptions: value_for(id, words.text_descriptions.as_slice()).copied(),
+        original: value_for(id, words.original.as_slice()).copied(),
+        commentary: value_for(id, words.commentary.as_slice()).copied(),
+    }
 }
 
 /// Returns the first value for an ID.

@@ -5,7 +5,7 @@ use Rattle.std.specs.Option.{option_map}
 use Rattle.std.specs.Str.{IsUtf8}
 use Rattle.std.proofs.lemmas.List.Elements.{All-nil, All-cons, All-head, All-tail, All-append}
 use Rattle.ebml_numbers.specs.Number.{uint_octets}
-use Rattle.mkv_schema.specs.declared.ids.TheConstants.{TRACK_ENTRY, TRACK_NUMBER, TRACK_UID, TRACK_TYPE, CODEC_ID, DEFAULT_DURATION, NAME, LANGUAGE, LANGUAGE_BCP47, FLAG_DEFAULT, FLAG_FORCED, CONTENT_ENCODINGS}
+use Rattle.mkv_schema.specs.declared.ids.TheConstants.{TRACK_ENTRY, TRACK_NUMBER, TRACK_UID, TRACK_TYPE, CODEC_ID, DEFAULT_DURATION, NAME, LANGUAGE, LANGUAGE_BCP47, FLAG_DEFAULT, FLAG_FORCED, CONTENT_ENCODINGS, FLAG_ENABLED, FLAG_HEARING_IMPAIRED, FLAG_VISUAL_IMPAIRED, FLAG_TEXT_DESCRIPTIONS, FLAG_ORIGINAL, FLAG_COMMENTARY}
 use Rattle.mkv_schema.specs.Schema.{uint_default}
 use Rattle.tree_format.specs.Node.{Node, Nodes, leaf, master, id_of, list_of, children, with_children, IsMaster}
 use Rattle.tree_format.specs.Changes.{without, with_child}
@@ -17,9 +17,10 @@ use Rattle.tree_format.proofs.ValueLemmas.{uint_value-octets}
 use Rattle.file_format.specs.Entry.{number_of}
 use Rattle.file_format.specs.Refusal.{too_long}
 use Rattle.file_format.specs.Tracks.{IsTrack}
+use Rattle.track_records.specs.declared.track_change.FlagChange.{FlagChange}
 use Rattle.track_records.specs.declared.track_change.TrackChange.{TrackChange}
 use Rattle.tree_format.specs.Children.{uint_leaf, set_in, set_each, removed_in, removed_each, given}
-use Rattle.track_records.specs.Entry.{flag_leaf, children_set, ids_removed, written_entry, IsWholeEntry}
+use Rattle.track_records.specs.Entry.{flag_leaf, flags_set, children_set, ids_removed, written_entry, IsWholeEntry}
 use Rattle.record_laws.proofs.EntryLemmas.{entry_list, written-master, part-number, part-encodings, part-others}
 use Rattle.record_laws.proofs.TrackLemmas.{first_in, find-filter}
 use Rattle.ebml_tree.proofs.LeafLemmas.{uint-stands, text-stands}
@@ -38,6 +39,7 @@ pub record CanBeSet (c : TrackChange) : Type 0 where
   pub uid : c.uid < 2 ^ 64
   pub name : IfSome c.name IsUtf8
   pub language : IfSome c.language IsUtf8
+  pub language_tag : IfSome c.language_tag IsUtf8
 
 -- ---- an entry stays valid
 
@@ -82,23 +84,38 @@ flag-made id None stands = All-nil IsMadeLeaf
 flag-made id (Some true) stands = All-cons IsMadeLeaf (uint_leaf id 1) [] (uint-made id 1 (stands 1 (omega arith))) (All-nil IsMadeLeaf)
 flag-made id (Some false) stands = All-cons IsMadeLeaf (uint_leaf id 0) [] (uint-made id 0 (stands 0 (omega arith))) (All-nil IsMadeLeaf)
 
+-- the flags that are set
+flags-made : (f : FlagChange) → All IsMadeLeaf (flags_set f)
+flags-made f =
+    (All-append IsMadeLeaf _ _ (All-append IsMadeLeaf _ _ (All-append IsMadeLeaf _ _ (All-append IsMadeLeaf _ _ (All-append IsMadeLeaf _ _ (flag-made FLAG_ENABLED f.enabled (λ value small. uint-stands TRACK_ENTRY FLAG_ENABLED value row.enabled small))
+    (flag-made FLAG_HEARING_IMPAIRED f.hearing_impaired (λ value small. uint-stands TRACK_ENTRY FLAG_HEARING_IMPAIRED value row.hearing_impaired small)))
+    (flag-made FLAG_VISUAL_IMPAIRED f.visual_impaired (λ value small. uint-stands TRACK_ENTRY FLAG_VISUAL_IMPAIRED value row.visual_impaired small)))
+    (flag-made FLAG_TEXT_DESCRIPTIONS f.text_descriptions (λ value small. uint-stands TRACK_ENTRY FLAG_TEXT_DESCRIPTIONS value row.text_descriptions small)))
+    (flag-made FLAG_ORIGINAL f.original (λ value small. uint-stands TRACK_ENTRY FLAG_ORIGINAL value row.original small)))
+    (flag-made FLAG_COMMENTARY f.commentary (λ value small. uint-stands TRACK_ENTRY FLAG_COMMENTARY value row.commentary small)))
+
 children-made : (c : TrackChange) → CanBeSet c → All IsMadeLeaf (children_set c)
 children-made c can =
-    let named : List Node = given (leaf NAME 0) c.name in
-    let spoken : List Node = given (leaf LANGUAGE 0) c.language in
-    let by_default : List Node = given (flag_leaf FLAG_DEFAULT) c.flag_default in
-    let are_forced : List Node = given (flag_leaf FLAG_FORCED) c.flag_forced in
     let number : Node = uint_leaf TRACK_NUMBER c.number in
     let own : Node = uint_leaf TRACK_UID c.uid in
-    All-append IsMadeLeaf (number ∷ own ∷ named ++ spoken ++ by_default) are_forced
-    (All-append IsMadeLeaf (number ∷ own ∷ named ++ spoken) by_default
+    let named : List Node = given (leaf NAME 0) c.name in
+    let spoken : List Node = given (leaf LANGUAGE 0) c.language in
+    let tagged : List Node = given (leaf LANGUAGE_BCP47 0) c.language_tag in
+    let by_default : List Node = given (flag_leaf FLAG_DEFAULT) c.flag_default in
+    let are_forced : List Node = given (flag_leaf FLAG_FORCED) c.flag_forced in
+    All-append IsMadeLeaf (number ∷ own ∷ named ++ spoken ++ tagged ++ by_default ++ are_forced) (flags_set c.flags)
+    (All-append IsMadeLeaf (number ∷ own ∷ named ++ spoken ++ tagged ++ by_default) are_forced
+    (All-append IsMadeLeaf (number ∷ own ∷ named ++ spoken ++ tagged) by_default
+    (All-append IsMadeLeaf (number ∷ own ∷ named ++ spoken) tagged
     (All-append IsMadeLeaf (number ∷ own ∷ named) spoken
     (All-cons IsMadeLeaf number (own ∷ named) (uint-made TRACK_NUMBER c.number (uint-stands TRACK_ENTRY TRACK_NUMBER c.number row.number can.number))
     (All-cons IsMadeLeaf own named (uint-made TRACK_UID c.uid (uint-stands TRACK_ENTRY TRACK_UID c.uid row.uid can.uid))
     (text-made NAME c.name (λ text utf8. text-stands TRACK_ENTRY NAME text row.name utf8) can.name)))
     (text-made LANGUAGE c.language (λ text utf8. text-stands TRACK_ENTRY LANGUAGE text row.language utf8) can.language))
+    (text-made LANGUAGE_BCP47 c.language_tag (λ text utf8. text-stands TRACK_ENTRY LANGUAGE_BCP47 text row.language_tag utf8) can.language_tag))
     (flag-made FLAG_DEFAULT c.flag_default (λ value small. uint-stands TRACK_ENTRY FLAG_DEFAULT value row.flag_default small)))
-    (flag-made FLAG_FORCED c.flag_forced (λ value small. uint-stands TRACK_ENTRY FLAG_FORCED value row.flag_forced small))
+    (flag-made FLAG_FORCED c.flag_forced (λ value small. uint-stands TRACK_ENTRY FLAG_FORCED value row.flag_forced small)))
+    (flags-made c.flags)
 
 -- The written form of a valid entry is valid.
 pub written-whole : (c : TrackChange) (entry : Node) → CanBeSet c → IsWholeEntry entry → IsWholeEntry (written_entry c entry)
@@ -131,13 +148,13 @@ module _ (c : TrackChange) where
 
   -- The first TrackType stays, too.
   pub type-kept : (i at : ℕ) (kids : Nodes) → first_child TRACK_TYPE (written_entry c (master i at kids)) ≡ first_child TRACK_TYPE (master i at kids)
-  type-kept i at kids = first-kept TRACK_TYPE i at kids (λ ns. part-others c ns TRACK_TYPE refl refl refl refl refl refl refl refl)
+  type-kept i at kids = first-kept TRACK_TYPE i at kids (λ ns. part-others c ns TRACK_TYPE refl refl refl refl)
 
   codec-kept : (i at : ℕ) (kids : Nodes) → first_child CODEC_ID (written_entry c (master i at kids)) ≡ first_child CODEC_ID (master i at kids)
-  codec-kept i at kids = first-kept CODEC_ID i at kids (λ ns. part-others c ns CODEC_ID refl refl refl refl refl refl refl refl)
+  codec-kept i at kids = first-kept CODEC_ID i at kids (λ ns. part-others c ns CODEC_ID refl refl refl refl)
 
   duration-kept : (i at : ℕ) (kids : Nodes) → first_child DEFAULT_DURATION (written_entry c (master i at kids)) ≡ first_child DEFAULT_DURATION (master i at kids)
-  duration-kept i at kids = first-kept DEFAULT_DURATION i at kids (λ ns. part-others c ns DEFAULT_DURATION refl refl refl refl refl refl refl refl)
+  duration-kept i at kids = first-kept DEFAULT_DURATION i at kids (λ ns. part-others c ns DEFAULT_DURATION refl refl refl refl)
 
   number-set : (i at : ℕ) (kids : Nodes) → CanBeSet c → number_of (written_entry c (master i at kids)) ≡ c.number
   number-set i at kids can =

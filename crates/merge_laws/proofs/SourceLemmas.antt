@@ -232,6 +232,7 @@ given-text id (pair ∷ pairs) all = split (pair.0 == id) (given-text id pairs (
 record HasTextsGiven (t : TakenTrack) : Type 0 where
   name : IfSome t.name IsUtf8
   language : IfSome t.language IsUtf8
+  language_tag : IfSome t.language_tag IsUtf8
 
 -- A fact about each track that the command line selects, with its options, holds for the selected tracks.
 pub taken-all : (P : TakenTrack → Type 0) (words : FileWords) (id : ℕ) (list : List Track) → ((k : ℕ) (t : Track) → is_taken words k t.kind ≡ true → P (taken_track words k t)) → All P (taken_from words id list)
@@ -245,7 +246,7 @@ taken-all P words id (t ∷ ts) each =
 
 taken-texts : (words : FileWords) (list : List Track) → HasTexts words → All HasTextsGiven (taken_from words 0 list)
 taken-texts words list has =
-    taken-all HasTextsGiven words 0 list (λ k t is. record { name = given-text k words.names has.names; language = given-text k words.languages has.languages })
+    taken-all HasTextsGiven words 0 list (λ k t is. record { name = given-text k words.names has.names; language = given-text k words.languages has.languages; language_tag = given-text k words.language_tags has.language_tags })
 
 type-taken : (words : FileWords) (id type : ℕ) → is_taken words id type ≡ true → is_taken_type type ≡ true
 type-taken words id type = of (type == VIDEO_TRACK) (type == AUDIO_TRACK) (type == SUBTITLE_TRACK)
@@ -289,7 +290,7 @@ taken-read words list sound has tracks usable =
     let uids = taken-tracks (λ (t : Track). t.uid < 2 ^ 64) words list tracks.uids in
     let types = taken-types words list in
     let texts = taken-texts words list has in
-    λ k d below. record { taken = good k d below; kind = types k d below; uid = uids k d below; name = (texts k d below).name; language = (texts k d below).language }
+    λ k d below. record { taken = good k d below; kind = types k d below; uid = uids k d below; name = (texts k d below).name; language = (texts k d below).language; language_tag = (texts k d below).language_tag }
 
 file-read : (words : FileWords) (webm : Bool) (held : ℕ) (bytes : List ℕ) (read : InputRead) → AreOctets bytes → IsSoundFile words → HasTexts words → file_read words webm held bytes ≡ Ok read → IsReadSource (bytes, read)
 file-read words webm held bytes read octets sound has is =

@@ -37,7 +37,7 @@ record IsWritten (entry : Node) : Type 0 where
   plain : HasNoEncodings entry
 
 can-be : (number uid : ℕ) (t : TakenTrack) → 0 < number → number < 2 ^ 64 → uid < 2 ^ 64 → IsReadTrack t → CanBeSet (change_of number uid t)
-can-be number uid t some small own read = record { some = some; number = small; uid = own; name = read.name; language = read.language }
+can-be number uid t some small own read = record { some = some; number = small; uid = own; name = read.name; language = read.language; language_tag = read.language_tag }
 
 entries-written : (number : ℕ) (uids : List ℕ) (taken : List TakenTrack) → 0 < number → number + length taken < 2 ^ 64 → All (λ uid. uid < 2 ^ 64) uids → All IsReadTrack taken → All IsWritten (entries_from number uids taken)
 entries-written number [] taken some small own read = All-nil IsWritten

@@ -33,6 +33,7 @@ pub record IsReadTrack (t : TakenTrack) : Type 0 where
   pub uid : t.track.uid < 2 ^ 64
   pub name : IfSome t.name IsUtf8
   pub language : IfSome t.language IsUtf8
+  pub language_tag : IfSome t.language_tag IsUtf8
 
 -- Each entry of a text ends within 10,000 hours and is at most as long as a text may be.
 abbrev pub HasEntriesWithin : BlocksRead → Type 0

@@ -42,8 +42,10 @@ change_of number uid t = record {
   uid = uid;
   name = t.name;
   language = t.language;
+  language_tag = t.language_tag;
   flag_default = t.flag_default;
   flag_forced = t.flag_forced;
+  flags = t.flags;
 }
 
 -- the entry of the track `t` in the output, on the output track `number` with the TrackUID `uid`

@@ -58,8 +58,10 @@ fn entry_of(alloc: Global, number: u64, uid: u64, taken: &TakenTrack) -> Result<
         uid,
         name: taken.name.clone()?,
         language: taken.language.clone()?,
+        language_tag: taken.language_tag.clone()?,
         flag_default: taken.flag_default,
         flag_forced: taken.flag_forced,
+        flags: taken.flags,
     };
     written(alloc, &taken.track, &change)
 }

@@ -11,7 +11,7 @@ use Rattle.std.proofs.lemmas.List.Elements.{All-nil, All-cons, All-head, All-tai
 use Rattle.word_values.specs.declared.usage.Why.TheVariants.{MissingValue}
 use Rattle.word_values.specs.declared.values.ValueForm.{ValueForm}
 use Rattle.word_values.specs.declared.values.Value.{Value}
-use Rattle.word_values.specs.declared.values.Value.TheVariants.{Flag, File, Text, Scale, Blocks, Span, Split, Uuids, TrackDelay, TrackText, TrackLanguage}
+use Rattle.word_values.specs.declared.values.Value.TheVariants.{Flag, File, Text, Scale, Blocks, Span, Split, Uuids, TrackDelay, TrackText, TrackLanguage, TrackLanguageTag}
 use Rattle.word_values.specs.Place.{is_option}
 use Rattle.word_values.specs.Values.{flag_of, text, value_of}
 use Rattle.requests.specs.Sound.{IsWithin, AreUuids, IsSoundSplit}
@@ -27,7 +27,7 @@ use Rattle.word_values.specs.declared.usage.Why.{Why}
 use Rattle.word_values.specs.declared.usage.Why.TheVariants.{NoOutput, NoInput, DanglingOption}
 use Rattle.requests.specs.declared.merge.FileWords.{FileWords}
 use Rattle.requests.specs.declared.merge.MergeWords.{MergeWords}
-use Rattle.merge_words.specs.Said.{value_in, said_about, text_of, scale_of, blocks_of, span_of, split_of, uuids_of, delay_of, track_text_of, track_language_of}
+use Rattle.merge_words.specs.Said.{value_in, said_about, text_of, scale_of, blocks_of, span_of, split_of, uuids_of, delay_of, track_text_of, track_language_of, track_language_tag_of}
 use Rattle.merge_words.specs.Files.{file, files}
 use Rattle.merge_words.specs.Output.{merge_words}
 use Rattle.merge_words.specs.Merge.{starts, read_all, items, wrong_if, wrong_at, dangling, complete, merged}
@@ -218,6 +218,10 @@ language-text : (given : Type 0) → given → (v : Value) (language : ℕ × Li
 language-text given texts (TrackLanguage id t) language own is = let same : (id, t) ≡ language = cc in subst IsTextPair same (own.1 texts)
 language-text given texts _ language own is = absurd (cc)
 
+tag-text : (given : Type 0) → given → (v : Value) (tag : ℕ × List ℕ) → IsRead given v → track_language_tag_of v ≡ Some tag → IsTextPair tag
+tag-text given texts (TrackLanguageTag id t) tag own is = let same : (id, t) ≡ tag = cc in subst IsTextPair same (own.1 texts)
+tag-text given texts _ tag own is = absurd (cc)
+
 -- The file's options keep their limits, and its texts are UTF-8 if `given` holds.
 abbrev IsReadFile : Type 0 → FileWords → Type 0
 IsReadFile given f = IsSoundFile f × (given → HasTexts f)
@@ -229,6 +233,7 @@ file-read given group name are = (
   λ texts. record {
     names = all-said given IsTextPair track_text_of subject.TrackName group (name-text given texts) are;
     languages = all-said given IsTextPair track_language_of subject.Language group (language-text given texts) are;
+    language_tags = all-said given IsTextPair track_language_tag_of subject.LanguageTag group (tag-text given texts) are;
   },
 )
 

@@ -9,12 +9,13 @@ use Rattle.word_values.specs.declared.values.Value.TheVariants.{Tracks}
 use Rattle.merge_words.specs.declared.options.Subject.{Subject}
 use Rattle.merge_words.specs.declared.options.Subject.TheVariants as subject
 use Rattle.merge_words.specs.declared.item.Item.{Item}
+use Rattle.requests.specs.declared.merge.FlagWords.{FlagWords}
 use Rattle.requests.specs.declared.merge.FileWords.{FileWords}
 use Rattle.merge_words.specs.declared.files.Choice.{Choice}
 use Rattle.merge_words.specs.declared.files.Marks.{Marks}
 use Rattle.merge_words.specs.declared.files.Texts.{Texts}
 use Rattle.merge_words.specs.Items.{is_file, stands, track_in}
-use Rattle.merge_words.specs.Said.{value_in, said_about, file_of, tracks_of, delay_of, track_text_of, track_language_of, track_flag_of, track_cues_of, track_file_of}
+use Rattle.merge_words.specs.Said.{value_in, said_about, file_of, tracks_of, delay_of, track_text_of, track_language_of, track_language_tag_of, track_flag_of, track_cues_of, track_file_of}
 
 -- the tracks that a selection or exclusion names
 abbrev pub ids_of_select : Select → List ℕ
@@ -49,6 +50,10 @@ names_in items = said_about track_text_of subject.TrackName items
 abbrev pub languages_in : List Item → List (ℕ × List ℕ)
 languages_in items = said_about track_language_of subject.Language items
 
+-- the language tags of tracks
+abbrev pub language_tags_in : List Item → List (ℕ × List ℕ)
+language_tags_in items = said_about track_language_tag_of subject.LanguageTag items
+
 -- the values of the flag `subject` of tracks
 abbrev pub flags_in : Subject → List Item → List (ℕ × Bool)
 flags_in subject items = said_about track_flag_of subject items
@@ -71,7 +76,18 @@ choice_in items = record {
 
 -- the names and languages of tracks, and their timestamp files, that the options of a file give
 abbrev pub texts_in : List Item → Texts
-texts_in items = record { names = names_in items; languages = languages_in items; times = times_in items }
+texts_in items = record { names = names_in items; languages = languages_in items; language_tags = language_tags_in items; times = times_in items }
+
+-- the flags that say for whom a track is
+abbrev pub flag_words_in : List Item → FlagWords
+flag_words_in items = record {
+  enabled = flags_in subject.EnabledFlag items;
+  hearing_impaired = flags_in subject.HearingImpairedFlag items;
+  visual_impaired = flags_in subject.VisualImpairedFlag items;
+  text_descriptions = flags_in subject.TextDescriptionsFlag items;
+  original = flags_in subject.OriginalFlag items;
+  commentary = flags_in subject.CommentaryFlag items;
+}
 
 -- the delays, flags and cue points of tracks that the options of a file give
 abbrev pub marks_in : List Item → Marks
@@ -79,6 +95,7 @@ marks_in items = record {
   syncs = delays_in items;
   defaults = flags_in subject.DefaultFlag items;
   forced = flags_in subject.ForcedFlag items;
+  flags = flag_words_in items;
   cues = cues_in items;
 }
 
@@ -119,8 +136,10 @@ file items name = record {
   syncs = delays_in items;
   names = names_in items;
   languages = languages_in items;
+  language_tags = language_tags_in items;
   defaults = flags_in subject.DefaultFlag items;
   forced = flags_in subject.ForcedFlag items;
+  flags = flag_words_in items;
   cues = cues_in items;
   times = times_in items;
   named = named_in items;

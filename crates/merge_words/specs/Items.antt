@@ -12,7 +12,7 @@ use Rattle.merge_words.specs.declared.options.Scope.{Scope}
 use Rattle.word_values.specs.declared.values.ValueForm.{ValueForm}
 use Rattle.merge_words.specs.declared.options.Meaning.{Meaning}
 use Rattle.word_values.specs.declared.values.Value.{Value}
-use Rattle.word_values.specs.declared.values.Value.TheVariants.{Flag, File, TrackDelay, TrackText, TrackLanguage, TrackFlag, TrackCues, TrackFile}
+use Rattle.word_values.specs.declared.values.Value.TheVariants.{Flag, File, TrackDelay, TrackText, TrackLanguage, TrackLanguageTag, TrackFlag, TrackCues, TrackFile}
 use Rattle.merge_words.specs.declared.item.Item.{Item}
 use Rattle.merge_words.specs.declared.item.TheConstants.{MAX_FILES}
 use Rattle.word_values.specs.Answers.{wrong, ◌>>=◌}
@@ -41,6 +41,7 @@ abbrev pub track_in : Value → Option ℕ
 track_in (TrackDelay id delay) = Some id
 track_in (TrackText id text) = Some id
 track_in (TrackLanguage id language) = Some id
+track_in (TrackLanguageTag id tag) = Some id
 track_in (TrackFlag id flag) = Some id
 track_in (TrackCues id cues) = Some id
 track_in (TrackFile id name) = Some id

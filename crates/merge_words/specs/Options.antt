@@ -52,8 +52,15 @@ table =
     option (codes "-y") (codes "--sync") s.Sync Track f.TrackDelay ∷
     option (codes "") (codes "--track-name") s.TrackName Track f.TrackText ∷
     option (codes "") (codes "--language") s.Language Track f.TrackLanguage ∷
+    option (codes "") (codes "--language-ietf") s.LanguageTag Track f.TrackLanguageTag ∷
     option (codes "") (codes "--default-track-flag") s.DefaultFlag Track f.TrackFlag ∷
     option (codes "") (codes "--forced-display-flag") s.ForcedFlag Track f.TrackFlag ∷
+    option (codes "") (codes "--track-enabled-flag") s.EnabledFlag Track f.TrackFlag ∷
+    option (codes "") (codes "--hearing-impaired-flag") s.HearingImpairedFlag Track f.TrackFlag ∷
+    option (codes "") (codes "--visual-impaired-flag") s.VisualImpairedFlag Track f.TrackFlag ∷
+    option (codes "") (codes "--text-descriptions-flag") s.TextDescriptionsFlag Track f.TrackFlag ∷
+    option (codes "") (codes "--original-flag") s.OriginalFlag Track f.TrackFlag ∷
+    option (codes "") (codes "--commentary-flag") s.CommentaryFlag Track f.TrackFlag ∷
     option (codes "") (codes "--cues") s.Cues Track f.TrackCues ∷
     option (codes "") (codes "--timestamps") s.Times Track f.TrackFile ∷ []
 

@@ -5,7 +5,7 @@ use Rattle.requests.specs.declared.split.SplitWords.{SplitWords}
 use Rattle.requests.specs.declared.track.Select.{Select}
 use Rattle.requests.specs.declared.track.CueWord.{CueWord}
 use Rattle.word_values.specs.declared.values.Value.{Value}
-use Rattle.word_values.specs.declared.values.Value.TheVariants.{File, Text, Scale, Blocks, Span, Split, Uuids, Tracks, TrackDelay, TrackText, TrackLanguage, TrackFlag, TrackCues, TrackFile}
+use Rattle.word_values.specs.declared.values.Value.TheVariants.{File, Text, Scale, Blocks, Span, Split, Uuids, Tracks, TrackDelay, TrackText, TrackLanguage, TrackLanguageTag, TrackFlag, TrackCues, TrackFile}
 use Rattle.merge_words.specs.declared.options.Subject.{Subject}
 use Rattle.merge_words.specs.declared.item.Item.{Item}
 use Rattle.merge_words.specs.Options.{same}
@@ -68,6 +68,11 @@ track_text_of _ = None
 abbrev pub track_language_of : Value → Option (ℕ × List ℕ)
 track_language_of (TrackLanguage id language) = Some (id, language)
 track_language_of _ = None
+
+-- the track and its language tag
+abbrev pub track_language_tag_of : Value → Option (ℕ × List ℕ)
+track_language_tag_of (TrackLanguageTag id tag) = Some (id, tag)
+track_language_tag_of _ = None
 
 -- the track number and the flag that a value has, if it is such a pair
 abbrev pub track_flag_of : Value → Option (ℕ × Bool)

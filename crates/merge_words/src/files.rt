@@ -8,7 +8,7 @@ use crate::options::Subject;
 use crate::said::{numbers_copy, value_in};
 use indexmap::IndexSet;
 use mkv_io::{List, Text};
-use requests::{CueWord, FileWords, Select};
+use requests::{CueWord, FileWords, FlagWords, Select};
 use std::alloc::{AllocError, Global};
 use word_values::{Value, name};
 
@@ -40,6 +40,7 @@ struct Choice {
 struct Texts {
     names: List<(u64, Text)>,
     languages: List<(u64, Text)>,
+    language_tags: List<(u64, Text)>,
     times: List<(u64, Text)>,
 }
 
@@ -49,6 +50,7 @@ struct Marks {
     syncs: List<(u64, i64)>,
     defaults: List<(u64, bool)>,
     forced: List<(u64, bool)>,
+    flags: FlagWords,
     cues: List<(u64, CueWord)>,
 }
 
@@ -75,8 +77,10 @@ fn file(alloc: Global, items: &[Item], name: &Value) -> Result<FileWords, AllocE
         syncs: marks.syncs,
         names: texts.names,
         languages: texts.languages,
+        language_tags: texts.language_tags,
         defaults: marks.defaults,
         forced: marks.forced,
+        flags: marks.flags,
         cues: marks.cues,
         times: texts.times,
         named,
@@ -101,6 +105,7 @@ fn texts_in(alloc: Global, items: &[Item]) -> Result<Texts, AllocError>
     Ok(Texts {
         names: names_in(alloc, items)?,
         languages: languages_in(alloc, items)?,
+        language_tags: language_tags_in(alloc, items)?,
         times: times_in(alloc, items)?,
     })
 }
@@ -113,7 +118,21 @@ fn marks_in(alloc: Global, items: &[Item]) -> Result<Marks, AllocError>
         syncs: delays_in(alloc, items)?,
         defaults: flags_in(alloc, Subject::DefaultFlag, items)?,
         forced: flags_in(alloc, Subject::ForcedFlag, items)?,
+        flags: flag_words_in(alloc, items)?,
         cues: cues_in(alloc, items)?,
+    })
+}
+
+fn flag_words_in(alloc: Global, items: &[Item]) -> Result<FlagWords, AllocError>
+    ensures { IfOk result (λ flags. flags ≡ spec.flag_words_in items.now) }
+{
+    Ok(FlagWords {
+        enabled: flags_in(alloc, Subject::EnabledFlag, items)?,
+        hearing_impaired: flags_in(alloc, Subject::HearingImpairedFlag, items)?,
+        visual_impaired: flags_in(alloc, Subject::VisualImpairedFlag, items)?,
+        text_descriptions: flags_in(alloc, Subject::TextDescriptionsFlag, items)?,
+        original: flags_in(alloc, Subject::OriginalFlag, items)?,
+        commentary: flags_in(alloc, Subject::CommentaryFlag, items)?,
     })
 }
 
@@ -192,6 +211,20 @@ fn languages_in(alloc: Global, items: &[Item]) -> Result<List<(u64, Text)>, Allo
         if item.subject.is(Subject::Language) {
             if let Value::TrackLanguage(id, word) = &item.value {
                 list.push((*id, name(alloc, word.as_str())?))?;
+            }
+        }
+    }
+    Ok(list)
+}
+
+fn language_tags_in(alloc: Global, items: &[Item]) -> Result<List<(u64, Text)>, AllocError>
+    ensures { IfOk result (λ list. list ≡ spec.language_tags_in items.now) }
+{
+    let mut list = List::new(alloc);
+    for item in items {
+        if item.subject.is(Subject::LanguageTag) {
+            if let Value::TrackLanguageTag(id, tag) = &item.value {
+                list.push((*id, name(alloc, tag.as_str())?))?;
             }
         }
     }

@@ -167,6 +167,7 @@ pub(crate) fn track_in(value: &Value) -> Option<u64>
         Value::TrackDelay(id, _) => Some(*id),
         Value::TrackText(id, _) => Some(*id),
         Value::TrackLanguage(id, _) => Some(*id),
+        Value::TrackLanguageTag(id, _) => Some(*id),
         Value::TrackFlag(id, _) => Some(*id),
         Value::TrackCues(id, _) => Some(*id),
         Value::TrackFile(id, _) => Some(*id),

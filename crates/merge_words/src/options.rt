@@ -28,8 +28,15 @@ pub enum Subject {
     Sync,
     TrackName,
     Language,
+    LanguageTag,
     DefaultFlag,
     ForcedFlag,
+    EnabledFlag,
+    HearingImpairedFlag,
+    VisualImpairedFlag,
+    TextDescriptionsFlag,
+    OriginalFlag,
+    CommentaryFlag,
     Cues,
     Times,
     /// The argument `+`.
@@ -69,7 +76,7 @@ pub struct OptionRow(
 );
 
 #[rattlefmt::skip]
-static MERGE_OPTIONS: [OptionRow; 27] = [
+static MERGE_OPTIONS: [OptionRow; 34] = [
     OptionRow("-o", "--output", Subject::Output, Scope::Output, ValueForm::Name),
     OptionRow("-w", "--webm", Subject::Webm, Scope::Output, ValueForm::Flag),
     OptionRow("", "--title", Subject::Title, Scope::Output, ValueForm::Text),
@@ -93,8 +100,15 @@ static MERGE_OPTIONS: [OptionRow; 27] = [
     OptionRow("-y", "--sync", Subject::Sync, Scope::Track, ValueForm::TrackDelay),
     OptionRow("", "--track-name", Subject::TrackName, Scope::Track, ValueForm::TrackText),
     OptionRow("", "--language", Subject::Language, Scope::Track, ValueForm::TrackLanguage),
+    OptionRow("", "--language-ietf", Subject::LanguageTag, Scope::Track, ValueForm::TrackLanguageTag),
     OptionRow("", "--default-track-flag", Subject::DefaultFlag, Scope::Track, ValueForm::TrackFlag),
     OptionRow("", "--forced-display-flag", Subject::ForcedFlag, Scope::Track, ValueForm::TrackFlag),
+    OptionRow("", "--track-enabled-flag", Subject::EnabledFlag, Scope::Track, ValueForm::TrackFlag),
+    OptionRow("", "--hearing-impaired-flag", Subject::HearingImpairedFlag, Scope::Track, ValueForm::TrackFlag),
+    OptionRow("", "--visual-impaired-flag", Subject::VisualImpairedFlag, Scope::Track, ValueForm::TrackFlag),
+    OptionRow("", "--text-descriptions-flag", Subject::TextDescriptionsFlag, Scope::Track, ValueForm::TrackFlag),
+    OptionRow("", "--original-flag", Subject::OriginalFlag, Scope::Track, ValueForm::TrackFlag),
+    OptionRow("", "--commentary-flag", Subject::CommentaryFlag, Scope::Track, ValueForm::TrackFlag),
     OptionRow("", "--cues", Subject::Cues, Scope::Track, ValueForm::TrackCues),
     OptionRow("", "--timestamps", Subject::Times, Scope::Track, ValueForm::TrackFile),
 ];

@@ -54,7 +54,7 @@ pub(crate) const INFO_PAGE: [&str; 11] = [
 
 /// The page of `merge`.
 #[rattlefmt::skip]
-pub(crate) const MERGE_PAGE: [&str; 74] = [
+pub(crate) const MERGE_PAGE: [&str; 86] = [
     "usage: mkvsuite merge -o OUT [OUTPUT OPTIONS] [FILE OPTIONS] FILE",
     "                      [[+] [FILE OPTIONS] FILE]..",
     "       mkvsuite merge -J FILE",
@@ -100,13 +100,25 @@ pub(crate) const MERGE_PAGE: [&str; 74] = [
     "    --track-name ID:TEXT        name of the track",
     "    --language ID:LANGUAGE      language: three lower-case letters, such as eng",
     "                                (default: the input's; und for SubRip); removes",
-    "                                language-ietf, which propedit can set",
+    "                                the input's language tag",
+    "    --language-ietf ID:TAG      language tag, such as de or pt-BR; most players",
+    "                                prefer it to the language",
     "    --default-track-flag ID[:0|1]",
     "                                default track flag: players prefer this track",
     "                                (without a value: 1)",
     "    --forced-display-flag ID[:0|1]",
     "                                forced flag: players always show this track",
     "                                (without a value: 1)",
+    "    --track-enabled-flag ID[:0|1]",
+    "                                whether the track is usable",
+    "    --hearing-impaired-flag ID[:0|1]",
+    "                                for people with hearing impairments",
+    "    --visual-impaired-flag ID[:0|1]",
+    "                                for people with visual impairments",
+    "    --text-descriptions-flag ID[:0|1]",
+    "                                descriptions of the video as text",
+    "    --original-flag ID[:0|1]    in the original language",
+    "    --commentary-flag ID[:0|1]  commentary",
     "    --cues ID:WHICH             blocks with a cue point: none, iframes",
     "                                (keyframes) or all (default: iframes; none for",
     "                                audio)",

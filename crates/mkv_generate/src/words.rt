@@ -2,16 +2,30 @@
 
 ghost use Rattle.std.specs.Prelude.{◌≡◌, IfOk};
 ghost use Rattle.mkv_generate.specs.Generate.{both_words, parts_words};
-ghost use Rattle.requests.specs.Plain.{plain_file, plain_words};
+ghost use Rattle.requests.specs.Plain.{no_flags, plain_file, plain_words};
 
 use crate::front::SCALE;
 use crate::names::Names;
 use mkv_io::{List, Text};
-use requests::{FileWords, MergeWords, Select, SplitWords};
+use requests::{FileWords, FlagWords, MergeWords, Select, SplitWords};
 use std::alloc::{AllocError, Global};
 
 /// Duration of a part, in nanoseconds.
 const PART: u64 = 10_000_000_000;
+
+// Returns no flag of any track.
+fn no_flags(alloc: Global) -> FlagWords
+    ensures { result ≡ no_flags }
+{
+    FlagWords {
+        enabled: List::new(alloc),
+        hearing_impaired: List::new(alloc),
+        visual_impaired: List::new(alloc),
+        text_descriptions: List::new(alloc),
+        original: List::new(alloc),
+        commentary: List::new(alloc),
+    }
+}
 
 // Returns the input `name` of a merge, without options.
 fn plain_file(alloc: Global, name: &Text) -> Result<FileWords, AllocError>
@@ -30,8 +44,10 @@ fn plain_file(alloc: Global, name: &Text) -> Result<FileWords, AllocError>
         syncs: List::new(alloc),
         names: List::new(alloc),
         languages: List::new(alloc),
+        language_tags: List::new(alloc),
         defaults: List::new(alloc),
         forced: List::new(alloc),
+        flags: no_flags(alloc),
         cues: List::new(alloc),
         times: List::new(alloc),
         named: List::new(alloc),

@@ -1,7 +1,9 @@
 -- An entry that was written and read is written as it was.
-use Rattle.std.proofs.Common.{◌≡◌, ℕ, ◌+◌, ◌==◌, Bool, true, false, List, [], ◌∷◌, ◌++◌, length, map, flat_map, Option, Some, None, refl, sym, ap, ◌∙◌}
+use Rattle.std.proofs.Common.{◌≡◌, ℕ, ◌+◌, ◌==◌, Bool, true, false, ◌||◌, List, [], ◌∷◌, ◌++◌, length, map, flat_map, Option, Some, None, refl, sym, ap, ◌∙◌}
+use Rattle.std.specs.List.{list_any}
+use Rattle.std.proofs.lemmas.Bool.{or_parts}
 use Rattle.std.proofs.lemmas.List.Elements.{All-nil, All-cons, All-head, All-tail, All-append}
-use Rattle.mkv_schema.specs.declared.ids.TheConstants.{TRACK_NUMBER, TRACK_UID, NAME, LANGUAGE, LANGUAGE_BCP47, FLAG_DEFAULT, FLAG_FORCED, CONTENT_ENCODINGS}
+use Rattle.mkv_schema.specs.declared.ids.TheConstants.{TRACK_NUMBER, TRACK_UID, NAME, LANGUAGE, LANGUAGE_BCP47, FLAG_DEFAULT, FLAG_FORCED, CONTENT_ENCODINGS, FLAG_ENABLED, FLAG_HEARING_IMPAIRED, FLAG_VISUAL_IMPAIRED, FLAG_TEXT_DESCRIPTIONS, FLAG_ORIGINAL, FLAG_COMMENTARY}
 use Rattle.tree_format.specs.Node.{Node, Nodes, leaf, master, nodes_of, list_of, id_of}
 use Rattle.tree_format.specs.NormalForm.{header_octets, kept_octets, octets, octets_all}
 use Rattle.tree_format.specs.Changes.{without, with_child, part, HasNone}
@@ -10,7 +12,7 @@ use Rattle.tree_format.proofs.NodeLemmas.{list-nodes, nodes-list, octets_all-fla
 use Rattle.tree_format.proofs.PartLemmas.{without-none, part-none, part-without, none-without, part-other, part-set}
 use Rattle.track_records.specs.declared.track_change.TrackChange.{TrackChange}
 use Rattle.tree_format.specs.Children.{uint_leaf, set_each, removed_each, given}
-use Rattle.track_records.specs.Entry.{flag_leaf, children_set, ids_removed, written_entry}
+use Rattle.track_records.specs.Entry.{flag_leaf, flags_set, children_set, ids_removed, written_entry}
 use Rattle.record_laws.specs.Again.{plain, read_of, EntriesStay}
 use Rattle.record_laws.proofs.SameLemmas.{HasOnly, none-part, same-only, part-read, octets-read}
 
@@ -59,15 +61,47 @@ flag-id own id other false = other
 
 -- the children that the user's options give
 abbrev options : TrackChange → List Node
-options c = given (leaf NAME 0) c.name ++ given (leaf LANGUAGE 0) c.language ++ given (flag_leaf FLAG_DEFAULT) c.flag_default ++ given (flag_leaf FLAG_FORCED) c.flag_forced
+options c =
+    given (leaf NAME 0) c.name ++ given (leaf LANGUAGE 0) c.language ++ given (leaf LANGUAGE_BCP47 0) c.language_tag
+    ++ given (flag_leaf FLAG_DEFAULT) c.flag_default ++ given (flag_leaf FLAG_FORCED) c.flag_forced ++ flags_set c.flags
 
-none-options : (id : ℕ) (c : TrackChange) → (NAME == id) ≡ false → (LANGUAGE == id) ≡ false → (FLAG_DEFAULT == id) ≡ false → (FLAG_FORCED == id) ≡ false → HasNone id (options c)
-none-options id c name language default forced =
+-- the IDs of these children
+abbrev option_ids : List ℕ
+option_ids =
+    NAME ∷ LANGUAGE ∷ LANGUAGE_BCP47 ∷ FLAG_DEFAULT ∷ FLAG_FORCED ∷ FLAG_ENABLED ∷ FLAG_HEARING_IMPAIRED ∷ FLAG_VISUAL_IMPAIRED ∷ FLAG_TEXT_DESCRIPTIONS ∷ FLAG_ORIGINAL ∷ FLAG_COMMENTARY ∷ []
+
+-- No option of the user gives a child with the ID `id`.
+abbrev pub IsNoOption : ℕ → Type 0
+IsNoOption id = list_any (λ own. own == id) option_ids ≡ false
+
+none-options : (id : ℕ) (c : TrackChange) → IsNoOption id → HasNone id (options c)
+none-options id c apart =
     let P : Node → Type 0 = λ n. (id_of n == id) ≡ false in
-    All-append P _ _
-    (All-append P _ _ (All-append P _ _ (none-given id (leaf NAME 0) c.name (λ t. name)) (none-given id (leaf LANGUAGE 0) c.language (λ t. language)))
-    (none-given id (flag_leaf FLAG_DEFAULT) c.flag_default (flag-id FLAG_DEFAULT id default)))
-    (none-given id (flag_leaf FLAG_FORCED) c.flag_forced (flag-id FLAG_FORCED id forced))
+    let o0 = or_parts (NAME == id) (list_any (λ own. own == id) (LANGUAGE ∷ LANGUAGE_BCP47 ∷ FLAG_DEFAULT ∷ FLAG_FORCED ∷ FLAG_ENABLED ∷ FLAG_HEARING_IMPAIRED ∷ FLAG_VISUAL_IMPAIRED ∷ FLAG_TEXT_DESCRIPTIONS ∷ FLAG_ORIGINAL ∷ FLAG_COMMENTARY ∷ [])) apart in
+    let o1 = or_parts (LANGUAGE == id) (list_any (λ own. own == id) (LANGUAGE_BCP47 ∷ FLAG_DEFAULT ∷ FLAG_FORCED ∷ FLAG_ENABLED ∷ FLAG_HEARING_IMPAIRED ∷ FLAG_VISUAL_IMPAIRED ∷ FLAG_TEXT_DESCRIPTIONS ∷ FLAG_ORIGINAL ∷ FLAG_COMMENTARY ∷ [])) o0.1 in
+    let o2 = or_parts (LANGUAGE_BCP47 == id) (list_any (λ own. own == id) (FLAG_DEFAULT ∷ FLAG_FORCED ∷ FLAG_ENABLED ∷ FLAG_HEARING_IMPAIRED ∷ FLAG_VISUAL_IMPAIRED ∷ FLAG_TEXT_DESCRIPTIONS ∷ FLAG_ORIGINAL ∷ FLAG_COMMENTARY ∷ [])) o1.1 in
+    let o3 = or_parts (FLAG_DEFAULT == id) (list_any (λ own. own == id) (FLAG_FORCED ∷ FLAG_ENABLED ∷ FLAG_HEARING_IMPAIRED ∷ FLAG_VISUAL_IMPAIRED ∷ FLAG_TEXT_DESCRIPTIONS ∷ FLAG_ORIGINAL ∷ FLAG_COMMENTARY ∷ [])) o2.1 in
+    let o4 = or_parts (FLAG_FORCED == id) (list_any (λ own. own == id) (FLAG_ENABLED ∷ FLAG_HEARING_IMPAIRED ∷ FLAG_VISUAL_IMPAIRED ∷ FLAG_TEXT_DESCRIPTIONS ∷ FLAG_ORIGINAL ∷ FLAG_COMMENTARY ∷ [])) o3.1 in
+    let o5 = or_parts (FLAG_ENABLED == id) (list_any (λ own. own == id) (FLAG_HEARING_IMPAIRED ∷ FLAG_VISUAL_IMPAIRED ∷ FLAG_TEXT_DESCRIPTIONS ∷ FLAG_ORIGINAL ∷ FLAG_COMMENTARY ∷ [])) o4.1 in
+    let o6 = or_parts (FLAG_HEARING_IMPAIRED == id) (list_any (λ own. own == id) (FLAG_VISUAL_IMPAIRED ∷ FLAG_TEXT_DESCRIPTIONS ∷ FLAG_ORIGINAL ∷ FLAG_COMMENTARY ∷ [])) o5.1 in
+    let o7 = or_parts (FLAG_VISUAL_IMPAIRED == id) (list_any (λ own. own == id) (FLAG_TEXT_DESCRIPTIONS ∷ FLAG_ORIGINAL ∷ FLAG_COMMENTARY ∷ [])) o6.1 in
+    let o8 = or_parts (FLAG_TEXT_DESCRIPTIONS == id) (list_any (λ own. own == id) (FLAG_ORIGINAL ∷ FLAG_COMMENTARY ∷ [])) o7.1 in
+    let o9 = or_parts (FLAG_ORIGINAL == id) (list_any (λ own. own == id) (FLAG_COMMENTARY ∷ [])) o8.1 in
+    let o10 = or_parts (FLAG_COMMENTARY == id) (list_any (λ own. own == id) ([])) o9.1 in
+    (All-append P _ _ (All-append P _ _ (All-append P _ _ (All-append P _ _ (All-append P _ _ (none-given id (leaf NAME 0) c.name (λ t. o0.0))
+    (none-given id (leaf LANGUAGE 0) c.language (λ t. o1.0)))
+    (none-given id (leaf LANGUAGE_BCP47 0) c.language_tag (λ t. o2.0)))
+    (none-given id (flag_leaf FLAG_DEFAULT) c.flag_default (flag-id FLAG_DEFAULT id o3.0)))
+    (none-given id (flag_leaf FLAG_FORCED) c.flag_forced (flag-id FLAG_FORCED id o4.0)))
+    (All-append P _ _ (All-append P _ _ (All-append P _ _ (All-append P _ _ (All-append P _ _ (none-given id (flag_leaf FLAG_ENABLED) c.flags.enabled (flag-id FLAG_ENABLED id o5.0))
+    (none-given id (flag_leaf FLAG_HEARING_IMPAIRED) c.flags.hearing_impaired (flag-id FLAG_HEARING_IMPAIRED id o6.0)))
+    (none-given id (flag_leaf FLAG_VISUAL_IMPAIRED) c.flags.visual_impaired (flag-id FLAG_VISUAL_IMPAIRED id o7.0)))
+    (none-given id (flag_leaf FLAG_TEXT_DESCRIPTIONS) c.flags.text_descriptions (flag-id FLAG_TEXT_DESCRIPTIONS id o8.0)))
+    (none-given id (flag_leaf FLAG_ORIGINAL) c.flags.original (flag-id FLAG_ORIGINAL id o9.0)))
+    (none-given id (flag_leaf FLAG_COMMENTARY) c.flags.commentary (flag-id FLAG_COMMENTARY id o10.0))))
+
+any-third : (a b c d : Bool) → (a || (b || (c || d))) ≡ false → c ≡ false
+any-third a b c d apart = (or_parts c d (or_parts b (c || d) (or_parts a (b || (c || d)) apart).1).1).0
 
 -- Number and identifier come first, and then the children that the user's options give.
 entry_list-is : (c : TrackChange) (ns : List Node)
@@ -82,28 +116,30 @@ module _ (c : TrackChange) (ns : List Node) where
   unfolding bare
   part-uid =
       ap (part TRACK_UID) (entry_list-is c ns)
-      ∙ part-with_each TRACK_UID (options c) (with_child (uint_leaf TRACK_UID c.uid) (with_child (uint_leaf TRACK_NUMBER c.number) bare)) (none-options TRACK_UID c refl refl refl refl)
+      ∙ part-with_each TRACK_UID (options c) (with_child (uint_leaf TRACK_UID c.uid) (with_child (uint_leaf TRACK_NUMBER c.number) bare)) (none-options TRACK_UID c refl)
       ∙ part-set (uint_leaf TRACK_UID c.uid) (with_child (uint_leaf TRACK_NUMBER c.number) bare)
 
   pub part-number : part TRACK_NUMBER (entry_list c ns) ≡ uint_leaf TRACK_NUMBER c.number ∷ []
   unfolding bare
   part-number =
       ap (part TRACK_NUMBER) (entry_list-is c ns)
-      ∙ part-with_each TRACK_NUMBER (options c) (with_child (uint_leaf TRACK_UID c.uid) (with_child (uint_leaf TRACK_NUMBER c.number) bare)) (none-options TRACK_NUMBER c refl refl refl refl)
+      ∙ part-with_each TRACK_NUMBER (options c) (with_child (uint_leaf TRACK_UID c.uid) (with_child (uint_leaf TRACK_NUMBER c.number) bare)) (none-options TRACK_NUMBER c refl)
       ∙ part-other TRACK_NUMBER (uint_leaf TRACK_UID c.uid) (with_child (uint_leaf TRACK_NUMBER c.number) bare) refl
       ∙ part-set (uint_leaf TRACK_NUMBER c.number) bare
 
   -- Children with another ID stay.
-  pub part-others : (id : ℕ) → (TRACK_NUMBER == id) ≡ false → (TRACK_UID == id) ≡ false → (NAME == id) ≡ false → (LANGUAGE == id) ≡ false → (FLAG_DEFAULT == id) ≡ false → (FLAG_FORCED == id) ≡ false
-      → (CONTENT_ENCODINGS == id) ≡ false → (LANGUAGE_BCP47 == id) ≡ false → part id (entry_list c ns) ≡ part id ns
+  pub part-others : (id : ℕ) → (TRACK_NUMBER == id) ≡ false → (TRACK_UID == id) ≡ false → IsNoOption id → (CONTENT_ENCODINGS == id) ≡ false → part id (entry_list c ns) ≡ part id ns
   unfolding bare
-  part-others id number own name language default forced encodings bcp47 =
+  part-others id number own apart encodings =
       ap (part id) (entry_list-is c ns)
-      ∙ part-with_each id (options c) (with_child (uint_leaf TRACK_UID c.uid) (with_child (uint_leaf TRACK_NUMBER c.number) bare)) (none-options id c name language default forced)
+      ∙ part-with_each id (options c) (with_child (uint_leaf TRACK_UID c.uid) (with_child (uint_leaf TRACK_NUMBER c.number) bare)) (none-options id c apart)
       ∙ part-other id (uint_leaf TRACK_UID c.uid) (with_child (uint_leaf TRACK_NUMBER c.number) bare) own
       ∙ part-other id (uint_leaf TRACK_NUMBER c.number) bare number
       ∙ left c.language
     where
+      bcp47 : (LANGUAGE_BCP47 == id) ≡ false
+      bcp47 = any-third (NAME == id) (LANGUAGE == id) (LANGUAGE_BCP47 == id) _ apart
+
       left : (o : Option (List ℕ)) → part id (without_each (ids_removed o) ns) ≡ part id ns
       left None = part-without id CONTENT_ENCODINGS ns encodings
       left (Some text) = part-without id LANGUAGE_BCP47 (without CONTENT_ENCODINGS ns) bcp47 ∙ part-without id CONTENT_ENCODINGS ns encodings
@@ -112,7 +148,7 @@ module _ (c : TrackChange) (ns : List Node) where
   unfolding bare
   part-encodings =
       ap (part CONTENT_ENCODINGS) (entry_list-is c ns)
-      ∙ part-with_each CONTENT_ENCODINGS (options c) (with_child (uint_leaf TRACK_UID c.uid) (with_child (uint_leaf TRACK_NUMBER c.number) bare)) (none-options CONTENT_ENCODINGS c refl refl refl refl)
+      ∙ part-with_each CONTENT_ENCODINGS (options c) (with_child (uint_leaf TRACK_UID c.uid) (with_child (uint_leaf TRACK_NUMBER c.number) bare)) (none-options CONTENT_ENCODINGS c refl)
       ∙ part-other CONTENT_ENCODINGS (uint_leaf TRACK_UID c.uid) (with_child (uint_leaf TRACK_NUMBER c.number) bare) refl
       ∙ part-other CONTENT_ENCODINGS (uint_leaf TRACK_NUMBER c.number) bare refl
       ∙ gone c.language

@@ -5,12 +5,33 @@ use Rattle.tree_format.specs.NormalForm.{octets}
 use Rattle.tree_format.specs.Standing.{placed, placed_all}
 use Rattle.file_format.specs.Entry.{uid_of}
 use Rattle.record_changes.specs.Identifiers.{renumbered}
+use Rattle.track_records.specs.declared.track_change.FlagChange.{FlagChange}
 use Rattle.track_records.specs.declared.track_change.TrackChange.{TrackChange}
 use Rattle.track_records.specs.Entry.{written_entry, IsWholeEntry}
 
+-- a change of no flag
+abbrev pub flags_stay : FlagChange
+flags_stay = record {
+  enabled = None;
+  hearing_impaired = None;
+  visual_impaired = None;
+  text_descriptions = None;
+  original = None;
+  commentary = None;
+}
+
 -- a change that gives only a number and an identifier
 abbrev pub plain : ℕ → ℕ → TrackChange
-plain number uid = record { number = number; uid = uid; name = None; language = None; flag_default = None; flag_forced = None }
+plain number uid = record {
+  number = number;
+  uid = uid;
+  name = None;
+  language = None;
+  language_tag = None;
+  flag_default = None;
+  flag_forced = None;
+  flags = flags_stay;
+}
 
 -- An entry that was written with any change, and read at any place, is written as it was with the same number and identifier.
 abbrev pub EntriesStay : Type 0

@@ -182,7 +182,7 @@ all-whole : (number : ℕ) (uids : List ℕ) (es : List Node) → 0 < number →
 all-whole number [] es some few small whole = All-nil IsWholeEntry
 all-whole number (uid ∷ uids) [] some few small whole = All-nil IsWholeEntry
 all-whole number (uid ∷ uids) (e ∷ es) some few small whole =
-    let can : CanBeSet (plain number uid) = record { some = some; number = omega arith; uid = All-head Small uid uids small; name = tt; language = tt } in
+    let can : CanBeSet (plain number uid) = record { some = some; number = omega arith; uid = All-head Small uid uids small; name = tt; language = tt; language_tag = tt } in
     All-cons IsWholeEntry (written_entry (plain number uid) e) (written_entries (plain_changes (number + 1) uids) es)
     (written-whole (plain number uid) e can (All-head IsWholeEntry e es whole))
     (all-whole (number + 1) uids es (omega arith) (omega arith) (All-tail Small uid uids small) (All-tail IsWholeEntry e es whole))
@@ -343,7 +343,7 @@ scale-written : (c : TrackChange) (e : Node) → IsMaster e → HasOneScale e �
 scale-written c (leaf id at body) is scale = let never : true ≡ false = is in absurd (cc)
 scale-written c (master id at kids) is scale =
     subst (λ (o : Option Node). IfSome (option_map passes o) (λ (b : Bool). b ≡ true))
-    (sym (first-kept c TRACK_TIMESTAMP_SCALE id at kids (λ ns. part-others c ns TRACK_TIMESTAMP_SCALE refl refl refl refl refl refl refl refl))) scale
+    (sym (first-kept c TRACK_TIMESTAMP_SCALE id at kids (λ ns. part-others c ns TRACK_TIMESTAMP_SCALE refl refl refl refl))) scale
 
 scales-from : (number : ℕ) (uids : List ℕ) (taken : List TakenTrack) → All IsTaken taken → All HasOneScale (entries_from number uids taken)
 scales-from number [] taken are = All-nil HasOneScale

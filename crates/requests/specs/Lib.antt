@@ -3,3 +3,4 @@ pub mod Lists
 pub mod Plain
 pub mod Sound
 pub mod Texts
+pub mod Language

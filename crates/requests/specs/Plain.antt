@@ -2,8 +2,20 @@
 use Rattle.std.specs.Prelude.{ℕ, false, true, List, [], Option, None}
 use Rattle.requests.specs.declared.track.Select.TheVariants.{All}
 use Rattle.requests.specs.declared.split.SplitWords.{SplitWords}
+use Rattle.requests.specs.declared.merge.FlagWords.{FlagWords}
 use Rattle.requests.specs.declared.merge.FileWords.{FileWords}
 use Rattle.requests.specs.declared.merge.MergeWords.{MergeWords}
+
+-- no flag of any track
+abbrev pub no_flags : FlagWords
+no_flags = record {
+  enabled = [];
+  hearing_impaired = [];
+  visual_impaired = [];
+  text_descriptions = [];
+  original = [];
+  commentary = [];
+}
 
 -- the file `name`, with everything in it copied
 abbrev pub plain_file : List ℕ → FileWords
@@ -20,8 +32,10 @@ plain_file name = record {
   syncs = [];
   names = [];
   languages = [];
+  language_tags = [];
   defaults = [];
   forced = [];
+  flags = no_flags;
   cues = [];
   times = [];
   named = [];

@@ -4,10 +4,11 @@ use Rattle.std.specs.Str.{IsUtf8}
 use Rattle.requests.specs.declared.merge.FileWords.{FileWords}
 use Rattle.requests.specs.declared.merge.MergeWords.{MergeWords}
 
--- The names and languages that are set for a file's tracks are UTF-8.
+-- The names, languages and language tags that are set for a file's tracks are UTF-8.
 pub record HasTexts (file : FileWords) : Type 0 where
   pub names : All (λ (given : ℕ × List ℕ). IsUtf8 given.1) file.names
   pub languages : All (λ (given : ℕ × List ℕ). IsUtf8 given.1) file.languages
+  pub language_tags : All (λ (given : ℕ × List ℕ). IsUtf8 given.1) file.language_tags
 
 -- The title, if one is set, and the texts of each file are UTF-8.
 pub record AreTexts (words : MergeWords) : Type 0 where

@@ -4,6 +4,24 @@ use crate::split::SplitWords;
 use crate::track::{CueWord, Select};
 use mkv_io::{List, Text};
 
+/// Flags of tracks that say for whom a track is (RFC 9559, section 5.1.4.1, TrackEntry): values for the tracks that are
+/// named.
+#[derive(Debug, Drop)]
+pub struct FlagWords {
+    /// FlagEnabled
+    pub enabled: List<(u64, bool)>,
+    /// FlagHearingImpaired
+    pub hearing_impaired: List<(u64, bool)>,
+    /// FlagVisualImpaired
+    pub visual_impaired: List<(u64, bool)>,
+    /// FlagTextDescriptions
+    pub text_descriptions: List<(u64, bool)>,
+    /// FlagOriginal
+    pub original: List<(u64, bool)>,
+    /// FlagCommentary
+    pub commentary: List<(u64, bool)>,
+}
+
 /// Options of one input file of a merge. A track is named by its index in Tracks, from 0.
 #[derive(Debug, Drop)]
 pub struct FileWords {
@@ -25,8 +43,11 @@ pub struct FileWords {
     pub syncs: List<(u64, i64)>,
     pub names: List<(u64, Text)>,
     pub languages: List<(u64, Text)>,
+    /// Language tags of tracks, as in BCP 47.
+    pub language_tags: List<(u64, Text)>,
     pub defaults: List<(u64, bool)>,
     pub forced: List<(u64, bool)>,
+    pub flags: FlagWords,
     pub cues: List<(u64, CueWord)>,
     /// Names of timestamp files of tracks.
     pub times: List<(u64, Text)>,

@@ -2,7 +2,7 @@
 use Rattle.std.proofs.Common.{◌≡◌, inl, inr, ◌≤◌, ℕ, List, [], ◌∷◌, ◌++◌, Option, Some, Result, Ok, Err, OnOk, refl, sym, ap, subst, ◌∙◌, arith}
 use Rattle.std.specs.declared.alloc.AllocError.{AllocError}
 use Rattle.ebml_numbers.specs.Number.{is_id}
-use Rattle.mkv_schema.specs.declared.ids.TheConstants.{TRACK_ENTRY, TRACK_NUMBER, TRACK_UID, NAME, LANGUAGE, FLAG_DEFAULT, FLAG_FORCED}
+use Rattle.mkv_schema.specs.declared.ids.TheConstants.{TRACK_ENTRY, TRACK_NUMBER, TRACK_UID, NAME, LANGUAGE, LANGUAGE_BCP47, FLAG_DEFAULT, FLAG_FORCED, FLAG_ENABLED, FLAG_HEARING_IMPAIRED, FLAG_VISUAL_IMPAIRED, FLAG_TEXT_DESCRIPTIONS, FLAG_ORIGINAL, FLAG_COMMENTARY}
 use Rattle.mkv_schema.specs.Table.{table}
 use Rattle.mkv_schema.specs.Schema.{entry_of, is_master}
 use Rattle.tree_format.specs.Node.{Node, leaf, master, nodes_of, id_of, children, with_children, depth_all, IsMaster, HasRoom}
@@ -11,8 +11,9 @@ use Rattle.tree_format.specs.Standing.{StandsIn, IsSound}
 use Rattle.tree_format.proofs.NodeLemmas.{nodes-list}
 use Rattle.tree_format.proofs.ChangeLemmas.{deep-with_child, deep-without}
 use Rattle.tree_format.specs.Children.{uint_leaf, set_in, set_each, given}
+use Rattle.track_records.specs.declared.track_change.FlagChange.{FlagChange}
 use Rattle.track_records.specs.declared.track_change.TrackChange.{TrackChange}
-use Rattle.track_records.specs.Entry.{flag_leaf, children_set, IsWholeEntry}
+use Rattle.track_records.specs.Entry.{flag_leaf, flags_set, children_set, IsWholeEntry}
 use Rattle.ebml_tree.specs.Leaves.{IsUintIn, IsTextIn}
 use Rattle.track_records.specs.Step.{SetsEach}
 
@@ -34,6 +35,30 @@ pub flag_forced : IsUintIn TRACK_ENTRY FLAG_FORCED
 unfolding entry_of table is_id
 flag_forced = record { valid = refl; known = record { stands = refl; kind = refl } }
 
+pub enabled : IsUintIn TRACK_ENTRY FLAG_ENABLED
+unfolding entry_of table is_id
+enabled = record { valid = refl; known = record { stands = refl; kind = refl } }
+
+pub hearing_impaired : IsUintIn TRACK_ENTRY FLAG_HEARING_IMPAIRED
+unfolding entry_of table is_id
+hearing_impaired = record { valid = refl; known = record { stands = refl; kind = refl } }
+
+pub visual_impaired : IsUintIn TRACK_ENTRY FLAG_VISUAL_IMPAIRED
+unfolding entry_of table is_id
+visual_impaired = record { valid = refl; known = record { stands = refl; kind = refl } }
+
+pub text_descriptions : IsUintIn TRACK_ENTRY FLAG_TEXT_DESCRIPTIONS
+unfolding entry_of table is_id
+text_descriptions = record { valid = refl; known = record { stands = refl; kind = refl } }
+
+pub original : IsUintIn TRACK_ENTRY FLAG_ORIGINAL
+unfolding entry_of table is_id
+original = record { valid = refl; known = record { stands = refl; kind = refl } }
+
+pub commentary : IsUintIn TRACK_ENTRY FLAG_COMMENTARY
+unfolding entry_of table is_id
+commentary = record { valid = refl; known = record { stands = refl; kind = refl } }
+
 pub name : IsTextIn TRACK_ENTRY NAME
 unfolding entry_of table is_id
 name = record { valid = refl; stands = refl; kind = inr refl }
@@ -41,6 +66,10 @@ name = record { valid = refl; stands = refl; kind = inr refl }
 pub language : IsTextIn TRACK_ENTRY LANGUAGE
 unfolding entry_of table is_id
 language = record { valid = refl; stands = refl; kind = inl refl }
+
+pub language_tag : IsTextIn TRACK_ENTRY LANGUAGE_BCP47
+unfolding entry_of table is_id
+language_tag = record { valid = refl; stands = refl; kind = inl refl }
 
 -- ---- an entry stays whole
 
@@ -86,20 +115,27 @@ pub set_each-append : (cs ds : List Node) (n : Node) → set_each (cs ++ ds) n �
 set_each-append [] ds n = refl
 set_each-append (c ∷ cs) ds n = set_each-append cs ds (set_in c n)
 
+-- One change after another sets the children of both.
+then-sets : {cs ds : List Node} {e0 e1 e2 : Node} → SetsEach cs e0 e1 → SetsEach ds e1 e2 → SetsEach (cs ++ ds) e0 e2
+then-sets {cs} {ds} {e0} first second = record { changed = second.changed ∙ ap (set_each ds) first.changed ∙ sym (set_each-append cs ds e0); whole = second.whole }
+
+-- The steps for each flag set all flags.
+pub set-flags : (f : FlagChange) (e0 e1 e2 e3 e4 e5 e6 : Node) → SetsEach (given (flag_leaf FLAG_ENABLED) f.enabled) e0 e1
+    → SetsEach (given (flag_leaf FLAG_HEARING_IMPAIRED) f.hearing_impaired) e1 e2
+    → SetsEach (given (flag_leaf FLAG_VISUAL_IMPAIRED) f.visual_impaired) e2 e3
+    → SetsEach (given (flag_leaf FLAG_TEXT_DESCRIPTIONS) f.text_descriptions) e3 e4
+    → SetsEach (given (flag_leaf FLAG_ORIGINAL) f.original) e4 e5
+    → SetsEach (given (flag_leaf FLAG_COMMENTARY) f.commentary) e5 e6
+    → SetsEach (flags_set f) e0 e6
+set-flags f e0 e1 e2 e3 e4 e5 e6 s1 s2 s3 s4 s5 s6 = then-sets (then-sets (then-sets (then-sets (then-sets s1 s2) s3) s4) s5) s6
+
 -- The steps of a change make the whole change.
-pub set-all : (c : TrackChange) (e0 e1 e2 e3 e4 e5 e6 : Node) → SetsEach (uint_leaf TRACK_NUMBER c.number ∷ []) e0 e1 → SetsEach (uint_leaf TRACK_UID c.uid ∷ []) e1 e2
-    → SetsEach (given (leaf NAME 0) c.name) e2 e3 → SetsEach (given (leaf LANGUAGE 0) c.language) e3 e4 → SetsEach (given (flag_leaf FLAG_DEFAULT) c.flag_default) e4 e5 → SetsEach (given (flag_leaf FLAG_FORCED) c.flag_forced) e5 e6
-    → e6 ≡ set_each (children_set c) e0
-set-all c e0 e1 e2 e3 e4 e5 e6 s1 s2 s3 s4 s5 s6 =
-    let number : Node = uint_leaf TRACK_NUMBER c.number in
-    let uid : Node = uint_leaf TRACK_UID c.uid in
-    let named : List Node = given (leaf NAME 0) c.name in
-    let spoken : List Node = given (leaf LANGUAGE 0) c.language in
-    let default : List Node = given (flag_leaf FLAG_DEFAULT) c.flag_default in
-    let forced : List Node = given (flag_leaf FLAG_FORCED) c.flag_forced in
-    s6.changed ∙ ap (set_each forced) (s5.changed ∙ ap (set_each default) (s4.changed ∙ ap (set_each spoken) (s3.changed ∙ ap (set_each named) (s2.changed ∙ ap (set_in uid) s1.changed))))
-    ∙ sym (set_each-append (number ∷ uid ∷ named ++ spoken ++ default) forced e0
-    ∙ ap (set_each forced) (set_each-append (number ∷ uid ∷ named ++ spoken) default e0 ∙ ap (set_each default) (set_each-append (number ∷ uid ∷ named) spoken e0)))
+pub set-all : (c : TrackChange) (e0 e1 e2 e3 e4 e5 e6 e7 e8 : Node) → SetsEach (uint_leaf TRACK_NUMBER c.number ∷ []) e0 e1 → SetsEach (uint_leaf TRACK_UID c.uid ∷ []) e1 e2
+    → SetsEach (given (leaf NAME 0) c.name) e2 e3 → SetsEach (given (leaf LANGUAGE 0) c.language) e3 e4 → SetsEach (given (leaf LANGUAGE_BCP47 0) c.language_tag) e4 e5
+    → SetsEach (given (flag_leaf FLAG_DEFAULT) c.flag_default) e5 e6 → SetsEach (given (flag_leaf FLAG_FORCED) c.flag_forced) e6 e7 → SetsEach (flags_set c.flags) e7 e8
+    → e8 ≡ set_each (children_set c) e0
+set-all c e0 e1 e2 e3 e4 e5 e6 e7 e8 s1 s2 s3 s4 s5 s6 s7 s8 =
+    (then-sets (then-sets (then-sets (then-sets (then-sets (then-sets (then-sets s1 s2) s3) s4) s5) s6) s7) s8).changed
 
 -- ---- a new leaf is set
 

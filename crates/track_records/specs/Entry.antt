@@ -1,8 +1,9 @@
 -- The TrackEntry of an output: RFC 9559, section 5.1.4 (Tracks). The children that are set are this project's choice.
 use Rattle.std.specs.Prelude.{◌≡◌, ℕ, Bool, true, false, List, [], ◌∷◌, ◌++◌, Option, Some, None}
-use Rattle.mkv_schema.specs.declared.ids.TheConstants.{TRACK_ENTRY, TRACK_NUMBER, TRACK_UID, NAME, LANGUAGE, LANGUAGE_BCP47, FLAG_DEFAULT, FLAG_FORCED, CONTENT_ENCODINGS}
+use Rattle.mkv_schema.specs.declared.ids.TheConstants.{TRACK_ENTRY, TRACK_NUMBER, TRACK_UID, NAME, LANGUAGE, LANGUAGE_BCP47, FLAG_DEFAULT, FLAG_FORCED, CONTENT_ENCODINGS, FLAG_ENABLED, FLAG_HEARING_IMPAIRED, FLAG_VISUAL_IMPAIRED, FLAG_TEXT_DESCRIPTIONS, FLAG_ORIGINAL, FLAG_COMMENTARY}
 use Rattle.tree_format.specs.Node.{Node, leaf, id_of, IsMaster, HasRoom}
 use Rattle.tree_format.specs.Standing.{IsSound}
+use Rattle.track_records.specs.declared.track_change.FlagChange.{FlagChange}
 use Rattle.track_records.specs.declared.track_change.TrackChange.{TrackChange}
 use Rattle.tree_format.specs.Children.{uint_leaf, set_each, removed_each, given}
 
@@ -11,13 +12,20 @@ abbrev pub flag_leaf : ℕ → Bool → Node
 flag_leaf id true = uint_leaf id 1
 flag_leaf id false = uint_leaf id 0
 
+-- the children that are set for the flags `f`, in this order
+abbrev pub flags_set : FlagChange → List Node
+flags_set f =
+    given (flag_leaf FLAG_ENABLED) f.enabled ++ given (flag_leaf FLAG_HEARING_IMPAIRED) f.hearing_impaired ++ given (flag_leaf FLAG_VISUAL_IMPAIRED) f.visual_impaired
+    ++ given (flag_leaf FLAG_TEXT_DESCRIPTIONS) f.text_descriptions ++ given (flag_leaf FLAG_ORIGINAL) f.original ++ given (flag_leaf FLAG_COMMENTARY) f.commentary
+
 -- the children that the change `c` sets, in this order
 abbrev pub children_set : TrackChange → List Node
 children_set c =
     uint_leaf TRACK_NUMBER c.number ∷ uint_leaf TRACK_UID c.uid
-    ∷ given (leaf NAME 0) c.name ++ given (leaf LANGUAGE 0) c.language ++ given (flag_leaf FLAG_DEFAULT) c.flag_default ++ given (flag_leaf FLAG_FORCED) c.flag_forced
+    ∷ given (leaf NAME 0) c.name ++ given (leaf LANGUAGE 0) c.language ++ given (leaf LANGUAGE_BCP47 0) c.language_tag
+    ++ given (flag_leaf FLAG_DEFAULT) c.flag_default ++ given (flag_leaf FLAG_FORCED) c.flag_forced ++ flags_set c.flags
 
--- the IDs of the removed children: ContentEncodings, since stripped bytes are restored, and LanguageBCP47 if a language is set
+-- the IDs of the removed children: ContentEncodings, since stripped bytes are restored, and LanguageBCP47 if a language is set. A language tag is set afterwards
 abbrev pub ids_removed : Option (List ℕ) → List ℕ
 ids_removed None = CONTENT_ENCODINGS ∷ []
 ids_removed (Some language) = CONTENT_ENCODINGS ∷ LANGUAGE_BCP47 ∷ []

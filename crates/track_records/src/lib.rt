@@ -17,6 +17,6 @@ mod written_entry;
 pub use difference::differs;
 pub use encoding::usable;
 pub use track::Track;
-pub use track_change::TrackChange;
+pub use track_change::{FlagChange, TrackChange};
 pub use tracks::read_tracks;
 pub use written_entry::written;

@@ -3,18 +3,19 @@
 ghost use Rattle.std.specs.Prelude.{◌≡◌, [], ◌∷◌, OnOk, IfOk};
 ghost use Rattle.tree_format.specs.Node.{leaf};
 ghost use Rattle.tree_format.specs.Children.{uint_leaf, removed_each, given};
-ghost use Rattle.track_records.specs.Entry.{flag_leaf, ids_removed, written_entry, IsWholeEntry};
+ghost use Rattle.track_records.specs.Entry.{flag_leaf, flags_set, ids_removed, written_entry, IsWholeEntry};
 ghost use Rattle.mkv_schema.specs.declared.ids.TheConstants.{TRACK_ENTRY};
 ghost use Rattle.ebml_tree.specs.Leaves.{IsUintIn, IsTextIn};
 ghost use Rattle.track_records.specs.Step.{SetsEach};
 
 use crate::track::Track;
-use crate::track_change::TrackChange;
+use crate::track_change::{FlagChange, TrackChange};
 use ebml_tree::{Tree, text_leaf, uint_leaf};
 use mkv_io::Text;
 use mkv_schema::ids::{
-    CONTENT_ENCODINGS, FLAG_DEFAULT, FLAG_FORCED, LANGUAGE, LANGUAGE_BCP47, NAME, TRACK_NUMBER,
-    TRACK_UID,
+    CONTENT_ENCODINGS, FLAG_COMMENTARY, FLAG_DEFAULT, FLAG_ENABLED, FLAG_FORCED,
+    FLAG_HEARING_IMPAIRED, FLAG_ORIGINAL, FLAG_TEXT_DESCRIPTIONS, FLAG_VISUAL_IMPAIRED, LANGUAGE,
+    LANGUAGE_BCP47, NAME, TRACK_NUMBER, TRACK_UID,
 };
 use std::alloc::{AllocError, Global};
 
@@ -65,6 +66,25 @@ fn set_flag(alloc: Global, entry: &mut Tree, id: u32, flag: Option<bool>) -> Res
     }
 }
 
+// Sets the flags that say for whom the track is.
+fn set_flags(alloc: Global, entry: &mut Tree, flags: &FlagChange) -> Result<(), AllocError>
+    requires whole { IsWholeEntry entry.old }
+    ensures { OnOk result (SetsEach (flags_set flags.now) entry.old entry.new) }
+{
+    set_flag(alloc, entry, FLAG_ENABLED, flags.enabled)?;
+    set_flag(alloc, entry, FLAG_HEARING_IMPAIRED, flags.hearing_impaired)?;
+    set_flag(alloc, entry, FLAG_VISUAL_IMPAIRED, flags.visual_impaired)?;
+    set_flag(
+        alloc,
+        entry,
+        FLAG_TEXT_DESCRIPTIONS,
+        flags.text_descriptions,
+    )?;
+    set_flag(alloc, entry, FLAG_ORIGINAL, flags.original)?;
+    set_flag(alloc, entry, FLAG_COMMENTARY, flags.commentary)?;
+    Ok(())
+}
+
 /// Returns the output entry of a source's track. It has no ContentEncodings, the output's number and identifier, and
 /// then the user's changes. Other children stay in their order.
 pub fn written(alloc: Global, track: &Track, change: &TrackChange) -> Result<Tree, AllocError>
@@ -77,7 +97,9 @@ pub fn written(alloc: Global, track: &Track, change: &TrackChange) -> Result<Tre
     set_uint(alloc, &mut entry, TRACK_UID, change.uid)?;
     set_text(alloc, &mut entry, NAME, &change.name)?;
     set_text(alloc, &mut entry, LANGUAGE, &change.language)?;
+    set_text(alloc, &mut entry, LANGUAGE_BCP47, &change.language_tag)?;
     set_flag(alloc, &mut entry, FLAG_DEFAULT, change.flag_default)?;
     set_flag(alloc, &mut entry, FLAG_FORCED, change.flag_forced)?;
+    set_flags(alloc, &mut entry, &change.flags)?;
     Ok(entry)
 }

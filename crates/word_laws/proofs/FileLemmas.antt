@@ -5,7 +5,7 @@ use Rattle.std.proofs.lemmas.Bool.Decides.{nat_tests}
 use Rattle.std.proofs.lemmas.List.{append-nil}
 use Rattle.std.proofs.lemmas.List.Sums.{sum_by-append}
 use Rattle.std.specs.List.{AllZip}
-use Rattle.word_values.specs.declared.values.Value.TheVariants.{Flag, File, TrackDelay, TrackText, TrackLanguage, TrackFlag, TrackCues, TrackFile}
+use Rattle.word_values.specs.declared.values.Value.TheVariants.{Flag, File, TrackDelay, TrackText, TrackLanguage, TrackLanguageTag, TrackFlag, TrackCues, TrackFile}
 use Rattle.word_values.specs.declared.values.ValueForm.TheVariants as form
 use Rattle.requests.specs.declared.merge.FileWords.{FileWords}
 use Rattle.merge_words.specs.declared.options.Subject.TheVariants as subject
@@ -17,9 +17,9 @@ use Rattle.requests.specs.Sound.{IsSoundFile}
 use Rattle.word_laws.specs.Names.{IsInputName}
 use Rattle.word_laws.specs.Values.{delay_word, flag_word, cues_word}
 use Rattle.word_laws.specs.SpelledMerge.{flag, parts_joined, file_options, file_words}
-use Rattle.word_laws.specs.SpellableMerge.{AreOfTracks, IsDelay, IsText, IsLanguage, IsMergeFile}
+use Rattle.word_laws.specs.SpellableMerge.{AreOfTracks, IsDelay, IsText, IsLanguage, IsLanguageTag, IsMergeFile}
 use Rattle.word_laws.proofs.SimpleLemmas.{other_word}
-use Rattle.word_laws.proofs.ValueLemmas.{track_delay_read, track_text_read, track_language_read, track_flag_read, track_cues_read, track_file_read}
+use Rattle.word_laws.proofs.ValueLemmas.{track_delay_read, track_text_read, track_language_read, track_tag_read, track_flag_read, track_cues_read, track_file_read}
 use Rattle.word_laws.proofs.SayingLemmas.{◌&◌, Item, Said, Piece, said_words, piece_words, item, said_items, after_said, piece_items, after_pieces, read_one, other_stands}
 use Rattle.word_laws.proofs.GroupLemmas.{AreReadable, AreFree, still_free, pieces_read}
 use Rattle.word_laws.proofs.PieceLemmas.{said_flag, flag_words, flag_readable, said_select, select_spelled, select_readable, said_track, tracks_spelled, tracks_readable}
@@ -37,11 +37,32 @@ said_names f = map (said_track (codes "--track-name") (λ name. name) TrackText)
 abbrev pub said_languages : FileWords → List Said
 said_languages f = map (said_track (codes "--language") (λ name. name) TrackLanguage) f.languages
 
+abbrev pub said_tags : FileWords → List Said
+said_tags f = map (said_track (codes "--language-ietf") (λ tag. tag) TrackLanguageTag) f.language_tags
+
 abbrev pub said_defaults : FileWords → List Said
 said_defaults f = map (said_track (codes "--default-track-flag") flag_word TrackFlag) f.defaults
 
 abbrev pub said_forced : FileWords → List Said
 said_forced f = map (said_track (codes "--forced-display-flag") flag_word TrackFlag) f.forced
+
+abbrev pub said_enabled : FileWords → List Said
+said_enabled f = map (said_track (codes "--track-enabled-flag") flag_word TrackFlag) f.flags.enabled
+
+abbrev pub said_hearing_impaired : FileWords → List Said
+said_hearing_impaired f = map (said_track (codes "--hearing-impaired-flag") flag_word TrackFlag) f.flags.hearing_impaired
+
+abbrev pub said_visual_impaired : FileWords → List Said
+said_visual_impaired f = map (said_track (codes "--visual-impaired-flag") flag_word TrackFlag) f.flags.visual_impaired
+
+abbrev pub said_text_descriptions : FileWords → List Said
+said_text_descriptions f = map (said_track (codes "--text-descriptions-flag") flag_word TrackFlag) f.flags.text_descriptions
+
+abbrev pub said_original : FileWords → List Said
+said_original f = map (said_track (codes "--original-flag") flag_word TrackFlag) f.flags.original
+
+abbrev pub said_commentary : FileWords → List Said
+said_commentary f = map (said_track (codes "--commentary-flag") flag_word TrackFlag) f.flags.commentary
 
 abbrev pub said_cues : FileWords → List Said
 said_cues f = map (said_track (codes "--cues") cues_word TrackCues) f.cues
@@ -61,8 +82,15 @@ file_pieces f =
     record { subject = subject.Sync; scope = scope.Track; said = said_syncs f } ∷
     record { subject = subject.TrackName; scope = scope.Track; said = said_names f } ∷
     record { subject = subject.Language; scope = scope.Track; said = said_languages f } ∷
+    record { subject = subject.LanguageTag; scope = scope.Track; said = said_tags f } ∷
     record { subject = subject.DefaultFlag; scope = scope.Track; said = said_defaults f } ∷
     record { subject = subject.ForcedFlag; scope = scope.Track; said = said_forced f } ∷
+    record { subject = subject.EnabledFlag; scope = scope.Track; said = said_enabled f } ∷
+    record { subject = subject.HearingImpairedFlag; scope = scope.Track; said = said_hearing_impaired f } ∷
+    record { subject = subject.VisualImpairedFlag; scope = scope.Track; said = said_visual_impaired f } ∷
+    record { subject = subject.TextDescriptionsFlag; scope = scope.Track; said = said_text_descriptions f } ∷
+    record { subject = subject.OriginalFlag; scope = scope.Track; said = said_original f } ∷
+    record { subject = subject.CommentaryFlag; scope = scope.Track; said = said_commentary f } ∷
     record { subject = subject.Cues; scope = scope.Track; said = said_cues f } ∷
     record { subject = subject.Times; scope = scope.Track; said = said_times f } ∷ []
 
@@ -90,8 +118,15 @@ file_spelled f = pieces_spelled (file_pieces f) (file_options f) (
     tracks_spelled (codes "--sync") delay_word TrackDelay f.syncs &
     tracks_spelled (codes "--track-name") (λ name. name) TrackText f.names &
     tracks_spelled (codes "--language") (λ name. name) TrackLanguage f.languages &
+    tracks_spelled (codes "--language-ietf") (λ tag. tag) TrackLanguageTag f.language_tags &
     tracks_spelled (codes "--default-track-flag") flag_word TrackFlag f.defaults &
     tracks_spelled (codes "--forced-display-flag") flag_word TrackFlag f.forced &
+    tracks_spelled (codes "--track-enabled-flag") flag_word TrackFlag f.flags.enabled &
+    tracks_spelled (codes "--hearing-impaired-flag") flag_word TrackFlag f.flags.hearing_impaired &
+    tracks_spelled (codes "--visual-impaired-flag") flag_word TrackFlag f.flags.visual_impaired &
+    tracks_spelled (codes "--text-descriptions-flag") flag_word TrackFlag f.flags.text_descriptions &
+    tracks_spelled (codes "--original-flag") flag_word TrackFlag f.flags.original &
+    tracks_spelled (codes "--commentary-flag") flag_word TrackFlag f.flags.commentary &
     tracks_spelled (codes "--cues") cues_word TrackCues f.cues &
     tracks_spelled (codes "--timestamps") (λ name. name) TrackFile f.times &
     tt)
@@ -123,10 +158,24 @@ file_readable f sound is = (
     (λ id x short text. track_text_read id x short text) is.names &
     tracks_readable (codes "--language") (λ name. name) TrackLanguage subject.Language form.TrackLanguage IsLanguage f.languages (refl, refl) refl refl (λ id x. refl)
     (λ id x short word. track_language_read id x short word) is.languages &
+    tracks_readable (codes "--language-ietf") (λ tag. tag) TrackLanguageTag subject.LanguageTag form.TrackLanguageTag IsLanguageTag f.language_tags (refl, refl) refl refl (λ id x. refl)
+    (λ id x short word. track_tag_read id x short word) is.language_tags &
     tracks_readable (codes "--default-track-flag") flag_word TrackFlag subject.DefaultFlag form.TrackFlag (λ b. Unit {0}) f.defaults (refl, refl) refl refl (λ id x. refl)
     (λ id x short any. track_flag_read id x short) is.defaults &
     tracks_readable (codes "--forced-display-flag") flag_word TrackFlag subject.ForcedFlag form.TrackFlag (λ b. Unit {0}) f.forced (refl, refl) refl refl (λ id x. refl)
     (λ id x short any. track_flag_read id x short) is.forced &
+    tracks_readable (codes "--track-enabled-flag") flag_word TrackFlag subject.EnabledFlag form.TrackFlag (λ b. Unit {0}) f.flags.enabled (refl, refl) refl refl (λ id x. refl)
+    (λ id x short any. track_flag_read id x short) is.enabled &
+    tracks_readable (codes "--hearing-impaired-flag") flag_word TrackFlag subject.HearingImpairedFlag form.TrackFlag (λ b. Unit {0}) f.flags.hearing_impaired (refl, refl) refl refl (λ id x. refl)
+    (λ id x short any. track_flag_read id x short) is.hearing_impaired &
+    tracks_readable (codes "--visual-impaired-flag") flag_word TrackFlag subject.VisualImpairedFlag form.TrackFlag (λ b. Unit {0}) f.flags.visual_impaired (refl, refl) refl refl (λ id x. refl)
+    (λ id x short any. track_flag_read id x short) is.visual_impaired &
+    tracks_readable (codes "--text-descriptions-flag") flag_word TrackFlag subject.TextDescriptionsFlag form.TrackFlag (λ b. Unit {0}) f.flags.text_descriptions (refl, refl) refl refl (λ id x. refl)
+    (λ id x short any. track_flag_read id x short) is.text_descriptions &
+    tracks_readable (codes "--original-flag") flag_word TrackFlag subject.OriginalFlag form.TrackFlag (λ b. Unit {0}) f.flags.original (refl, refl) refl refl (λ id x. refl)
+    (λ id x short any. track_flag_read id x short) is.original &
+    tracks_readable (codes "--commentary-flag") flag_word TrackFlag subject.CommentaryFlag form.TrackFlag (λ b. Unit {0}) f.flags.commentary (refl, refl) refl refl (λ id x. refl)
+    (λ id x short any. track_flag_read id x short) is.commentary &
     tracks_readable (codes "--cues") cues_word TrackCues subject.Cues form.TrackCues (λ c. Unit {0}) f.cues (refl, refl) refl refl (λ id x. refl)
     (λ id x short any. track_cues_read id x short) is.cues &
     tracks_readable (codes "--timestamps") (λ name. name) TrackFile subject.Times form.TrackFile (λ name. Unit {0}) f.times (refl, refl) refl refl (λ id x. refl)

@@ -16,10 +16,10 @@ use Rattle.word_laws.specs.Spelled.{spelled}
 use Rattle.std.proofs.lemmas.List.Elements.{All-nil, All-cons}
 use Rattle.std.proofs.lemmas.Slice.Eq.{bytes_eq-Decides}
 use Rattle.std.specs.Str.{bytes_eq}
-use Rattle.requests.specs.Plain.{plain_file, plain_words}
+use Rattle.requests.specs.Plain.{no_flags, plain_file, plain_words}
 use Rattle.requests.specs.declared.merge.FileWords.{FileWords}
 use Rattle.requests.specs.declared.merge.MergeWords.{MergeWords}
-use Rattle.word_laws.specs.SpellableMerge.{AreOfTracks, IsDelay, IsText, IsLanguage, IsMergeFile, IsSpellableMerge}
+use Rattle.word_laws.specs.SpellableMerge.{AreOfTracks, IsDelay, IsText, IsLanguage, IsLanguageTag, IsMergeFile, IsSpellableMerge}
 
 -- the arguments of a line, separated by one space each
 abbrev words : List ℕ → List (List ℕ)
@@ -50,7 +50,9 @@ first_file = record (plain_file (codes "f.mkv")) {
   chapters = false;
   syncs = (0, neg_ℤ (pos 20000000)) ∷ [];
   languages = (0, codes "eng") ∷ [];
+  language_tags = (0, codes "en-GB") ∷ [];
   forced = (2, true) ∷ [];
+  flags = record no_flags { commentary = (2, false) ∷ [] };
   cues = (0, Never) ∷ [];
   named = 1 ∷ 3 ∷ 0 ∷ 2 ∷ [];
 }
@@ -68,7 +70,7 @@ merging = record (plain_words (codes "o.mkv") (Some (splits.Duration 37235000000
 }
 
 abbrev merge_line : List ℕ
-merge_line = codes "merge --output o.mkv --title x --cluster-length 250ms --split duration:1:02:03.500000000 --segment-uid 0000000000000000000000000000000a --link --no-audio --subtitle-tracks !1,3 --no-chapters --sync 0:-20 --language 0:eng --forced-display-flag 2:1 --cues 0:none f.mkv + g.mkv"
+merge_line = codes "merge --output o.mkv --title x --cluster-length 250ms --split duration:1:02:03.500000000 --segment-uid 0000000000000000000000000000000a --link --no-audio --subtitle-tracks !1,3 --no-chapters --sync 0:-20 --language 0:eng --language-ietf 0:en-GB --forced-display-flag 2:1 --commentary-flag 2:0 --cues 0:none f.mkv + g.mkv"
 
 pub a_merge : spelled (commands.Merge merging) ≡ words merge_line
 unfolding digits last_digits
@@ -97,8 +99,15 @@ first_spelled = record {
   syncs = one_said IsDelay 0 (neg_ℤ (pos 20000000)) (omega arith) refl;
   names = none_said IsText;
   languages = one_said IsLanguage 0 (codes "eng") (omega arith) refl;
+  language_tags = one_said IsLanguageTag 0 (codes "en-GB") (omega arith) refl;
   defaults = none_said (λ flag. Unit {0});
   forced = one_said (λ flag. Unit {0}) 2 true (omega arith) tt;
+  enabled = none_said (λ flag. Unit {0});
+  hearing_impaired = none_said (λ flag. Unit {0});
+  visual_impaired = none_said (λ flag. Unit {0});
+  text_descriptions = none_said (λ flag. Unit {0});
+  original = none_said (λ flag. Unit {0});
+  commentary = one_said (λ flag. Unit {0}) 2 false (omega arith) tt;
   cues = one_said (λ cue. Unit {0}) 0 Never (omega arith) tt;
   times = none_said (λ name. Unit {0});
   named = refl;
@@ -113,8 +122,15 @@ second_spelled = record {
   syncs = none_said IsDelay;
   names = none_said IsText;
   languages = none_said IsLanguage;
+  language_tags = none_said IsLanguageTag;
   defaults = none_said (λ flag. Unit {0});
   forced = none_said (λ flag. Unit {0});
+  enabled = none_said (λ flag. Unit {0});
+  hearing_impaired = none_said (λ flag. Unit {0});
+  visual_impaired = none_said (λ flag. Unit {0});
+  text_descriptions = none_said (λ flag. Unit {0});
+  original = none_said (λ flag. Unit {0});
+  commentary = none_said (λ flag. Unit {0});
   cues = none_said (λ cue. Unit {0});
   times = none_said (λ name. Unit {0});
   named = refl;

@@ -13,12 +13,13 @@ use Rattle.std.specs.Fmt.{decimal}
 use Rattle.requests.specs.declared.track.Select.TheVariants as select
 use Rattle.requests.specs.declared.track.CueWord.{CueWord}
 use Rattle.requests.specs.declared.track.CueWord.TheVariants as cue
-use Rattle.word_values.specs.declared.values.Value.TheVariants.{Scale, Blocks, Span, Tracks, TrackDelay, TrackText, TrackLanguage, TrackFlag, TrackCues, TrackFile}
+use Rattle.word_values.specs.declared.values.Value.TheVariants.{Scale, Blocks, Span, Tracks, TrackDelay, TrackText, TrackLanguage, TrackLanguageTag, TrackFlag, TrackCues, TrackFile}
 use Rattle.word_values.specs.declared.values.ValueForm.TheVariants as form
 use Rattle.word_values.specs.Numbers.{delay_size, delay, ends, front}
 use Rattle.requests.specs.Decimal.{number}
 use Rattle.word_values.specs.Lists.{pieces, each, numbers, ids}
-use Rattle.word_values.specs.Values.{text, is_language, language, scale, cluster_length, track_flag, cue_word, track_value, value_of}
+use Rattle.requests.specs.Language.{is_language_tag}
+use Rattle.word_values.specs.Values.{text, is_language, language, language_tag, scale, cluster_length, track_flag, cue_word, track_value, value_of}
 use Rattle.requests.specs.Sound.{IsWithin}
 use Rattle.mkv_io.specs.Octets.{lacks}
 use Rattle.word_laws.specs.Values.{HasFewDigits, with_number, with_commas, numbers_word, delay_word, flag_word, cues_word}
@@ -37,6 +38,10 @@ text_read word none = rw (lacks_any 0 word none) refl
 pub language_read : (word : List ℕ) → is_language word ≡ true → language word ≡ Some word
 unfolding language
 language_read word is = rw is refl
+
+pub tag_read : (word : List ℕ) → is_language_tag word ≡ true → language_tag word ≡ Some word
+unfolding language_tag
+tag_read word is = rw is refl
 
 -- ---- the last byte of a value
 digit_at : (ds : List ℕ) (i : ℕ) → list_all is_ascii_digit ds ≡ true → i < length ds → is_ascii_digit (slice_index ds i) ≡ true
@@ -105,6 +110,10 @@ track_text_read id word short none = rw (numbered_read id word short) (rw (text_
 pub track_language_read : (id : ℕ) (word : List ℕ) → HasFewDigits id → is_language word ≡ true → value_of form.TrackLanguage (with_number id word) ≡ Some (TrackLanguage id word)
 unfolding value_of track_value
 track_language_read id word short is = rw (numbered_read id word short) (rw (language_read word is) refl)
+
+pub track_tag_read : (id : ℕ) (word : List ℕ) → HasFewDigits id → is_language_tag word ≡ true → value_of form.TrackLanguageTag (with_number id word) ≡ Some (TrackLanguageTag id word)
+unfolding value_of track_value
+track_tag_read id word short is = rw (numbered_read id word short) (rw (tag_read word is) refl)
 
 pub track_flag_read : (id : ℕ) (flag : Bool) → HasFewDigits id → value_of form.TrackFlag (with_number id (flag_word flag)) ≡ Some (TrackFlag id flag)
 unfolding value_of track_flag

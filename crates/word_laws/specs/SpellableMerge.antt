@@ -6,6 +6,7 @@ use Rattle.requests.specs.declared.track.Select.TheVariants as select
 use Rattle.requests.specs.declared.split.SplitWords.{SplitWords}
 use Rattle.requests.specs.declared.split.SplitWords.TheVariants as split
 use Rattle.requests.specs.Lists.{differ}
+use Rattle.requests.specs.Language.{is_language_tag}
 use Rattle.word_values.specs.Values.{is_language}
 use Rattle.requests.specs.declared.merge.FileWords.{FileWords}
 use Rattle.requests.specs.declared.merge.MergeWords.{MergeWords}
@@ -22,7 +23,9 @@ tracks_spoken_of {X} list = map (λ (p : ℕ × X). p.0) list
 abbrev pub named_tracks : FileWords → List ℕ
 named_tracks f = once (flat_map (λ ids. ids) (
     ids_of_select f.video ∷ ids_of_select f.audio ∷ ids_of_select f.subtitles ∷ tracks_spoken_of f.syncs ∷ tracks_spoken_of f.names ∷ tracks_spoken_of f.languages ∷
-    tracks_spoken_of f.defaults ∷ tracks_spoken_of f.forced ∷ tracks_spoken_of f.cues ∷ tracks_spoken_of f.times ∷ []))
+    tracks_spoken_of f.language_tags ∷ tracks_spoken_of f.defaults ∷ tracks_spoken_of f.forced ∷
+    tracks_spoken_of f.flags.enabled ∷ tracks_spoken_of f.flags.hearing_impaired ∷ tracks_spoken_of f.flags.visual_impaired ∷
+    tracks_spoken_of f.flags.text_descriptions ∷ tracks_spoken_of f.flags.original ∷ tracks_spoken_of f.flags.commentary ∷ tracks_spoken_of f.cues ∷ tracks_spoken_of f.times ∷ []))
 
 -- `ids` names at least one track, with numbers of at most 18 digits.
 pub record AreIds (ids : List ℕ) : Type 0 where
@@ -54,6 +57,10 @@ IsText text = lacks 0 text ≡ true
 abbrev pub IsLanguage : List ℕ → Type 0
 IsLanguage word = is_language word ≡ true
 
+-- The word is a language tag of letters, digits and hyphens.
+abbrev pub IsLanguageTag : List ℕ → Type 0
+IsLanguageTag word = is_language_tag word ≡ true
+
 -- The options for the file `f` can be spelled; the tracks that they name are in the canonical order.
 pub record IsMergeFile (f : FileWords) : Type 0 where
   pub name : IsInputName f.name
@@ -63,8 +70,15 @@ pub record IsMergeFile (f : FileWords) : Type 0 where
   pub syncs : AreOfTracks IsDelay f.syncs
   pub names : AreOfTracks IsText f.names
   pub languages : AreOfTracks IsLanguage f.languages
+  pub language_tags : AreOfTracks IsLanguageTag f.language_tags
   pub defaults : AreOfTracks (λ flag. ⊤) f.defaults
   pub forced : AreOfTracks (λ flag. ⊤) f.forced
+  pub enabled : AreOfTracks (λ flag. ⊤) f.flags.enabled
+  pub hearing_impaired : AreOfTracks (λ flag. ⊤) f.flags.hearing_impaired
+  pub visual_impaired : AreOfTracks (λ flag. ⊤) f.flags.visual_impaired
+  pub text_descriptions : AreOfTracks (λ flag. ⊤) f.flags.text_descriptions
+  pub original : AreOfTracks (λ flag. ⊤) f.flags.original
+  pub commentary : AreOfTracks (λ flag. ⊤) f.flags.commentary
   pub cues : AreOfTracks (λ cue. ⊤) f.cues
   pub times : AreOfTracks (λ name. ⊤) f.times
   pub named : f.named ≡ named_tracks f

@@ -69,8 +69,15 @@ file_options file =
     for_tracks (codes "--sync") delay_word file.syncs ∷
     for_tracks (codes "--track-name") (λ name. name) file.names ∷
     for_tracks (codes "--language") (λ name. name) file.languages ∷
+    for_tracks (codes "--language-ietf") (λ tag. tag) file.language_tags ∷
     for_tracks (codes "--default-track-flag") flag_word file.defaults ∷
     for_tracks (codes "--forced-display-flag") flag_word file.forced ∷
+    for_tracks (codes "--track-enabled-flag") flag_word file.flags.enabled ∷
+    for_tracks (codes "--hearing-impaired-flag") flag_word file.flags.hearing_impaired ∷
+    for_tracks (codes "--visual-impaired-flag") flag_word file.flags.visual_impaired ∷
+    for_tracks (codes "--text-descriptions-flag") flag_word file.flags.text_descriptions ∷
+    for_tracks (codes "--original-flag") flag_word file.flags.original ∷
+    for_tracks (codes "--commentary-flag") flag_word file.flags.commentary ∷
     for_tracks (codes "--cues") cues_word file.cues ∷
     for_tracks (codes "--timestamps") (λ name. name) file.times ∷ []
 

@@ -13,16 +13,17 @@ use Rattle.requests.specs.declared.split.SplitWords.TheVariants.{Duration, Times
 use Rattle.word_values.specs.declared.values.ValueForm.{ValueForm}
 use Rattle.word_values.specs.declared.values.ValueForm.TheVariants as form
 use Rattle.word_values.specs.declared.values.Value.{Value}
-use Rattle.word_values.specs.declared.values.Value.TheVariants.{Flag, File, Text, Scale, Blocks, Span, Split, Uuids, Tracks, TrackDelay, TrackText, TrackLanguage, TrackFlag, TrackCues, TrackFile}
+use Rattle.word_values.specs.declared.values.Value.TheVariants.{Flag, File, Text, Scale, Blocks, Span, Split, Uuids, Tracks, TrackDelay, TrackText, TrackLanguage, TrackLanguageTag, TrackFlag, TrackCues, TrackFile}
 use Rattle.requests.specs.declared.track.Select.TheVariants.{Off}
 use Rattle.mkv_io.specs.Characters.{COLON, DASH, char}
 use Rattle.mkv_io.specs.Optional.{◌>>=◌}
 use Rattle.mkv_io.specs.Octets.{cut}
 use Rattle.word_values.specs.Numbers.{from, delay_size, delay, ends, front, clock, time, amount, times_unit, size, uuid}
 use Rattle.requests.specs.Decimal.{below, number, whole}
+use Rattle.requests.specs.Language.{is_language_tag}
 use Rattle.word_values.specs.Lists.{pieces, onto, each, passing, times, span_of, span, spans, uuids, numbers, ids, duration, chapters, split_of, split}
 use Rattle.requests.specs.Lists.{ascend, follow, differ}
-use Rattle.word_values.specs.Values.{flag_of, text, is_language, language, scale, cluster_length, track_and_rest, flag_in, track_flag, cue_word, track_value, value_of}
+use Rattle.word_values.specs.Values.{flag_of, text, is_language, language, language_tag, scale, cluster_length, track_and_rest, flag_in, track_flag, cue_word, track_value, value_of}
 use Rattle.word_values.proofs.AnswerLemmas.{either}
 use Rattle.requests.proofs.DecimalLemmas.{whole_small}
 use Rattle.word_values.specs.Sound.{IsSoundValue}
@@ -210,6 +211,10 @@ language-same : (word t : List ℕ) → language word ≡ Some t → word ≡ t
 unfolding language
 language-same word t is = either (word ≡ t) (is_language word) _ _ _ is (λ found. cc) (λ never. absurd (cc))
 
+tag-same : (word t : List ℕ) → language_tag word ≡ Some t → word ≡ t
+unfolding language_tag
+tag-same word t is = either (word ≡ t) (is_language_tag word) _ _ _ is (λ found. cc) (λ never. absurd (cc))
+
 -- The part after a colon is UTF-8 if the whole word is.
 behind-colon : (word : List ℕ) (p : List ℕ × List ℕ) → IsUtf8 word → cut COLON word ≡ Some p → IsUtf8 p.1
 unfolding cut
@@ -236,6 +241,7 @@ abbrev pub IsTextIf : Type 0 → Value → Type 0
 IsTextIf given (Text t) = (text t ≡ Some t) × (given → IsUtf8 t)
 IsTextIf given (TrackText id t) = given → IsUtf8 t
 IsTextIf given (TrackLanguage id t) = given → IsUtf8 t
+IsTextIf given (TrackLanguageTag id t) = given → IsUtf8 t
 IsTextIf given _ = Unit {0}
 
 -- The value keeps its limits, and its text is UTF-8 if `given` holds.
@@ -265,6 +271,8 @@ track_value-read given form.TrackText id rest v utf8 is =
     mapped (IsRead given) (λ t. TrackText id t) (text rest) v is (λ t here. (tt, λ all. subst IsUtf8 (text-same rest t here) (utf8 all)))
 track_value-read given form.TrackLanguage id rest v utf8 is =
     mapped (IsRead given) (λ t. TrackLanguage id t) (language rest) v is (λ t here. (tt, λ all. subst IsUtf8 (language-same rest t here) (utf8 all)))
+track_value-read given form.TrackLanguageTag id rest v utf8 is =
+    mapped (IsRead given) (λ t. TrackLanguageTag id t) (language_tag rest) v is (λ t here. (tt, λ all. subst IsUtf8 (tag-same rest t here) (utf8 all)))
 track_value-read given form.TrackCues id rest v utf8 is = mapped (IsRead given) (λ t. TrackCues id t) (cue_word rest) v is (λ t here. (tt, tt))
 track_value-read given form.TrackFile id rest v utf8 is = let same : TrackFile id rest ≡ v = cc in subst (IsRead given) same (tt, tt)
 track_value-read given _ id rest v utf8 is = absurd (cc)

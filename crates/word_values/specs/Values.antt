@@ -9,12 +9,13 @@ use Rattle.requests.specs.declared.track.Select.TheVariants as select
 use Rattle.word_values.specs.declared.values.ValueForm.{ValueForm}
 use Rattle.word_values.specs.declared.values.ValueForm.TheVariants as form
 use Rattle.word_values.specs.declared.values.Value.{Value}
-use Rattle.word_values.specs.declared.values.Value.TheVariants.{Flag, File, Text, Scale, Blocks, Span, Split, Uuids, Tracks, TrackDelay, TrackText, TrackLanguage, TrackFlag, TrackCues, TrackFile}
+use Rattle.word_values.specs.declared.values.Value.TheVariants.{Flag, File, Text, Scale, Blocks, Span, Split, Uuids, Tracks, TrackDelay, TrackText, TrackLanguage, TrackLanguageTag, TrackFlag, TrackCues, TrackFile}
 use Rattle.mkv_io.specs.Characters.{COLON, char}
 use Rattle.mkv_io.specs.Optional.{◌>>=◌}
 use Rattle.mkv_io.specs.Octets.{cut}
 use Rattle.word_values.specs.Numbers.{from, delay, ends, front}
 use Rattle.requests.specs.Decimal.{below, number}
+use Rattle.requests.specs.Language.{is_language_tag}
 use Rattle.word_values.specs.Lists.{ids, split, uuids}
 
 -- the value of an option that takes no argument; none if its form needs one
@@ -34,6 +35,10 @@ is_language word = length word == 3 && list_all is_ascii_lowercase word
 -- the language code of three lower-case letters in an argument
 unfoldable pub language : List ℕ → Option (List ℕ)
 language word = if is_language word then Some word else None
+
+-- a language tag
+unfoldable pub language_tag : List ℕ → Option (List ℕ)
+language_tag word = if is_language_tag word then Some word else None
 
 -- 1000 to 10000000 nanoseconds in a tick
 unfoldable pub scale : List ℕ → Option Value
@@ -80,6 +85,7 @@ unfoldable pub track_value : ValueForm → ℕ → List ℕ → Option Value
 track_value form.TrackDelay id rest = option_map (λ t. TrackDelay id t) (delay rest)
 track_value form.TrackText id rest = option_map (λ t. TrackText id t) (text rest)
 track_value form.TrackLanguage id rest = option_map (λ t. TrackLanguage id t) (language rest)
+track_value form.TrackLanguageTag id rest = option_map (λ t. TrackLanguageTag id t) (language_tag rest)
 track_value form.TrackCues id rest = option_map (λ t. TrackCues id t) (cue_word rest)
 track_value form.TrackFile id rest = Some (TrackFile id rest)
 track_value _ id rest = None

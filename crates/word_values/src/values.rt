@@ -10,7 +10,7 @@ use crate::lists::{ids, split, uuids};
 use crate::numbers::{cut_text, delay};
 use crate::usage::ValueEnd;
 use mkv_io::{List, Text};
-use requests::{CueWord, Select, SplitWords, number};
+use requests::{CueWord, Select, SplitWords, is_language_tag, number};
 use std::alloc::{AllocError, Global};
 
 /// Form of an option's value. A track is named by its ID, followed by `:`.
@@ -40,6 +40,8 @@ pub enum ValueForm {
     TrackText,
     /// A track and three lower-case letters.
     TrackLanguage,
+    /// A track and a language tag.
+    TrackLanguageTag,
     /// Only a track, or a track and 0 or 1.
     TrackFlag,
     /// A track and `none`, `iframes` or `all`.
@@ -67,6 +69,7 @@ pub enum Value {
     TrackDelay(u64, i64),
     TrackText(u64, Text),
     TrackLanguage(u64, Text),
+    TrackLanguageTag(u64, Text),
     TrackFlag(u64, bool),
     TrackCues(u64, CueWord),
     /// A track and the name of a file.
@@ -102,6 +105,7 @@ pub fn value_of(alloc: Global, form: ValueForm, word: &str) -> Result<Value, Val
         ValueForm::TrackDelay
         | ValueForm::TrackText
         | ValueForm::TrackLanguage
+        | ValueForm::TrackLanguageTag
         | ValueForm::TrackCues
         | ValueForm::TrackFile => {
             let (id, rest) = track_and_rest(word).ok_or(ValueEnd::Bad)?;
@@ -122,6 +126,9 @@ fn track_value(alloc: Global, form: ValueForm, id: u64, rest: &str) -> Result<Va
         }
         ValueForm::TrackText => Ok(Value::TrackText(id, text(alloc, rest)?)),
         ValueForm::TrackLanguage => Ok(Value::TrackLanguage(id, language(alloc, rest)?)),
+        ValueForm::TrackLanguageTag => {
+            Ok(Value::TrackLanguageTag(id, language_tag(alloc, rest)?))
+        }
         ValueForm::TrackCues => {
             let cues = cue_word(rest).ok_or(ValueEnd::Bad)?;
             Ok(Value::TrackCues(id, cues))
@@ -167,6 +174,17 @@ fn language(alloc: Global, word: &str) -> Result<Text, ValueEnd>
     ensures { ReadsValue result (spec.language word.now) }
 {
     if !is_language(word.as_bytes()) {
+        return Err(ValueEnd::Bad);
+    }
+    Ok(name(alloc, word)?)
+}
+
+/// Reads a language tag.
+#[tactic(auto, unfolding(crate::specs::Values::language_tag))]
+fn language_tag(alloc: Global, word: &str) -> Result<Text, ValueEnd>
+    ensures { ReadsValue result (spec.language_tag word.now) }
+{
+    if !is_language_tag(word.as_bytes()) {
         return Err(ValueEnd::Bad);
     }
     Ok(name(alloc, word)?)
