@@ -7,19 +7,21 @@ ghost use Rattle.mkv_host.specs.Errors.{IsUnsynced};
 use crate::locks::lock;
 use crate::pair::OpenFile;
 use crate::sharing::share_new;
-use crate::system::{Node, above_streams, folder_of, is_standard_output, node_of};
+use crate::system::{
+    Node, above_streams, folder_of, is_standard_output, make_private, node_of, open_again,
+};
 use mkv_io::{LONGEST_FILE, Text};
-use std::fs::{File, Metadata, OpenOptions};
+use std::fs::{File, Metadata};
 use std::io::ErrorKind;
-use std::os::unix::fs::{MetadataExt, OpenOptionsExt};
+use std::os::unix::fs::MetadataExt;
 use std::{fs, io};
 
 /// Name of this process in the file system; its owner is the user who runs it.
 const THIS_PROCESS: &str = "/proc/self";
 
 /// Opens the regular file `name` to read and write it, and locks it. Refuses a link, a file that another process has
-/// locked, and a file that is standard output, too. Anything but a regular file isn't opened, since that may wait for
-/// ever.
+/// locked, one that has lost the name meanwhile, and one that is open as standard output. Anything but a regular file
+/// isn't opened, since that may wait for ever.
 pub fn open_media<R: fs::Files<File = File>>(
     system: &R,
     name: Text,
@@ -27,7 +29,7 @@ pub fn open_media<R: fs::Files<File = File>>(
     ensures { IfOk result (λ answer. answer.0.name ≡ name) }
 {
     node_of(&fs::symlink_metadata(system, name.as_str())?)?;
-    let file = above_streams(open_again(system, name.as_str())?)?;
+    let file = open_again(system, name.as_str())?;
     lock(&file)?;
     let found = file.metadata()?;
     let node = node_of(&found)?;
@@ -44,11 +46,6 @@ pub fn has_name<R: fs::Files<File = File>>(system: &R, name: &str, node: Node) -
         Ok(found) => node_of(&found).is_ok_and(|named| named == node),
         Err(_) => false,
     }
-}
-
-/// Opens the existing file `name` for reading and writing.
-fn open_again<R: fs::Files<File = File>>(system: &R, name: &str) -> io::Result<File> {
-    OpenOptions::new().read(true).write(true).open(system, name)
 }
 
 /// Returns the open file with its length. Refuses a file longer than `LONGEST_FILE`.
@@ -73,7 +70,7 @@ pub fn open_sidecar<R: fs::Files<File = File>>(
 ) -> io::Result<OpenFile>
     ensures { IfOk result (λ opened. opened.name ≡ name) }
 {
-    match make_new(system, name.as_str()) {
+    match make_private(system, name.as_str()) {
         Ok(file) => {
             share_new(&file, media)?;
             let found = file.metadata()?;
@@ -95,7 +92,7 @@ fn open_existing<R: fs::Files<File = File>>(
     ensures { IfOk result (λ opened. opened.name ≡ name) }
 {
     only_name(&fs::symlink_metadata(system, name.as_str())?)?;
-    let file = above_streams(open_again(system, name.as_str())?)?;
+    let file = open_again(system, name.as_str())?;
     let found = file.metadata()?;
     let node = only_name(&found)?;
     if !has_name(system, name.as_str(), node) || node == node_of(media)? {
@@ -123,30 +120,12 @@ fn is_strangers<R: fs::Files<File = File>>(
     }
 }
 
-/// Makes a new file that only its owner may read or write.
-fn make_new<R: fs::Files<File = File>>(system: &R, name: &str) -> io::Result<File>
-    ensures { IfOk result (λ file. pos 2 <ℤ file_raw_fd file) }
-{
-    let file = OpenOptions::new()
-        .read(true)
-        .write(true)
-        .create_new(true)
-        .mode(0o600)
-        .open(system, name)?;
-    above_streams(file)
-}
-
 /// Returns the node of the file `found`. Refuses a file with several names.
 fn only_name(found: &Metadata) -> io::Result<Node> {
     if found.nlink() != 1 {
         return Err(ErrorKind::InvalidInput.into());
     }
     node_of(found)
-}
-
-/// Syncs `file`, so that the bytes that are read from it are on the disk.
-pub fn sync_on_open(file: &File) -> io::Result<()> {
-    file.sync_all()
 }
 
 /// Syncs the folder of `name`, so that it has the name. Ignores that a file system can't sync a folder.

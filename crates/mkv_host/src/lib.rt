@@ -16,9 +16,7 @@ mod sharing;
 mod system;
 mod writer;
 
-pub use outputs::copy_access;
 pub use real_disk::RealDisk;
 pub use real_files::RealFiles;
 pub use real_report::RealReport;
-pub use system::{Node, above_streams, folder_of, is_missing, node_of};
 pub use writer::{WriteAt, write_from};

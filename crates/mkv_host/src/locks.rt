@@ -26,8 +26,8 @@ pub fn own(file: &File) -> io::Result<()> {
     unless_held(file.try_lock())
 }
 
-/// Ignores every failure to lock, except that another run holds the lock. An edit of the file fails on such errors,
-/// too.
+/// Ignores every failure to lock, except that another run holds the lock. An edit fails on such a failure, or knows
+/// that the file system has no locks.
 fn unless_held(outcome: Result<(), TryLockError>) -> io::Result<()> {
     match outcome {
         Err(TryLockError::WouldBlock) => Err(ErrorKind::WouldBlock.into()),

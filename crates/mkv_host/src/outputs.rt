@@ -5,11 +5,11 @@ ghost use Rattle.std.specs.Fd.{file_raw_fd};
 ghost use Rattle.mkv_host.specs.Errors.{IsIrreplaceable};
 
 use crate::locks::{own, share};
-use crate::system::{Node, above_streams, folder_of, node_of};
+use crate::system::{Node, above_streams, folder_of, make_private, node_of, open_again};
 use std::alloc::Global;
 use std::fs::{File, Metadata, OpenOptions, Permissions};
 use std::io::ErrorKind;
-use std::os::unix::fs::{MetadataExt, OpenOptionsExt, PermissionsExt, fchown};
+use std::os::unix::fs::{MetadataExt, PermissionsExt, fchown};
 use std::{fs, io};
 
 /// Number of temporary names that are tried for a file that replaces another.
@@ -33,7 +33,7 @@ pub fn node_at<R: fs::Files<File = File>>(system: &R, name: &str) -> io::Result<
     }
 }
 
-/// Opens the file `name` to write and read it, or makes it unless `is_there`, and returns whether it is certainly
+/// Opens the file `name` to read and write it if `is_there`, or else makes it. Also returns whether it is certainly
 /// new. An existing file keeps its bytes.
 pub fn open_or_make<R: fs::Files<File = File>>(
     system: &R,
@@ -42,17 +42,11 @@ pub fn open_or_make<R: fs::Files<File = File>>(
 ) -> io::Result<(File, bool)>
     ensures { IfOk result (λ answer. pos 2 <ℤ file_raw_fd answer.0) }
 {
-    let (file, is_new) = if is_there {
-        (open_again(system, name)?, false)
-    } else {
-        make_new(system, name)?
-    };
+    if is_there {
+        return Ok((open_again(system, name)?, false));
+    }
+    let (file, is_new) = make_new(system, name)?;
     Ok((above_streams(file)?, is_new))
-}
-
-/// Opens the existing file `name` for reading and writing.
-fn open_again<R: fs::Files<File = File>>(system: &R, name: &str) -> io::Result<File> {
-    OpenOptions::new().read(true).write(true).open(system, name)
 }
 
 /// Makes the file `name`, and returns whether it is certainly new. If `name` is a link to a missing file, that file
@@ -105,7 +99,7 @@ fn replaced_at<R: fs::Files<File = File>>(
     }
     for number in 0..MAX_TRIES {
         let beside = format!(in alloc; "{}/.mkvsuite-{number}.new", folder_of(place))?;
-        match make_beside(system, beside.as_str()) {
+        match make_private(system, beside.as_str()) {
             Ok(file) => return put_in_place(system, file, beside.as_str(), place, was),
             Err(error) if error.kind() == ErrorKind::AlreadyExists => {}
             Err(error) => return Err(error),
@@ -145,16 +139,6 @@ pub fn emptied<R: fs::Files<File = File>>(
     Ok(output)
 }
 
-/// Makes a new file that only its owner may read or write.
-fn make_beside<R: fs::Files<File = File>>(system: &R, name: &str) -> io::Result<File> {
-    OpenOptions::new()
-        .read(true)
-        .write(true)
-        .create_new(true)
-        .mode(0o600)
-        .open(system, name)
-}
-
 /// Gives the new file `beside` the mode and owner of `was`, and then the name `place`. If this fails, removes the new
 /// file.
 fn put_in_place<R: fs::Files<File = File>>(
@@ -164,6 +148,7 @@ fn put_in_place<R: fs::Files<File = File>>(
     place: &str,
     was: &Metadata,
 ) -> io::Result<Output>
+    requires { pos 2 <ℤ file_raw_fd file }
     ensures { IfOk result (λ made. made.is_new ≡ true) }
 {
     let outcome = copy_permissions(file, was);
@@ -179,11 +164,12 @@ fn put_in_place<R: fs::Files<File = File>>(
 
 /// Gives a new file the mode and owner of `was`, and checks that it has them.
 fn copy_permissions(file: File, was: &Metadata) -> io::Result<Output>
+    requires { pos 2 <ℤ file_raw_fd file }
     ensures { IfOk result (λ made. made.is_new ≡ true) }
 {
-    let file = above_streams(file)?;
     share(&file)?;
-    copy_access(&file, was)?;
+    copy_owner(&file, was)?;
+    set_mode(&file, was.mode() & 0o7777)?;
     let found = file.metadata()?;
     if (found.uid(), found.gid(), found.mode()) != (was.uid(), was.gid(), was.mode()) {
         return Err(ErrorKind::PermissionDenied.into());
@@ -194,12 +180,6 @@ fn copy_permissions(file: File, was: &Metadata) -> io::Result<Output>
         node,
         is_new: true,
     })
-}
-
-/// Gives `file` the mode of `was`, and its owner and group, as far as the system permits.
-pub fn copy_access(file: &File, was: &Metadata) -> io::Result<()> {
-    copy_owner(file, was)?;
-    set_mode(file, was.mode() & 0o7777)
 }
 
 /// Gives `file` the owner and group of `was`, as far as the system permits.

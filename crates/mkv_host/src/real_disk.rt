@@ -6,7 +6,7 @@ ghost use Rattle.mkv_host.specs.OpenedPair.{is_live, name_in, size_in};
 ghost use Rattle.mkv_io.specs.declared.outside.TheConstants.{LONGEST_FILE};
 ghost use Rattle.sidecar_edit.specs.Name.{sidecar_of};
 
-use crate::disk_system::{has_name, open_media, open_sidecar, settle_folder, sync_on_open};
+use crate::disk_system::{has_name, open_media, open_sidecar, settle_folder};
 use crate::pair::{OpenFile, OpenPair};
 use crate::sharing::{HOLDING, QUIET, share_bits};
 use crate::system::{is_missing, node_of};
@@ -164,8 +164,8 @@ fn open_both<R: fs::Files<File = File>>(
     let Ok(sidecar) = open_sidecar(system, sidecar, &found) else {
         return Err(OpenFault::Failed);
     };
-    let is_sure = sync_on_open(&media.file).is_ok()
-        && sync_on_open(&sidecar.file).is_ok()
+    let is_sure = media.file.sync_all().is_ok()
+        && sidecar.file.sync_all().is_ok()
         && settle_folder(system, media.name.as_str()).is_ok();
     if !is_sure {
         return Err(OpenFault::Failed);

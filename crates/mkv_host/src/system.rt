@@ -1,4 +1,4 @@
-//! Calls of the system that open files to be read.
+//! Calls of the system that examine and open files.
 
 ghost use Rattle.std.specs.Prelude.{◌≡◌, ◌↔◌, ℕ, ◌≤◌, pos, ◌<ℤ◌, IfOk, IsOk, IsTrue};
 ghost use Rattle.std.specs.Fd.{file_raw_fd};
@@ -9,10 +9,10 @@ ghost use Rattle.mkv_host.specs.Errors.{IsMissing};
 ghost use Rattle.mkv_io.specs.declared.outside.TheConstants.{LONGEST_FILE};
 
 use mkv_io::LONGEST_FILE;
-use std::fs::{File, Metadata};
+use std::fs::{File, Metadata, OpenOptions};
 use std::io::ErrorKind;
 use std::os::fd::AsRawFd;
-use std::os::unix::fs::MetadataExt;
+use std::os::unix::fs::{MetadataExt, OpenOptionsExt};
 use std::path::Path;
 use std::{fs, io};
 
@@ -50,7 +50,7 @@ pub fn node_of(found: &Metadata) -> io::Result<Node>
     })
 }
 
-/// Checks whether `node` is standard output, too. This is never so if standard output isn't a regular file or can't
+/// Checks whether standard output is the file `node`. Returns false if standard output isn't a regular file or can't
 /// be examined.
 pub fn is_standard_output<R: fs::Files<File = File>>(system: &R, node: Node) -> bool {
     match fs::metadata(system, STANDARD_OUTPUT) {
@@ -82,6 +82,32 @@ pub fn above_streams(file: File) -> io::Result<File>
         return Err(ErrorKind::Other.into());
     }
     Ok(moved)
+}
+
+/// Opens the file `name` to read and write it. The file keeps its bytes.
+pub fn open_again<R: fs::Files<File = File>>(system: &R, name: &str) -> io::Result<File>
+    ensures { IfOk result (λ file. pos 2 <ℤ file_raw_fd file) }
+{
+    let opened = OpenOptions::new().read(true).write(true).open(system, name);
+    above_streams(opened?)
+}
+
+/// Makes the file `name`, which only its owner may read or write. Fails if the name is taken. If the file is made, but
+/// can't be kept open, removes it.
+pub fn make_private<R: fs::Files<File = File>>(system: &R, name: &str) -> io::Result<File>
+    ensures { IfOk result (λ file. pos 2 <ℤ file_raw_fd file) }
+{
+    let file = OpenOptions::new()
+        .read(true)
+        .write(true)
+        .create_new(true)
+        .mode(0o600)
+        .open(system, name)?;
+    let moved = above_streams(file);
+    if moved.is_err() {
+        let _ = fs::remove_file(system, name);
+    }
+    moved
 }
 
 /// Opens the regular file `name` to read it, and returns it with its length and its node. Refuses a file longer than
