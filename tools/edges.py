@@ -18,6 +18,9 @@ OF_OPENING = ("error=EMFILE",)
 CALLS = "statx,openat,flock,fchown,fchmod,fsync,pread64,pwrite64,ftruncate,rename,unlink,write,close,fcntl,readlink,getcwd"
 OLD = b"an old file that has another name" * 9
 STRANGER = 65534
+JOURNAL = "film.mkv.mkvedit"
+# end of the bytes at the front of a new Matroska file that are written last: the Segment's size and the SeekHead
+FRONT = 308
 
 # input of a run: arguments, files, the outputs among them, and other names or links of files; an edit is of film.mkv
 Job = collections.namedtuple("Job", "words files outputs links", defaults=((), {}))
@@ -58,6 +61,16 @@ def lay(folder, job):
             os.link(os.path.join(folder, other), os.path.join(folder, name))
 
 
+def traced(calls, to="/dev/null"):
+    """Returns the command that writes the calls `calls` of a program to the file `to`."""
+    return ["strace", "-qq", "-o", to, "-e", f"trace={calls}"]
+
+
+def injected(inject):
+    """Returns the command that runs a program with a fault at a call, as strace has them."""
+    return [*traced(inject.split(":")[0]), "-e", f"inject={inject}"]
+
+
 class Tried:
     """The program, a folder to try it in, and its small files."""
 
@@ -67,23 +80,22 @@ class Tried:
         self.edit = ["propedit", "film.mkv", "-e", "track:1", "-s", "name=Hi"]
 
     def run(self, words, inject=None, trace=None, **how):
-        around = []
-        if inject:
-            around = ["strace", "-qq", "-o", trace or "/dev/null", "-e", "trace=" + inject.split(":")[0], "-e", f"inject={inject}"]
-        elif trace:
-            around = ["strace", "-qq", "-o", trace, "-e", f"trace={CALLS}"]
+        around = injected(inject) if inject else traced(CALLS, trace) if trace else []
         ran = subprocess.run([*around, self.program, *words], stdout=subprocess.PIPE, stderr=subprocess.PIPE, cwd=how.pop("cwd", self.folder), timeout=60, **how)
         return Ran(ran.returncode, ran.stdout.decode(errors="replace") + ran.stderr.decode(errors="replace"))
 
-    def start(self, words, inject=None, **how):
-        around = ["strace", "-qq", "-o", "/dev/null", "-e", "trace=" + inject.split(":")[0], "-e", f"inject={inject}"] if inject else []
-        return subprocess.Popen([*around, self.program, *words], stdout=subprocess.PIPE, cwd=self.folder, **how)
+    def start(self, words, inject=None):
+        around = injected(inject) if inject else []
+        return subprocess.Popen([*around, self.program, *words], stdout=subprocess.PIPE, cwd=self.folder)
 
     def at(self, name):
         return os.path.join(self.folder, name)
 
     def read(self, name):
         return bytes_of(self.at(name))
+
+    def mode(self, name):
+        return stat.S_IMODE(os.stat(self.at(name)).st_mode)
 
 
 # ---- a system call that fails
@@ -136,7 +148,8 @@ def faults_of_outputs(tried, job, ran, good, left):
         if tried.read(name) != left[name]:
             yield f"{name} isn't complete, but was reported as written"
     for name in job.outputs:
-        if tried.read(name) not in (None, job.files.get(name)) and not is_begun(tried.read(name), left[name]):
+        now = tried.read(name)
+        if now != job.files.get(name) and (now is None or not is_begun(now, left[name], front_of(name, job.links))):
             yield f"{name} is neither old nor a first part"
     if ran.status == 0 and (ran.said != good.said or any(tried.read(name) != left[name] for name in job.outputs)):
         yield "status 0, but not all is done"
@@ -144,10 +157,15 @@ def faults_of_outputs(tried, job, ran, good, left):
         yield f"status {ran.status}"
 
 
-def is_begun(content, whole):
-    """Checks whether `content` is a first part of an output, except for its SeekHead and the Segment's size, which are written
-    last."""
-    return len(content) <= len(whole) and content[308:] == whole[308:len(content)]
+def front_of(name, links):
+    """Returns the number of bytes at the front of an output some of which are written last. A link may give it a Matroska name."""
+    names = [name, *(link for link, other in links.items() if other == f"-> {name}")]
+    return FRONT if any(it.endswith(".mkv") for it in names) else 0
+
+
+def is_begun(content, whole, front):
+    """Checks whether `content` is a first part of an output, except for `front` bytes."""
+    return len(content) <= len(whole) and content[front:] == whole[front:len(content)]
 
 
 def is_live(journal):
@@ -157,8 +175,8 @@ def is_live(journal):
 def faults_of_edits(tried, job, ran, good, left):
     """Returns the faults after a run that edits film.mkv, and after a recovery of it."""
     # a film beside a live record must become the new one
-    old = None if is_live(job.files.get("film.mkv.mkvedit")) else job.files["film.mkv"]
-    new, now, pending = left["film.mkv"], tried.read("film.mkv"), is_live(tried.read("film.mkv.mkvedit"))
+    old = None if is_live(job.files.get(JOURNAL)) else job.files["film.mkv"]
+    new, now, pending = left["film.mkv"], tried.read("film.mkv"), is_live(tried.read(JOURNAL))
     if now not in (old, new) and not pending:
         yield "the film is torn, and no record is live"
     if ran.status == 0 and (now != new or pending or ran.said != good.said):
@@ -187,17 +205,17 @@ def output_jobs(tried):
 def edit_jobs(tried, half, record):
     film = {"film.mkv": tried.film}
     yield "propedit", Job(tried.edit, film)
-    yield "propedit with a quiet journal", Job(tried.edit, {**film, "film.mkv.mkvedit": b"\0"})
-    yield "propedit over an older record", Job(tried.edit, {**film, "film.mkv.mkvedit": b"\0" + record[1:]})
+    yield "propedit with a quiet journal", Job(tried.edit, {**film, JOURNAL: b"\0"})
+    yield "propedit over an older record", Job(tried.edit, {**film, JOURNAL: b"\0" + record[1:]})
     yield "reindex", Job(["reindex", "film.mkv"], film)
-    yield "recover", Job(["recover", "film.mkv"], {"film.mkv": half, "film.mkv.mkvedit": record})
+    yield "recover", Job(["recover", "film.mkv"], {"film.mkv": half, JOURNAL: record})
 
 
 def stopped_edit(tried):
     """Returns the film and its journal after an edit that is stopped in its writes to the film."""
     lay(tried.folder, Job(tried.edit, {"film.mkv": tried.film}))
     tried.run(tried.edit, "pwrite64:signal=KILL:when=5")
-    return tried.read("film.mkv"), tried.read("film.mkv.mkvedit")
+    return tried.read("film.mkv"), tried.read(JOURNAL)
 
 
 def errors(tried):
@@ -289,30 +307,30 @@ def film_swapped(tried):
     for words in (tried.edit, ["reindex", "film.mkv"]):
         lay(tried.folder, Job(words, {"film.mkv": tried.film, "other.mkv": tried.other}, (), {"kept": "film.mkv"}))
         edit = tried.start(words, "fsync:delay_enter=600000:when=1")
-        until(lambda: tried.read("film.mkv.mkvedit") is not None)
+        until(lambda: tried.read(JOURNAL) is not None)
         os.replace(tried.at("other.mkv"), tried.at("film.mkv"))
         yield from wanted(*ends(edit), 4, "fault: disk\n")
         yield from same("the film that was opened", tried.read("kept"), tried.film)
         yield from same("the film that came", tried.read("film.mkv"), tried.other)
-        yield from same("the journal", (tried.read("film.mkv.mkvedit") or b"")[:1] == b"\xa5", False)
+        yield from same("the journal", (tried.read(JOURNAL) or b"")[:1] == b"\xa5", False)
 
 
 def film_swapped_at_recovery(tried):
     half, record = stopped_edit(tried)
-    lay(tried.folder, Job([], {"film.mkv": half, "film.mkv.mkvedit": record, "other.mkv": tried.other}, (), {"kept": "film.mkv"}))
+    lay(tried.folder, Job([], {"film.mkv": half, JOURNAL: record, "other.mkv": tried.other}, (), {"kept": "film.mkv"}))
     recovery = tried.start(["recover", "film.mkv"], "fsync:delay_enter=600000:when=1")
     time.sleep(0.3)
     os.replace(tried.at("other.mkv"), tried.at("film.mkv"))
     yield from wanted(*ends(recovery), 4, "fault: disk\n")
     yield from same("the film that was opened", tried.read("kept"), half)
-    yield from same("the journal", tried.read("film.mkv.mkvedit"), record)
+    yield from same("the journal", tried.read(JOURNAL), record)
 
 
 def merge_over_an_edit(tried):
     """An output that is a film in an edit isn't replaced."""
     lay(tried.folder, Job([], {"film.mkv": tried.film, "a.mkv": tried.other}))
     edit = tried.start(tried.edit, "fsync:delay_enter=400000:when=1")
-    until(lambda: tried.read("film.mkv.mkvedit") is not None)
+    until(lambda: tried.read(JOURNAL) is not None)
     yield from wanted(tried.run(["merge", "-o", "film.mkv", "a.mkv"]), 4, "fault: files\n")
     yield from wanted(*ends(edit), 0, "edited film.mkv\n")
 
@@ -330,22 +348,21 @@ def mounted(place, *words):
         subprocess.run(["umount", "-l", place], check=False)
 
 
-def kept_over(tried, folder, words, status, said, **how):
+MERGE = ["merge", "-o", "out", "a.mkv"]
+WROTE = "wrote out: 2 blocks\n"
+
+
+def kept_over(tried, folder, status, said, prepare=None):
     """An output with two names is replaced in a folder; the other name keeps its bytes."""
     put(os.path.join(folder, "a.mkv"), tried.other)
     put(os.path.join(folder, "out"), OLD)
     os.link(os.path.join(folder, "out"), os.path.join(folder, "kept"))
-    prepare = how.pop("prepare", None)
     if prepare:
         prepare(folder)
-    yield from wanted(tried.run(words, cwd=folder, **how), status, said)
+    yield from wanted(tried.run(MERGE, cwd=folder), status, said)
     yield from same("the other name", bytes_of(os.path.join(folder, "kept")), OLD)
     if status:
         yield from same("the output", bytes_of(os.path.join(folder, "out")), OLD)
-
-
-MERGE = ["merge", "-o", "out", "a.mkv"]
-WROTE = "wrote out: 2 blocks\n"
 
 
 def odd_folders(tried):
@@ -353,14 +370,14 @@ def odd_folders(tried):
     fresh(tried.folder)
     odd = os.path.join(os.fsencode(tried.folder), b"caf\xe9")
     os.mkdir(odd)
-    yield from kept_over(tried, os.fsdecode(odd), MERGE, 0, WROTE)
+    yield from kept_over(tried, os.fsdecode(odd), 0, WROTE)
     fresh(tried.folder)
 
     def use_names(folder):
         for number in range(100):
             put(os.path.join(folder, f".mkvsuite-{number}.new"), b"")
 
-    yield from kept_over(tried, tried.folder, MERGE, 4, "fault: files\n", prepare=use_names)
+    yield from kept_over(tried, tried.folder, 4, "fault: files\n", use_names)
 
 
 def deep_folder(tried):
@@ -372,7 +389,7 @@ def deep_folder(tried):
         for _ in range(22):
             os.mkdir("d" * 200)
             os.chdir("d" * 200)
-        yield from kept_over(tried, ".", MERGE, 0, WROTE)
+        yield from kept_over(tried, ".", 0, WROTE)
     finally:
         os.chdir(here)
 
@@ -399,7 +416,7 @@ def no_room(tried):
                 for number in range(9):
                     put(os.path.join(folder, f"f{number}"), b"")
 
-        yield from kept_over(tried, place, MERGE, 4, "fault: files\n", prepare=fill)
+        yield from kept_over(tried, place, 4, "fault: files\n", fill)
 
 
 def mount_point(tried):
@@ -470,10 +487,10 @@ def strangers_journal(tried):
         for words in (tried.edit, ["recover", "film.mkv"], ["reindex", "film.mkv"]):
             fresh(tried.folder)
             put(tried.at("film.mkv"), tried.film, 0o600)
-            put(tried.at("film.mkv.mkvedit"), content, 0o666, STRANGER)
+            put(tried.at(JOURNAL), content, 0o666, STRANGER)
             yield from wanted(tried.run(words), 4, "fault: disk\n")
             yield from same("the film", tried.read("film.mkv"), tried.film)
-            yield from same("the journal", tried.read("film.mkv.mkvedit"), content)
+            yield from same("the journal", tried.read(JOURNAL), content)
             if said:
                 yield from wanted(tried.run(["info", "film.mkv"]), 2, said)
 
@@ -484,10 +501,9 @@ def owners_journal(tried):
     os.chmod(tried.folder, 0o777)
     put(tried.at("film.mkv"), tried.film, 0o644, STRANGER)
     yield from wanted(tried.run(tried.edit), 0, "edited film.mkv\n")
-    found = os.stat(tried.at("film.mkv.mkvedit"))
-    yield from same("the journal's owner", (found.st_uid, stat.S_IMODE(found.st_mode)), (STRANGER, 0o644))
+    yield from same("the journal's owner", (os.stat(tried.at(JOURNAL)).st_uid, tried.mode(JOURNAL)), (STRANGER, 0o644))
     put(tried.at("film.mkv"), tried.film, 0o644, STRANGER)
-    put(tried.at("film.mkv.mkvedit"), tried.record, 0o600, STRANGER)
+    put(tried.at(JOURNAL), tried.record, 0o600, STRANGER)
     yield from wanted(tried.run(["recover", "film.mkv"]), 0, "recovered film.mkv\n")
 
 
@@ -498,9 +514,9 @@ def access_list(tried):
     entries = ((1, 6, 2**32 - 1), (2, 6, 1001), (4, 0, 2**32 - 1), (16, 6, 2**32 - 1), (32, 0, 2**32 - 1))
     os.setxattr(tried.at("film.mkv"), "system.posix_acl_access", struct.pack("<I", 2) + b"".join(struct.pack("<HHI", *entry) for entry in entries))
     tried.run(tried.edit, "pwrite64:signal=KILL:when=5")
-    yield from same("the mode of a journal with a record", stat.S_IMODE(os.stat(tried.at("film.mkv.mkvedit")).st_mode), 0o600)
+    yield from same("the mode of a journal with a record", tried.mode(JOURNAL), 0o600)
     yield from wanted(tried.run(["recover", "film.mkv"]), 0, "recovered film.mkv\n")
-    yield from same("the mode of one without", stat.S_IMODE(os.stat(tried.at("film.mkv.mkvedit")).st_mode), 0o640)
+    yield from same("the mode of one without", tried.mode(JOURNAL), 0o640)
 
 
 WITH_STRACE = (unsynced_folder, lock_that_fails, run_beside_run, film_swapped, film_swapped_at_recovery, merge_over_an_edit)
