@@ -50,10 +50,10 @@ def fresh(folder):
 
 
 def lay(folder, job):
-    """Makes the files of a job, their other names, and links."""
+    """Makes the files of a job, their other names, and links. Only the owner may read a live journal."""
     fresh(folder)
     for name, content in job.files.items():
-        put(os.path.join(folder, name), content)
+        put(os.path.join(folder, name), content, 0o600 if is_live(content) else 0o644)
     for name, other in job.links.items():
         if other.startswith("-> "):
             os.symlink(other.removeprefix("-> "), os.path.join(folder, name))
@@ -172,6 +172,21 @@ def is_live(journal):
     return journal is not None and journal[:1] == b"\xa5"
 
 
+def has_record(journal):
+    """Checks whether a journal has a record, or the rest of one, after its gate."""
+    return journal is not None and len(journal) > 1
+
+
+def faults_of_mode(tried, before):
+    """Returns the fault if only the owner can read a journal without a record, or if others can read one. A record that was there
+    before, in the journal `before`, doesn't count."""
+    journal = tried.read(JOURNAL)
+    if journal is not None and not (has_record(journal) and journal == before):
+        wanted = 0o600 if has_record(journal) else 0o644
+        if tried.mode(JOURNAL) != wanted:
+            yield f"a journal of {len(journal)} bytes has the mode {tried.mode(JOURNAL):o}"
+
+
 def faults_of_edits(tried, job, ran, good, left):
     """Returns the faults after a run that edits film.mkv, and after a recovery of it."""
     # a film beside a live record must become the new one
@@ -185,9 +200,13 @@ def faults_of_edits(tried, job, ran, good, left):
         yield f"printed {ran.said!r} for another film"
     if ran.status not in (0, 4, -9, 137):
         yield f"status {ran.status}"
+    # a journal without a record has its mode after the next run
+    if has_record(tried.read(JOURNAL)):
+        yield from faults_of_mode(tried, job.files.get(JOURNAL))
     again = tried.run(["recover", "film.mkv"])
     if again.status or tried.read("film.mkv") not in (old, new):
         yield f"a recovery prints {again.said!r}, and the film is neither old nor new"
+    yield from faults_of_mode(tried, job.files.get(JOURNAL))
 
 
 def output_jobs(tried):

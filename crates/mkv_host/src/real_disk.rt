@@ -15,9 +15,9 @@ use mkv_disk::{Disk, MEDIA};
 use mkv_io::{Failed, FileId, LONGEST_FILE, OpenFault, Reads, Text};
 use sidecar_edit::sidecar_name;
 use std::alloc::{AllocError, Global};
-use std::fs;
 use std::fs::{File, Metadata};
 use std::os::unix::fs::FileExt;
+use std::{fs, io};
 
 /// Film and its journal. A sync makes a file's bytes and its length durable. When a pair is opened, both files are
 /// synced before anything is read, so that the bytes that are read are on the disk.
@@ -100,21 +100,22 @@ fn is_named<R: fs::Files<File = File>>(system: &R, name: &str, open: &Metadata) 
     node_of(open).is_ok_and(|node| has_name(system, name, node))
 }
 
-/// Lets only the owner read the journal, before the first byte of a record is written to it.
-fn hide_record(pair: &Option<OpenPair>, file: FileId) {
-    if let Some(open) = pair {
-        if file != MEDIA && !open.is_changed && !open.is_noted {
-            share_bits(&open.sidecar.file, &open.media.file, HOLDING);
+/// Lets only the owner read the journal before a write to it that ends at the offset `end`, if this is the first one
+/// of a record.
+fn hide_record(pair: &Option<OpenPair>, file: FileId, end: u64) -> io::Result<()> {
+    match pair {
+        Some(open) if file != MEDIA && open.sidecar.size <= 1 && end > 1 => {
+            share_bits(&open.sidecar.file, &open.media.file, HOLDING)
         }
+        _ => Ok(()),
     }
 }
 
-/// Lets others read the journal again after an edit is made: they look there for a pending edit.
-fn show_quiet(pair: &Option<OpenPair>) {
-    if let Some(open) = pair {
-        if open.is_changed && open.sidecar.size <= 1 {
-            share_bits(&open.sidecar.file, &open.media.file, QUIET);
-        }
+/// Lets others read the journal `sidecar` if it has no record: they look there for a pending edit. Call it after a
+/// sync, so that the disk has no record either. Ignores a failure.
+fn show_quiet(sidecar: &OpenFile, media: &OpenFile) {
+    if sidecar.size <= 1 {
+        let _ = share_bits(&sidecar.file, &media.file, QUIET);
     }
 }
 
@@ -170,6 +171,7 @@ fn open_both<R: fs::Files<File = File>>(
     if !is_sure {
         return Err(OpenFault::Failed);
     }
+    show_quiet(&sidecar, &media);
     Ok(OpenPair {
         media,
         sidecar,
@@ -279,12 +281,12 @@ impl<'a, R: fs::Files<File = File>> Disk for RealDisk<'a, R> {
         if at > LONGEST_FILE
             || len > LONGEST_FILE - at
             || !is_as_opened(self.system, &self.pair, file)
+            || hide_record(&self.pair, file, at + len).is_err()
         {
             note_failure(&mut self.writing_faults);
             return Err(Failed);
         }
         let size = open.size.max(at + len);
-        hide_record(&self.pair, file);
         if write_from(&mut &open.file, at, bytes) < bytes.len() {
             note_failure(&mut self.writing_faults);
             return Err(Failed);
@@ -312,7 +314,10 @@ impl<'a, R: fs::Files<File = File>> Disk for RealDisk<'a, R> {
             note_failure(&mut self.writing_faults);
             return Err(Failed);
         }
-        show_quiet(&self.pair);
+        match &self.pair {
+            Some(open) if file != MEDIA => show_quiet(&open.sidecar, &open.media),
+            _ => {}
+        }
         Ok(())
     }
 }

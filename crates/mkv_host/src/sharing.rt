@@ -5,11 +5,11 @@ use std::fs::{File, Metadata};
 use std::io;
 use std::os::unix::fs::MetadataExt;
 
-/// Bits of the film's mode for a journal without a record that the film's owner owns.
+/// Mode bits that a journal without a record takes from its film, if both have the same owner.
 pub const QUIET: u32 = 0o744;
 
-/// Bits of the film's mode for a journal with a record that the film's owner owns: only the owner may read it. The
-/// group bits of a film may be the mask of an access list, and give its group more than the list does.
+/// Mode bits that a journal with a record takes from its film, if both have the same owner: only the owner may read
+/// it. With an access list, the group bits of a film are the list's mask, which may exceed the rights of its group.
 pub const HOLDING: u32 = 0o700;
 
 /// Gives a new journal the film's owner and group, as far as the system permits, and its mode. The mode is reduced to
@@ -21,11 +21,14 @@ pub fn share_new(sidecar: &File, media: &Metadata) -> io::Result<()> {
     set_mode(sidecar, media.mode() & bits)
 }
 
-/// Gives the journal the bits `bits` of the film's mode, if both have the same owner. Ignores a failure.
-pub fn share_bits(sidecar: &File, media: &File, bits: u32) {
-    if let (Ok(found), Ok(film)) = (sidecar.metadata(), media.metadata()) {
-        if found.uid() == film.uid() {
-            let _ = set_mode(sidecar, film.mode() & bits);
-        }
+/// Gives the journal the bits `bits` of the film's mode, if both have the same owner and the system permits it. A
+/// journal that has this mode already isn't touched.
+pub fn share_bits(sidecar: &File, media: &File, bits: u32) -> io::Result<()> {
+    let found = sidecar.metadata()?;
+    let film = media.metadata()?;
+    let mode = film.mode() & bits;
+    if found.uid() != film.uid() || found.mode() & 0o7777 == mode {
+        return Ok(());
     }
+    set_mode(sidecar, mode)
 }
