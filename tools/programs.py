@@ -5,6 +5,8 @@ The kit's `rt try` compiles the sources without proving them, with checks at run
 runs, the program is below the TMPDIR that it was given. So it gets a merge of many small blocks to do, and the program is copied
 meanwhile."""
 import fcntl
+import importlib.machinery
+import importlib.util
 import os
 import shutil
 import signal
@@ -25,6 +27,15 @@ HEAD = bytes.fromhex("1A45DFA38B4282886D6174726F736B61 1853806701FFFFFFFFFFFFFF 
 
 def say(text):
     print(f"{os.path.relpath(sys.argv[0], os.getcwd())}: {text}", file=sys.stderr, flush=True)
+
+
+def tool(name):
+    """Returns the tool `name` of this checkout as a module."""
+    sys.dont_write_bytecode = True
+    loader = importlib.machinery.SourceFileLoader(name, os.path.join(ROOT, "tools", name))
+    module = importlib.util.module_from_spec(importlib.util.spec_from_loader(name, loader))
+    loader.exec_module(module)
+    return module
 
 
 # ---- the program to run
