@@ -15,7 +15,7 @@ use Rattle.requests.specs.declared.merge.FileWords.{FileWords}
 use Rattle.merge_inputs.specs.Input.{InputRead, Clusters, CanBeGiven, file_read, found_then, input_with, refusal_of, input_or_refusal}
 use Rattle.merge_inputs.specs.declared.input.Blocks.{Blocks}
 use Rattle.merge_inputs.specs.declared.input.Blocks.TheVariants as held_by
-use Rattle.merge_inputs.specs.Select.{keep_of, keeps_attachments, keeps_chapters, keeps_tags, kept_list, kept_one, unmoved}
+use Rattle.merge_inputs.specs.Select.{keep_of, keeps_attachments, keeps_chapters, kept_list, kept_one, kept_tags, unmoved}
 use Rattle.merge_inputs.specs.Taken.{taken_from}
 use Rattle.merge_inputs.specs.Title.{title_of_info}
 use Rattle.merge_inputs.specs.declared.taken.TakenTrack.{TakenTrack}
@@ -43,7 +43,7 @@ read_with v scale title count taken attachments chapters tags keep shift times =
 abbrev pub read_as : FileWords → Bool → FileOutline → FileRecords → InputRead
 read_as words webm v r =
     read_with v (scale_of_info r.info) (title_of_info r.info) (length r.tracks) (taken_from words 0 r.tracks)
-    (kept_list (keeps_attachments words webm) r.attachments) (kept_one (keeps_chapters words webm) r.chapters) (kept_one (keeps_tags words) r.tags) (keep_of words) (unmoved words) []
+    (kept_list (keeps_attachments words webm) r.attachments) (kept_one (keeps_chapters words webm) r.chapters) (kept_tags words r.tags) (keep_of words) (unmoved words) []
 
 -- the refusal of the input
 abbrev pub refusal_as : FileWords → FileRecords → Option InputRefusal

@@ -27,7 +27,7 @@ use Rattle.track_records.specs.Track.{track_of}
 use Rattle.meta_records.specs.Attached.{AttachedFile, in_file}
 use Rattle.meta_records.specs.Records.{FileRecords, file_records, scale_of_info}
 use Rattle.requests.specs.declared.merge.FileWords.{FileWords}
-use Rattle.merge_inputs.specs.Select.{keep_of, keeps_attachments, keeps_chapters, keeps_tags, kept_list, kept_one, unmoved}
+use Rattle.merge_inputs.specs.Select.{keep_of, keeps_attachments, keeps_chapters, kept_list, kept_one, kept_tags, unmoved}
 use Rattle.merge_inputs.specs.Taken.{IsTaken, first_unusable, taken_from}
 use Rattle.merge_inputs.specs.Title.{title_of_info}
 use Rattle.merge_inputs.specs.declared.taken.TakenTrack.{TakenTrack}
@@ -88,7 +88,7 @@ input_with words webm o r = record {
   taken = taken_from words 0 r.tracks;
   attachments = kept_list (keeps_attachments words webm) r.attachments;
   chapters = kept_one (keeps_chapters words webm) r.chapters;
-  tags = kept_one (keeps_tags words) r.tags;
+  tags = kept_tags words r.tags;
   keep = keep_of words;
   shift = unmoved words;
   times = [];

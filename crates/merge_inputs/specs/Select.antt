@@ -1,5 +1,7 @@
 -- The tracks of a file that the command line of a merge chooses (RFC 9559, section 5.1.4, Tracks), and the other kept parts.
-use Rattle.std.specs.Prelude.{ℕ, ◌==◌, Bool, true, false, not, ◌&&◌, ◌||◌, if◌then◌else◌, List, [], Option, Some, None}
+use Rattle.std.specs.Prelude.{ℕ, ◌==◌, Bool, true, false, not, ◌&&◌, ◌||◌, if◌then◌else◌, List, [], Option, Some, None, option_map}
+use Rattle.tree_format.specs.Node.{Node}
+use Rattle.record_changes.specs.Statistics.{without_statistics}
 use Rattle.std.specs.List.{list_any}
 use Rattle.record_changes.specs.declared.uid_map.TagKeep.{TagKeep}
 use Rattle.requests.specs.declared.track.Select.{Select}
@@ -59,3 +61,9 @@ kept_list false list = []
 abbrev pub kept_one : {T : Type 0} → Bool → Option T → Option T
 kept_one true one = one
 kept_one false one = None
+
+-- the Tags of a file if some are kept, without statistics if the command line leaves these out
+abbrev pub kept_tags : FileWords → Option Node → Option Node
+kept_tags words tags =
+    if words.statistics then kept_one (keeps_tags words) tags
+    else option_map without_statistics (kept_one (keeps_tags words) tags)

@@ -1,12 +1,17 @@
 //! Kept parts of a file other than its tracks
 
-ghost use Rattle.std.specs.Prelude.{◌≡◌};
-ghost use Rattle.merge_inputs.specs.Select.{kept_list, kept_one};
+ghost use Rattle.std.specs.Prelude.{◌≡◌, IfOk, IfSome};
+ghost use Rattle.mkv_schema.specs.declared.ids.TheConstants.{TAGS};
+ghost use Rattle.ebml_tree.specs.Building.{IsRead};
+ghost use Rattle.merge_inputs.specs.Select.{kept_list, kept_one, kept_tags};
 
+use crate::select::keeps_tags;
 use ebml_tree::Tree;
 use mkv_io::List;
 use output_model::Attachment;
-use std::alloc::Global;
+use record_changes::without_statistics;
+use requests::FileWords;
+use std::alloc::{AllocError, Global};
 
 /// Returns the attached files if they are kept.
 pub fn kept_files(alloc: Global, is_kept: bool, files: List<Attachment>) -> List<Attachment>
@@ -20,4 +25,20 @@ pub fn kept_tree(is_kept: bool, tree: Option<Tree>) -> Option<Tree>
     ensures { result ≡ kept_one is_kept tree }
 {
     if is_kept { tree } else { None }
+}
+
+/// Returns the Tags of a file if some are kept, without statistics if the command line leaves these out.
+pub fn kept_tags(
+    alloc: Global,
+    words: &FileWords,
+    tags: Option<Tree>,
+) -> Result<Option<Tree>, AllocError>
+    requires { IfSome tags (IsRead TAGS) }
+    ensures exact { IfOk result (λ kept. kept ≡ kept_tags words.now tags) }
+    ensures read { IfOk result (λ kept. IfSome kept (IsRead TAGS)) }
+{
+    match kept_tree(keeps_tags(words), tags) {
+        Some(tags) if !words.statistics => Ok(Some(without_statistics(alloc, &tags)?)),
+        tags => Ok(tags),
+    }
 }

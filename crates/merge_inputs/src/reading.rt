@@ -10,8 +10,8 @@ ghost use Rattle.merge_inputs.specs.End.{is_input_fault};
 ghost use Rattle.merge_inputs.specs.Input.{AreOwnEvents, IsInput, IsReadOf, ReadsInput, file_read, input_of, text_read};
 
 use crate::input::{Blocks, Input, InputEnd, InputRefusal};
-use crate::kept::{kept_files, kept_tree};
-use crate::select::{keep_of, keeps_attachments, keeps_chapters, keeps_tags, unmoved};
+use crate::kept::{kept_files, kept_tags, kept_tree};
+use crate::select::{keep_of, keeps_attachments, keeps_chapters, unmoved};
 use crate::taken::{first_unusable, taken_of};
 use crate::title::title_of;
 use element_reader::Outline;
@@ -56,6 +56,7 @@ fn read_file<R: Reads>(
     if let Some(damage) = first_unusable(taken.as_slice()) {
         return Err(InputEnd::Refused(InputRefusal::Damaged(damage)));
     }
+    let tags = kept_tags(alloc, words, tags)?;
     Ok(Input {
         file,
         blocks: Blocks::Clusters {
@@ -67,7 +68,7 @@ fn read_file<R: Reads>(
         taken,
         attachments: kept_files(alloc, keeps_attachments(words, webm), attachments),
         chapters: kept_tree(keeps_chapters(words, webm), chapters),
-        tags: kept_tree(keeps_tags(words), tags),
+        tags,
         keep: keep_of(words),
         shift: unmoved(words),
         times: List::new(alloc),

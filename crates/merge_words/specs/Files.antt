@@ -132,6 +132,7 @@ file items name = record {
   attachments = not (stands subject.Attachments items);
   track_tags = not (stands subject.TrackTags items);
   global_tags = not (stands subject.GlobalTags items);
+  statistics = not (stands subject.Statistics items);
   chapters = not (stands subject.Chapters items);
   syncs = delays_in items;
   names = names_in items;

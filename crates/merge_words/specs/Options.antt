@@ -48,6 +48,7 @@ table =
     option (codes "-M") (codes "--no-attachments") s.Attachments File f.Flag ∷
     option (codes "-T") (codes "--no-track-tags") s.TrackTags File f.Flag ∷
     option (codes "") (codes "--no-global-tags") s.GlobalTags File f.Flag ∷
+    option (codes "") (codes "--no-statistics-tags") s.Statistics File f.Flag ∷
     option (codes "") (codes "--no-chapters") s.Chapters File f.Flag ∷
     option (codes "-y") (codes "--sync") s.Sync Track f.TrackDelay ∷
     option (codes "") (codes "--track-name") s.TrackName Track f.TrackText ∷

@@ -73,6 +73,7 @@ fn file(alloc: Global, items: &[Item], name: &Value) -> Result<FileWords, AllocE
         attachments: !stands(Subject::Attachments, items),
         track_tags: !stands(Subject::TrackTags, items),
         global_tags: !stands(Subject::GlobalTags, items),
+        statistics: !stands(Subject::Statistics, items),
         chapters: !stands(Subject::Chapters, items),
         syncs: marks.syncs,
         names: texts.names,

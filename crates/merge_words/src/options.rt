@@ -24,6 +24,7 @@ pub enum Subject {
     Attachments,
     TrackTags,
     GlobalTags,
+    Statistics,
     Chapters,
     Sync,
     TrackName,
@@ -76,7 +77,7 @@ pub struct OptionRow(
 );
 
 #[rattlefmt::skip]
-static MERGE_OPTIONS: [OptionRow; 34] = [
+static MERGE_OPTIONS: [OptionRow; 35] = [
     OptionRow("-o", "--output", Subject::Output, Scope::Output, ValueForm::Name),
     OptionRow("-w", "--webm", Subject::Webm, Scope::Output, ValueForm::Flag),
     OptionRow("", "--title", Subject::Title, Scope::Output, ValueForm::Text),
@@ -96,6 +97,7 @@ static MERGE_OPTIONS: [OptionRow; 34] = [
     OptionRow("-M", "--no-attachments", Subject::Attachments, Scope::File, ValueForm::Flag),
     OptionRow("-T", "--no-track-tags", Subject::TrackTags, Scope::File, ValueForm::Flag),
     OptionRow("", "--no-global-tags", Subject::GlobalTags, Scope::File, ValueForm::Flag),
+    OptionRow("", "--no-statistics-tags", Subject::Statistics, Scope::File, ValueForm::Flag),
     OptionRow("", "--no-chapters", Subject::Chapters, Scope::File, ValueForm::Flag),
     OptionRow("-y", "--sync", Subject::Sync, Scope::Track, ValueForm::TrackDelay),
     OptionRow("", "--track-name", Subject::TrackName, Scope::Track, ValueForm::TrackText),

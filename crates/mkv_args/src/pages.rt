@@ -54,7 +54,7 @@ pub(crate) const INFO_PAGE: [&str; 11] = [
 
 /// The page of `merge`.
 #[rattlefmt::skip]
-pub(crate) const MERGE_PAGE: [&str; 86] = [
+pub(crate) const MERGE_PAGE: [&str; 88] = [
     "usage: mkvsuite merge -o OUT [OUTPUT OPTIONS] [FILE OPTIONS] FILE",
     "                      [[+] [FILE OPTIONS] FILE]..",
     "       mkvsuite merge -J FILE",
@@ -93,6 +93,8 @@ pub(crate) const MERGE_PAGE: [&str; 86] = [
     "    -M, --no-attachments        copy no attachments",
     "    -T, --no-track-tags         copy no tags of tracks (such as statistics)",
     "    --no-global-tags            copy no other tags",
+    "    --no-statistics-tags        copy no statistics among the tags, which may no",
+    "                                longer hold",
     "    --no-chapters               copy no chapters",
     "  track options:",
     "    -y, --sync ID:MS            delay by MS milliseconds; a negative MS makes",

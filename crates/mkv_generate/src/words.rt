@@ -40,6 +40,7 @@ fn plain_file(alloc: Global, name: &Text) -> Result<FileWords, AllocError>
         attachments: true,
         track_tags: true,
         global_tags: true,
+        statistics: true,
         chapters: true,
         syncs: List::new(alloc),
         names: List::new(alloc),

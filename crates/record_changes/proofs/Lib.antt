@@ -9,3 +9,4 @@ pub mod AtomLemmas
 pub mod NumberLemmas
 pub mod ShiftLemmas
 pub mod CutLemmas
+mod StatisticsLemmas

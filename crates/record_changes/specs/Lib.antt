@@ -10,3 +10,4 @@ pub mod Before
 pub mod Cut
 pub mod Standing
 pub mod Starts
+pub mod Statistics

@@ -24,3 +24,4 @@ mod TagExamples
 mod SubRipExamples
 mod SimpleChapterExamples
 mod TextExamples
+mod StatisticsLemmas

@@ -6,3 +6,4 @@ pub mod Tags
 pub mod Plain
 pub mod SimpleChapters
 pub mod SubRip
+pub mod Statistics

@@ -3,6 +3,7 @@
 
 ghost use Rattle.record_laws.specs.Chapters.{ChaptersStay};
 ghost use Rattle.record_laws.specs.Files.{FilesStay};
+ghost use Rattle.record_laws.specs.Statistics.{StatisticsAreLeftOut};
 ghost use Rattle.record_laws.specs.Tags.{TagsStay};
 
 /// Chapters with the identifiers of a merge, once written and read, have the same identifiers and are written as they
@@ -19,4 +20,9 @@ pub fn files_stay()
 /// Tags whose targets keep their identifiers are written as they were.
 pub fn tags_stay()
     ensures { TagsStay }
+{}
+
+/// Tags without their statistics have no usual name of statistics left, and Tags without such a name are unchanged.
+pub fn statistics_are_left_out()
+    ensures { StatisticsAreLeftOut }
 {}

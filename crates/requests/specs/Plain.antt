@@ -28,6 +28,7 @@ plain_file name = record {
   attachments = true;
   track_tags = true;
   global_tags = true;
+  statistics = true;
   chapters = true;
   syncs = [];
   names = [];

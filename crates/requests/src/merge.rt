@@ -37,6 +37,8 @@ pub struct FileWords {
     pub track_tags: bool,
     /// Tags that name no track are kept.
     pub global_tags: bool,
+    /// The statistics among the tags are kept.
+    pub statistics: bool,
     /// The chapters are kept.
     pub chapters: bool,
     /// Delays of tracks, in nanoseconds.

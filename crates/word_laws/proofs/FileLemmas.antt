@@ -78,6 +78,7 @@ file_pieces f =
     record { subject = subject.Attachments; scope = scope.File; said = said_flag (codes "--no-attachments") Flag (not f.attachments) } ∷
     record { subject = subject.TrackTags; scope = scope.File; said = said_flag (codes "--no-track-tags") Flag (not f.track_tags) } ∷
     record { subject = subject.GlobalTags; scope = scope.File; said = said_flag (codes "--no-global-tags") Flag (not f.global_tags) } ∷
+    record { subject = subject.Statistics; scope = scope.File; said = said_flag (codes "--no-statistics-tags") Flag (not f.statistics) } ∷
     record { subject = subject.Chapters; scope = scope.File; said = said_flag (codes "--no-chapters") Flag (not f.chapters) } ∷
     record { subject = subject.Sync; scope = scope.Track; said = said_syncs f } ∷
     record { subject = subject.TrackName; scope = scope.Track; said = said_names f } ∷
@@ -114,6 +115,7 @@ file_spelled f = pieces_spelled (file_pieces f) (file_options f) (
     flag_words (codes "--no-attachments") Flag (not f.attachments) &
     flag_words (codes "--no-track-tags") Flag (not f.track_tags) &
     flag_words (codes "--no-global-tags") Flag (not f.global_tags) &
+    flag_words (codes "--no-statistics-tags") Flag (not f.statistics) &
     flag_words (codes "--no-chapters") Flag (not f.chapters) &
     tracks_spelled (codes "--sync") delay_word TrackDelay f.syncs &
     tracks_spelled (codes "--track-name") (λ name. name) TrackText f.names &
@@ -151,6 +153,7 @@ file_readable f sound is = (
     flag_readable subject.Attachments scope.File (codes "--no-attachments") (not f.attachments) (refl, refl) &
     flag_readable subject.TrackTags scope.File (codes "--no-track-tags") (not f.track_tags) (refl, refl) &
     flag_readable subject.GlobalTags scope.File (codes "--no-global-tags") (not f.global_tags) (refl, refl) &
+    flag_readable subject.Statistics scope.File (codes "--no-statistics-tags") (not f.statistics) (refl, refl) &
     flag_readable subject.Chapters scope.File (codes "--no-chapters") (not f.chapters) (refl, refl) &
     tracks_readable (codes "--sync") delay_word TrackDelay subject.Sync form.TrackDelay IsSoundDelay f.syncs (refl, refl) refl refl (λ id x. refl)
     (λ id x short whole. track_delay_read id x short whole.0 whole.1) (sound_delays f sound is) &

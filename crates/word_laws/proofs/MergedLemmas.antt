@@ -176,7 +176,7 @@ out_since w = since_grows [] (out_items w) (other_stands 1 subject.File (output_
 
 -- The options for the output have no subject of a file.
 free_first : (w : MergeWords) (f : FileWords) → AreFree (out_items w) (group f)
-free_first w f = (free subject.Append refl & free subject.Video refl & free subject.Audio refl & free subject.Subtitles refl & free subject.Attachments refl & free subject.TrackTags refl & free subject.GlobalTags refl & free subject.Chapters refl & free subject.Sync refl & free subject.TrackName refl & free subject.Language refl & free subject.LanguageTag refl & free subject.DefaultFlag refl & free subject.ForcedFlag refl & free subject.EnabledFlag refl & free subject.HearingImpairedFlag refl & free subject.VisualImpairedFlag refl & free subject.TextDescriptionsFlag refl & free subject.OriginalFlag refl & free subject.CommentaryFlag refl & free subject.Cues refl & free subject.Times refl & tt)
+free_first w f = (free subject.Append refl & free subject.Video refl & free subject.Audio refl & free subject.Subtitles refl & free subject.Attachments refl & free subject.TrackTags refl & free subject.GlobalTags refl & free subject.Statistics refl & free subject.Chapters refl & free subject.Sync refl & free subject.TrackName refl & free subject.Language refl & free subject.LanguageTag refl & free subject.DefaultFlag refl & free subject.ForcedFlag refl & free subject.EnabledFlag refl & free subject.HearingImpairedFlag refl & free subject.VisualImpairedFlag refl & free subject.TextDescriptionsFlag refl & free subject.OriginalFlag refl & free subject.CommentaryFlag refl & free subject.Cues refl & free subject.Times refl & tt)
   where
     free : (t : Subject) → none_about t (output_pieces w) ≡ true → stands t (since_file (out_items w)) ≡ false
     free t none = ap (stands t) (out_since w) ∙ other_stands 1 t (output_pieces w) none

@@ -65,6 +65,7 @@ file_options file =
     flag (codes "--no-attachments") (not file.attachments) ∷
     flag (codes "--no-track-tags") (not file.track_tags) ∷
     flag (codes "--no-global-tags") (not file.global_tags) ∷
+    flag (codes "--no-statistics-tags") (not file.statistics) ∷
     flag (codes "--no-chapters") (not file.chapters) ∷
     for_tracks (codes "--sync") delay_word file.syncs ∷
     for_tracks (codes "--track-name") (λ name. name) file.names ∷

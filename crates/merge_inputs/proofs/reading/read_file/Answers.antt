@@ -8,7 +8,7 @@ use Rattle.track_records.specs.Sound.{IsEntry}
 use Rattle.track_records.specs.declared.track.Track.{Track}
 use Rattle.tree_format.specs.Node.{Node}
 use Rattle.ebml_tree.specs.Building.{IsRead}
-use Rattle.mkv_schema.specs.declared.ids.TheConstants.{CHAPTERS, TAGS}
+use Rattle.mkv_schema.specs.declared.ids.TheConstants.{CHAPTERS}
 use Rattle.meta_records.specs.Walk.{IsAttachedIn}
 use Rattle.meta_records.specs.Attached.{in_file}
 use Rattle.meta_records.specs.Records.{described_by}
@@ -50,7 +50,7 @@ returns-clause-exact g c = λ bytes told.
     (ap (map in_file) c.kept_files.ensures ∙ kept-files c.keeps_attachments.result c.in_ok-info.field-0.attachments
     ∙ ap (λ (is_kept : Bool). kept_list is_kept (map in_file c.in_ok-info.field-0.attachments)) c.keeps_attachments.ensures)
     (c.kept_tree.ensures ∙ ap (λ (is_kept : Bool). kept_one is_kept c.in_ok-info.field-0.chapters) c.keeps_chapters.ensures)
-    (c.kept_tree-2.ensures ∙ ap (λ (is_kept : Bool). kept_one is_kept c.in_ok-info.field-0.tags) c.keeps_tags.ensures)
+    c.in_ok-tags.ensures.exact
     c.keep_of.ensures c.unmoved.ensures (ap listings_in c.new-2.ensures))
 
 -- The file is live as before, and the tracks can be used.
@@ -70,7 +70,7 @@ returns-clause-input g c =
           (subst (All (IsAttachedIn c.args.file c.in_ok-outline.outline.total)) (sym c.kept_files.ensures)
           (kept-all (IsAttachedIn c.args.file c.in_ok-outline.outline.total) _ _ c.in_ok-info.ensures.good.attachments));
       chapters = subst (λ (tree : Option Node). IfSome tree (IsRead CHAPTERS)) (sym c.kept_tree.ensures) (kept-some (IsRead CHAPTERS) _ _ c.in_ok-info.ensures.good.chapters);
-      tags = subst (λ (tree : Option Node). IfSome tree (IsRead TAGS)) (sym c.kept_tree-2.ensures) (kept-some (IsRead TAGS) _ _ c.in_ok-info.ensures.good.tags);
+      tags = c.in_ok-tags.ensures.read;
     }
 
 -- The Info that was read gives the scale.
@@ -82,3 +82,7 @@ returns-clause-events g c = λ bytes told.
     ∙ ap (λ (scale : ℕ). events_of (with_limits scale) bytes c.in_ok-outline.outline.segment)
     (c.scale_of.ensures.value ∙ file_records-scale bytes c.in_ok-outline.outline.segment (described_by c.in_ok-info.field-0) (c.in_ok-info.ensures.exact bytes now c.args.held outline))
     ∙ ap (λ (o : FileOutline). file_events true bytes o.segment) (sym c.in_ok-new.ensures.ok)
+
+-- The Tags can be read again.
+pub kept_tags-requires : goal.kept_tags-requires
+kept_tags-requires g c = c.in_ok-info.ensures.good.tags

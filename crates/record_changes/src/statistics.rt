@@ -1,0 +1,258 @@
+//! Statistics among the tags of an input, such as mkvmerge writes them: RFC 9559, section 5.1.8 (Tags).
+
+ghost use Rattle.std.specs.Prelude.{◌≡◌, [], ◌∷◌, IfOk, IfSome, OnOk};
+ghost use Rattle.std.specs.List.{list_any};
+ghost use Rattle.std.specs.Option.{option_copied, option_to_list};
+ghost use Rattle.mkv_schema.specs.declared.ids.TheConstants.{TAG as TAG_ID, TAGS as TAGS_ID};
+ghost use Rattle.tree_format.specs.Node.{children};
+ghost use Rattle.tree_format.specs.Standing.{StandsIn};
+ghost use Rattle.ebml_tree.specs.Building.{IsInPlace, IsRead};
+ghost use Rattle.record_changes.specs.Statistics as spec;
+ghost use Rattle.record_changes.specs.Statistics.{AddsNames, HasSame, bytes_of};
+
+use ebml_tree::{Tree, empty};
+use indexmap::IndexSet;
+use mkv_schema::ids::{SIMPLE_TAG, TAG, TAG_NAME, TAG_STRING, TAGS};
+use std::alloc::{AllocError, Global};
+
+/// Name of a SimpleTag whose TagString lists the names of statistics.
+const LIST: &[u8] = b"_STATISTICS_TAGS";
+
+/// Name of a SimpleTag with the program that counted.
+const APP: &[u8] = b"_STATISTICS_WRITING_APP";
+
+/// Name of a SimpleTag with the time at which it counted.
+const DATE: &[u8] = b"_STATISTICS_WRITING_DATE_UTC";
+
+/// Name that MakeMKV lists, although it is no statistic.
+const SOURCE: &[u8] = b"SOURCE_ID";
+
+/// Checks whether `bytes` are a hyphen and a language of three lower-case letters.
+fn is_language_suffix(bytes: &[u8]) -> bool
+    ensures { result ≡ spec.is_language_suffix bytes.now }
+{
+    match bytes {
+        [b'-', a, b, c] => {
+            a.is_ascii_lowercase() && b.is_ascii_lowercase() && c.is_ascii_lowercase()
+        }
+        _ => false,
+    }
+}
+
+/// Returns the name of a tag without a hyphen and a language at its end.
+fn stem(name: &[u8]) -> &[u8]
+    ensures { result.now ≡ spec.stem name.now }
+{
+    let front = name.len().saturating_sub(4);
+    if is_language_suffix(&name[front..]) {
+        &name[..front]
+    } else {
+        name
+    }
+}
+
+/// Returns the text of the first child with the ID `id`, up to its first zero byte, if there is one.
+fn value_in(tree: &Tree, id: u32) -> Option<&[u8]>
+    ensures { option_copied result ≡ spec.value_in id tree.now }
+{
+    match tree.child(id) {
+        Some(value) => Some(value.text()),
+        None => None,
+    }
+}
+
+/// Checks whether a SimpleTag lists the names of statistics.
+fn lists_names(simple: &Tree) -> bool
+    ensures { result ≡ spec.lists_names simple.now }
+{
+    match value_in(simple, TAG_NAME) {
+        Some(name) => stem(name) == LIST,
+        None => false,
+    }
+}
+
+/// Checks whether a part of a list between spaces is the name of a statistic: it isn't empty, nor SOURCE_ID.
+fn is_listed(part: &[u8]) -> bool
+    ensures { result ≡ spec.is_listed part.now }
+{
+    !part.is_empty() && stem(part) != SOURCE
+}
+
+/// Adds `name` to `names`.
+fn add_name<'a>(names: &mut IndexSet<&'a [u8]>, name: &'a [u8]) -> Result<(), AllocError>
+    ensures { OnOk result (AddsNames names.old.keys names.new.keys (name.now ∷ [])) }
+{
+    names.insert(name)?;
+    Ok(())
+}
+
+/// Adds the names that `list` has between spaces to `names`.
+fn add_list<'a>(names: &mut IndexSet<&'a [u8]>, list: &'a [u8]) -> Result<(), AllocError>
+    ensures { OnOk result (AddsNames names.old.keys names.new.keys (spec.names_in list.now)) }
+{
+    for part in list.split(|byte| *byte == b' ') {
+        if is_listed(part) {
+            add_name(names, part)?;
+        }
+    }
+    Ok(())
+}
+
+/// Adds the names that a child of a Tag lists to `names`.
+fn add_names<'a>(names: &mut IndexSet<&'a [u8]>, child: &'a Tree) -> Result<(), AllocError>
+    ensures { OnOk result (AddsNames names.old.keys names.new.keys (spec.names_listed child.now)) }
+{
+    if child.id() != SIMPLE_TAG || !lists_names(child) {
+        return Ok(());
+    }
+    match value_in(child, TAG_STRING) {
+        Some(list) => add_list(names, list),
+        None => Ok(()),
+    }
+}
+
+/// Returns the names of the statistics in a Tag.
+fn statistics_names<'a>(alloc: Global, tag: &'a Tree) -> Result<IndexSet<&'a [u8]>, AllocError>
+    ensures { IfOk result (λ names. HasSame (bytes_of names.keys) (spec.statistics_names tag.now)) }
+{
+    let mut names = IndexSet::new(alloc);
+    add_name(&mut names, LIST)?;
+    add_name(&mut names, APP)?;
+    add_name(&mut names, DATE)?;
+    for child in tag.children() {
+        add_names(&mut names, child)?;
+    }
+    Ok(names)
+}
+
+/// Checks whether `name` is one of `names`.
+fn is_one_of(names: &IndexSet<&[u8]>, name: &[u8]) -> bool
+    ensures { result ≡ spec.is_one_of (bytes_of names.now.keys) name.now }
+{
+    names.contains(&name)
+}
+
+/// Checks whether `name`, or its stem, is one of `names`.
+fn is_named(names: &IndexSet<&[u8]>, name: &[u8]) -> bool
+    ensures { result ≡ spec.is_named (bytes_of names.now.keys) name.now }
+{
+    is_one_of(names, name) || is_one_of(names, stem(name))
+}
+
+/// Checks whether a child of a Tag is a statistic.
+fn is_statistic(names: &IndexSet<&[u8]>, child: &Tree) -> bool
+    ensures { result ≡ spec.is_statistic (bytes_of names.now.keys) child.now }
+{
+    if child.id() != SIMPLE_TAG {
+        return false;
+    }
+    match value_in(child, TAG_NAME) {
+        Some(name) => is_named(names, name),
+        None => false,
+    }
+}
+
+/// Checks whether a child of a Tag is a SimpleTag that is no statistic.
+fn is_other(names: &IndexSet<&[u8]>, child: &Tree) -> bool
+    ensures { result ≡ spec.is_other (bytes_of names.now.keys) child.now }
+{
+    child.id() == SIMPLE_TAG && !is_statistic(names, child)
+}
+
+/// Checks whether a Tag has a statistic.
+fn has_statistic(names: &IndexSet<&[u8]>, tag: &Tree) -> bool
+    ensures { result ≡ list_any (spec.is_statistic (bytes_of names.now.keys)) (children tag.now) }
+{
+    tag.children()
+        .iter()
+        .any(|child| is_statistic(names, child))
+}
+
+/// Checks whether a Tag has a SimpleTag that is no statistic.
+fn has_other(names: &IndexSet<&[u8]>, tag: &Tree) -> bool
+    ensures { result ≡ list_any (spec.is_other (bytes_of names.now.keys)) (children tag.now) }
+{
+    tag.children().iter().any(|child| is_other(names, child))
+}
+
+/// Checks whether a Tag has a statistic, and no other SimpleTag.
+fn has_nothing_else(names: &IndexSet<&[u8]>, tag: &Tree) -> bool
+    ensures { result ≡ spec.has_nothing_else (bytes_of names.now.keys) tag.now }
+{
+    has_statistic(names, tag) && !has_other(names, tag)
+}
+
+/// Returns a child of a Tag, or nothing if it is a statistic.
+fn bare_part(
+    alloc: Global,
+    names: &IndexSet<&[u8]>,
+    child: &Tree,
+) -> Result<Option<Tree>, AllocError>
+    requires { StandsIn TAG_ID child.now }
+    ensures exact { IfOk result (λ o. option_to_list o ≡ spec.bare_part (bytes_of names.now.keys) child.now) }
+    ensures place { IfOk result (λ o. IfSome o (IsInPlace TAG_ID child.now)) }
+{
+    if is_statistic(names, child) {
+        return Ok(None);
+    }
+    Ok(Some(child.copy(alloc)?))
+}
+
+/// Returns a Tag without the SimpleTags that are statistics.
+fn bare(alloc: Global, names: &IndexSet<&[u8]>, tag: &Tree) -> Result<Tree, AllocError>
+    requires { IsRead TAG_ID tag.now }
+    ensures exact { IfOk result (λ bare. bare ≡ spec.bare (bytes_of names.now.keys) tag.now) }
+    ensures place { IfOk result (IsInPlace TAGS_ID tag.now) }
+{
+    let mut bare = empty(alloc, TAG, tag.offset())?;
+    for child in tag.children() {
+        match bare_part(alloc, names, child)? {
+            Some(part) => bare.push(part)?,
+            None => {}
+        }
+    }
+    Ok(bare)
+}
+
+/// Returns a Tag without its statistics, or nothing if it has nothing else.
+fn bare_tag(alloc: Global, tag: &Tree) -> Result<Option<Tree>, AllocError>
+    requires { IsRead TAG_ID tag.now }
+    ensures exact { IfOk result (λ o. option_to_list o ≡ spec.bare_tag (spec.statistics_names tag.now) tag.now) }
+    ensures place { IfOk result (λ o. IfSome o (IsInPlace TAGS_ID tag.now)) }
+{
+    let names = statistics_names(alloc, tag)?;
+    if has_nothing_else(&names, tag) {
+        return Ok(None);
+    }
+    Ok(Some(bare(alloc, &names, tag)?))
+}
+
+/// Returns a child of Tags without its statistics, or nothing if it is left out.
+fn bare_child(alloc: Global, child: &Tree) -> Result<Option<Tree>, AllocError>
+    requires { StandsIn TAGS_ID child.now }
+    ensures exact { IfOk result (λ o. option_to_list o ≡ spec.without_its_statistics child.now) }
+    ensures place { IfOk result (λ o. IfSome o (IsInPlace TAGS_ID child.now)) }
+{
+    if child.id() == TAG {
+        bare_tag(alloc, child)
+    } else {
+        Ok(Some(child.copy(alloc)?))
+    }
+}
+
+/// Returns the Tags of an input without the statistics: SimpleTags that their Tag lists as statistics. A Tag that has
+/// nothing else is left out.
+pub fn without_statistics(alloc: Global, tags: &Tree) -> Result<Tree, AllocError>
+    requires { IsRead TAGS_ID tags.now }
+    ensures exact { IfOk result (λ tree. tree ≡ spec.without_statistics tags.now) }
+    ensures read { IfOk result (IsRead TAGS_ID) }
+{
+    let mut kept = empty(alloc, TAGS, tags.offset())?;
+    for child in tags.children() {
+        match bare_child(alloc, child)? {
+            Some(child) => kept.push(child)?,
+            None => {}
+        }
+    }
+    Ok(kept)
+}
