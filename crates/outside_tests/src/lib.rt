@@ -1,17 +1,9 @@
 #![tactic(auto)]
 
-//! Tests of the system's files and its standard output, and of the objects in memory: behaviour that no clause
-//! describes.
+//! Tests of the system's files and of writes in parts: behaviour that no clause describes, and that no run of the program
+//! shows.
 
 #[cfg(test)]
-mod disks;
-#[cfg(test)]
-mod folders;
-#[cfg(test)]
 mod host;
-#[cfg(test)]
-mod refusals;
-#[cfg(test)]
-mod reports;
 #[cfg(test)]
 mod writes;
