@@ -1,11 +1,7 @@
 #![tactic(auto)]
 
-//! Tests of merges and outputs when a call of the files fails, and of the largest Clusters and blocks.
+//! A test of merges that go on after a call of the files that fails.
 
-#[cfg(test)]
-mod clusters;
-#[cfg(test)]
-mod drafts;
 #[cfg(test)]
 mod failing;
 #[cfg(test)]
