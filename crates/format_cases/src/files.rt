@@ -4,7 +4,7 @@ ghost use Rattle.std.specs.Prelude.{◌≡◌};
 ghost use Rattle.mkv_io.specs.Sources.{IsLive};
 
 use crate::case::Case;
-use crate::{attached, blocks, level_one};
+use crate::{blocks, level_one};
 use mkv_io::{FileId, Files, LONGEST_FILE, Reads};
 use mkv_memory::MemFiles;
 use std::alloc::{AllocError, Global};
@@ -47,7 +47,6 @@ fn tell_open<R: Reads>(
 {
     match word {
         "level1" => level_one::tell(alloc, src, file, text),
-        "blocks" => blocks::tell(alloc, src, file, text),
-        _ => attached::tell(alloc, src, file, text),
+        _ => blocks::tell(alloc, src, file, text),
     }
 }

@@ -8,10 +8,8 @@ use std::alloc::{AllocError, Global};
 use std::fmt::Write;
 use std::io;
 
-mod attached;
 mod blocks;
 mod case;
-mod ends;
 mod files;
 mod level_one;
 mod numbers;
@@ -42,13 +40,10 @@ fn tell(alloc: Global, word: &str, case: &Case, text: &mut String) -> Result<(),
         "element" => numbers::tell_element(case, text),
         "row" => numbers::tell_row(case, text),
         "tree" | "uint" | "int" | "text" => trees::tell_master(alloc, word, case, text),
-        "nth" | "child" | "at" | "children" => trees::tell_entry(alloc, word, case, text),
-        "remove" | "set" | "push" => trees::tell_changed(alloc, word, case, text),
         "info" => tracks::tell_info(alloc, case, text),
         "tracks" => tracks::tell_tracks(alloc, case, text),
         "usable" => tracks::tell_usable(alloc, case, text),
-        "ends" => ends::tell_ends(text),
-        "level1" | "blocks" | "attachments" => files::tell_file(alloc, word, case, text),
+        "level1" | "blocks" => files::tell_file(alloc, word, case, text),
         _ => Ok(()),
     }
 }
