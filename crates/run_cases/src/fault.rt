@@ -12,28 +12,17 @@ pub enum Fault {
     Memory,
     /// A line of the cases isn't valid.
     Unread,
-    /// A result differs in a run without a failing call.
-    Differs { what: &'static str },
     /// A result differs while this call fails.
-    DiffersAt { what: &'static str, call: u64 },
+    Differs { what: &'static str, call: u64 },
 }
 
 impl Fault {
     /// Fails with `Differs` unless `holds`.
-    pub fn unless(holds: bool, what: &'static str) -> Result<(), Fault> {
+    pub fn unless(holds: bool, what: &'static str, call: u64) -> Result<(), Fault> {
         if holds {
             Ok(())
         } else {
-            Err(Fault::Differs { what })
-        }
-    }
-
-    /// Fails with `DiffersAt` unless `holds`.
-    pub fn unless_at(holds: bool, what: &'static str, call: u64) -> Result<(), Fault> {
-        if holds {
-            Ok(())
-        } else {
-            Err(Fault::DiffersAt { what, call })
+            Err(Fault::Differs { what, call })
         }
     }
 }
@@ -43,8 +32,7 @@ impl fmt::Display for Fault {
         match self {
             Fault::Memory => write!(f, "no memory"),
             Fault::Unread => write!(f, "can't be read"),
-            Fault::Differs { what } => write!(f, "{what}"),
-            Fault::DiffersAt { what, call } => write!(f, "{what}, where call {call} fails"),
+            Fault::Differs { what, call } => write!(f, "{what}, where call {call} fails"),
         }
     }
 }

@@ -1,85 +1,52 @@
 #![tactic(auto)]
 
-//! Whole runs over files, a disk and a report in memory, while a call fails or an edit is stopped. The cases are in
-//! the file `stdin`; the module `reading` describes their form.
+//! A merge, an edit and a recovery over files and a disk in memory, while a call fails or all calls from one on. The
+//! lines of the file `stdin` name bytes and start runs; the module `reading` describes them.
 
-mod case;
 mod disk_runs;
 mod fault;
 mod file_runs;
-mod outputs;
 mod reading;
-mod spelling;
+mod runs;
 
-use crate::case::Case;
 use crate::fault::Fault;
 use crate::reading::Reading;
 use std::alloc::Global;
+use std::fmt::Write;
 use std::io;
 
-/// Numbers of cases that hold and that fail.
-#[derive(Clone, Copy)]
-struct Tally {
-    held: u32,
-    failed: u32,
+/// Returns the lengths in `lengths` as text, each after a space.
+fn listed(alloc: Global, lengths: &[usize]) -> Result<String, Fault> {
+    let mut text = String::new(alloc);
+    for length in lengths {
+        write!(text, " {length}")?;
+    }
+    Ok(text)
 }
 
-impl Tally {
-    /// Counts the result of a case, or of an invalid line, and prints what differs.
-    fn count(&mut self, rt: &impl Print, name: &str, came: Result<(), Fault>) -> io::Result<()> {
-        match came {
-            Ok(()) => self.held = self.held.saturating_add(1),
-            Err(fault) => {
-                self.failed = self.failed.saturating_add(1);
-                println!(rt; "{name}: {fault}")?;
-            }
-        }
-        Ok(())
+/// Runs what a line asks for, and returns the result; or reads the line, and returns an empty text.
+fn answer(alloc: Global, line: &str, reading: &mut Reading) -> Result<String, Fault> {
+    match line {
+        "calls fail" => listed(alloc, file_runs::lengths_left(alloc, reading)?.as_slice()),
+        "disk fails" => disk_runs::check(alloc, reading, false),
+        "disk stops" => disk_runs::check(alloc, reading, true),
+        _ => reading.line(line),
     }
 }
 
-/// Checks a case.
-fn try_case(alloc: Global, case: &Case) -> Result<(), Fault> {
-    if case.is_on_disk() {
-        disk_runs::check(alloc, case)
-    } else {
-        file_runs::check(alloc, case)
-    }
-}
-
-/// Checks the case that was read, if there is one.
-fn end_case(rt: &(impl Print + AllocGlobal), case: &Case, tally: &mut Tally) -> io::Result<()> {
-    if case.name.is_empty() {
-        return Ok(());
-    }
-    tally.count(rt, case.name.as_str(), try_case(rt.alloc(), case))
-}
-
-/// Reads a line of the cases. An empty line ends a case.
-fn take_line(
-    rt: &(impl Print + AllocGlobal),
-    line: &str,
-    reading: &mut Reading,
-    tally: &mut Tally,
-) -> io::Result<()> {
-    if line.is_empty() {
-        end_case(rt, &reading.case, tally)?;
-        reading.clear();
-        return Ok(());
-    }
-    match reading.line(line) {
-        Ok(()) => Ok(()),
-        fault => tally.count(rt, line, fault),
+/// Prints the result of a line that starts a run.
+fn take_line(rt: &(impl Print + AllocGlobal), line: &str, reading: &mut Reading) -> io::Result<()> {
+    match answer(rt.alloc(), line, reading) {
+        Ok(text) if text.is_empty() => Ok(()),
+        Ok(text) => println!(rt; "{line}:{text}"),
+        Err(fault) => println!(rt; "{line}: {fault}"),
     }
 }
 
 fn main(rt: HostRuntime) -> io::Result<()> {
-    let text = io::read_to_string(rt.alloc(), rt.reader())?;
     let mut reading = Reading::new(rt.alloc());
-    let mut tally = Tally { held: 0, failed: 0 };
-    for line in text.lines() {
-        take_line(&rt, line, &mut reading, &mut tally)?;
+    for line in rt.lines(rt.alloc()) {
+        take_line(&rt, line?.as_str(), &mut reading)?;
     }
-    end_case(&rt, &reading.case, &mut tally)?;
-    println!(rt; "{} cases hold, {} don't", tally.held, tally.failed)
+    Ok(())
 }
