@@ -1,0 +1,4 @@
+mod LengthLemmas
+mod BlockLemmas
+mod DocumentLemmas
+mod FileLemmas

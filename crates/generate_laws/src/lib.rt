@@ -1,0 +1,11 @@
+#![tactic(auto)]
+
+//! Laws on the command `generate`: RFC 9559, section 5.1 (Segment Element). No code that reads or writes depends on this
+//! crate.
+
+ghost use Rattle.generate_laws.specs.Files.{FilesHoldBlocks};
+
+/// Law: both files that `generate` merges are valid and hold their blocks.
+pub fn files_hold_blocks()
+    ensures { FilesHoldBlocks }
+{}
