@@ -2,3 +2,13 @@ mod LengthLemmas
 mod BlockLemmas
 mod DocumentLemmas
 mod FileLemmas
+mod MergedLemmas
+mod PartLemmas
+mod NameLemmas
+mod LimitLemmas
+mod SourceLemmas
+mod DamageLemmas
+mod TracksLemmas
+mod MergeLemmas
+mod SplitLemmas
+mod GeneratedLemmas
