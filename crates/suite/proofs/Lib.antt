@@ -1,3 +1,4 @@
+pub mod GeneratedLemmas
 pub mod KeptLemmas
 pub mod MergedLemmas
 pub mod SeenLemmas

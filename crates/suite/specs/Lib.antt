@@ -1,4 +1,5 @@
 pub mod Exit
+pub mod Generated
 pub mod Kept
 pub mod Outside
 pub mod Runs

@@ -16,6 +16,7 @@ use Rattle.remerge_laws.specs.MergedAgain.{MergesAgain}
 use Rattle.mkv_run.specs.Asked.{IsBesidesAfter}
 use Rattle.mkv_run.specs.Ends.{Ends}
 use Rattle.suite.specs.Kept.{HasNewIndex, KeepsRest}
+use Rattle.suite.specs.Generated.{GeneratesWell}
 use Rattle.suite.specs.Outside.{Outside, bytes_read, seen_of, world_of}
 use Rattle.mkv_run.specs.Run.{ReadsWithinIn, verdict_in}
 use Rattle.mkv_run.specs.RunSeen.{HasStatusCause}
@@ -106,6 +107,9 @@ pub record Runs (words : List (List ℕ)) (before after : Outside) (s : Status) 
   pub output_holds_the_merge : MergesWell before.names words after.names s
   -- Merging such an output again, by itself and without options, gives the same bytes, if the first merge used only default options.
   pub merge_is_repeatable : MergesAgain before.names words after.names s
+  -- `generate` ends with the status Done and one line, and its files hold exactly their blocks, unless memory runs out or a call of the system
+  -- fails.
+  pub generate_succeeds : GeneratesWell before.names words s
   -- A crash at any moment leaves the file and its journal as they were, or as an edit or a recovery can leave them on its way; either way
   -- `recover` makes the old file or the edited one of them. If the run is refused or out of memory, it leaves them as they were. This is
   -- promised if the disk is visible to the proof and had nothing left to sync.

@@ -8,6 +8,7 @@ ghost use Rattle.suite.specs.Outside.{outside};
 ghost use Rattle.suite.specs.Runs.{Runs};
 
 use edit_laws::{edits_change_nothing_else, new_index_is_whole};
+use generate_laws::generate_succeeds;
 use mkv_disk::Disk;
 use mkv_io::{Files, Report};
 use mkv_lines::Status;
@@ -31,5 +32,6 @@ pub fn run<F: Files, D: Disk, R: Report>(
     outputs_are_written_again();
     edits_change_nothing_else();
     new_index_is_whole();
+    generate_succeeds();
     run_command_line(alloc, words, files, disk, report)
 }

@@ -2,6 +2,8 @@ use Rattle.mkv_propedit.specs.Recover.{disk_world}
 use Rattle.mkv_run.specs.ByWords.{reach_for}
 use Rattle.mkv_run.specs.RunSeen.{RunSeen, run_seen}
 use Rattle.mkv_run.specs.Touched.{LeftOnTheWay}
+use Rattle.word_values.specs.Place.{texts}
+use Rattle.suite.proofs.GeneratedLemmas.{generates-well}
 use Rattle.suite.proofs.MergedLemmas.{merges-again, merges-well}
 use Rattle.suite.proofs.SeenLemmas.{crash-seen, leaves-seen}
 use Rattle.suite.proofs.running.run.Goals as goal
@@ -28,6 +30,7 @@ returns g c =
           reach c.run_command_line.result did.touches;
       output_holds_the_merge = well;
       merge_is_repeatable = merges-again c.outputs_are_written_again.ensures before after disk words c.run_command_line.result well did.verdict;
+      generate_succeeds = generates-well c.generate_succeeds.ensures before after disk (texts words) c.run_command_line.result did.verdict;
       survives_crashes = λ told synced. crash-seen g.F.Reads g.F.Files g.D.Reads g.D.Disk g.R.Report c.args.files.now c.run_command_line.new.files c.args.disk.now c.run_command_line.new.disk
           c.args.report.now c.run_command_line.new.report g.met.D.Disk.pair_stands g.met.D.Disk.opened_stands (LeftOnTheWay reach c.run_command_line.result pair.media.reads pair.sidecar.reads) (did.any_moment (λ is. synced) told);
     }
