@@ -11,5 +11,7 @@ mod ChapterLemmas
 mod PartLemmas
 pub mod DocumentLemmas
 mod OutputLemmas
+mod AttachedLemmas
+mod BoundLemmas
 mod ExactLemmas
 pub mod MergeLemmas

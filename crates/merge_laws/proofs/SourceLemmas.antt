@@ -262,11 +262,11 @@ taken-types words list = taken-all (λ (t : TakenTrack). is_taken_type t.track.k
 
 -- ---- an input
 
-found-ok : {A B : Type 0} (found : Result A Damage) (more : A → Result B InputRefusal) (y : B) → found_then found more ≡ Ok y → (x : A) × ((found ≡ Ok x) × (more x ≡ Ok y))
+pub found-ok : {A B : Type 0} (found : Result A Damage) (more : A → Result B InputRefusal) (y : B) → found_then found more ≡ Ok y → (x : A) × ((found ≡ Ok x) × (more x ≡ Ok y))
 found-ok (Ok x) more y is = (x, (refl, is))
 found-ok (Err d) more y is = absurd (cc)
 
-unrefused-ok : (why : Option InputRefusal) (input read : InputRead) → input_or_refusal why input ≡ Ok read → (why ≡ None) × (input ≡ read)
+pub unrefused-ok : (why : Option InputRefusal) (input read : InputRead) → input_or_refusal why input ≡ Ok read → (why ≡ None) × (input ≡ read)
 unrefused-ok None input read is = (refl, cc)
 unrefused-ok (Some why) input read is = absurd (cc)
 
@@ -304,7 +304,7 @@ file-read words webm held bytes read octets sound has is =
     subst (λ (i : InputRead). IsReadSource (bytes, i)) made.1
     (record { octets = octets; entries = tt; title = found.title; whole = title-whole r.info; tracks = taken-read words r.tracks sound has found.tracks usable; place = unmoved-place words })
 
-text-ok : (found : Result (List Entry) TextRefusal) (more : List Entry → InputRead) (read : InputRead) → text_then found more ≡ Ok read → (entries : List Entry) × ((found ≡ Ok entries) × (more entries ≡ read))
+pub text-ok : (found : Result (List Entry) TextRefusal) (more : List Entry → InputRead) (read : InputRead) → text_then found more ≡ Ok read → (entries : List Entry) × ((found ≡ Ok entries) × (more entries ≡ read))
 text-ok (Ok entries) more read is = (entries, (refl, cc))
 text-ok (Err why) more read is = absurd (cc)
 

@@ -1,3 +1,4 @@
 pub mod Sources
 pub mod Merge
+pub mod Bound
 pub mod Laws

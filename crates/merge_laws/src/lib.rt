@@ -1,8 +1,10 @@
 #![tactic(auto)]
 
-//! Laws: the outputs of a merge can be read and hold the merge. See RFC 8794, section 8 (EBML Document), and RFC
-//! 9559, sections 5.1 (Segment Element) and 10 (Cluster Blocks). No code that reads or writes depends on this crate.
+//! Laws: the outputs of a merge can be read and hold the merge, and the lengths of its inputs bound what it reads. See
+//! RFC 8794, section 8 (EBML Document), and RFC 9559, sections 5.1 (Segment Element) and 10 (Cluster Blocks). No code
+//! that reads or writes depends on this crate.
 
+ghost use Rattle.merge_laws.specs.Bound.{ReadsAreBounded};
 ghost use Rattle.merge_laws.specs.Laws.{LayoutsHoldOutputs, MergedDocumentsAreSound, SelectedBlocksAreSound, SourcesAreRead, WholeMergesAreOne};
 
 /// Law: the sources of a merge, as they are read, consist of bytes, and their tracks can be written.
@@ -29,4 +31,10 @@ pub fn whole_merges_are_one()
 /// merge gives it. They must be at most 2^48.
 pub fn layouts_hold_outputs()
     ensures { LayoutsHoldOutputs }
+{}
+
+/// Law: a merge reads at most 16 times its inputs' lengths for each output track, and 48 times these lengths besides.
+/// It adds at most 1 MiB, and each text file once.
+pub fn reads_are_bounded_by_lengths()
+    ensures { ReadsAreBounded }
 {}

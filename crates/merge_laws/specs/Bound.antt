@@ -1,0 +1,17 @@
+-- The number of bytes that a merge may read, by the lengths of its inputs. The bound is this project's.
+use Rattle.std.specs.Prelude.{ℕ, ◌+◌, ◌*◌, ◌≤◌, List, Option}
+use Rattle.input_files.specs.TextFiles.{text_octets}
+use Rattle.requests.specs.declared.merge.MergeWords.{MergeWords}
+use Rattle.requests.specs.Sound.{IsSoundMerge}
+use Rattle.mkv_merge.specs.Bound.{contents_length, lane_count, most_read}
+use Rattle.mkv_merge.specs.Merge.{sources_of}
+
+-- the most bytes that a merge may read if the files are `world`, by the lengths of its inputs. They count 16 times for each output track and 48
+-- times besides, and an input counts as often as the command line names it. 1 MiB and the bytes of the text files are added.
+abbrev pub most_by_length : (List ℕ → Option (List ℕ)) → MergeWords → ℕ
+most_by_length world words =
+    16 * (lane_count (sources_of world words) + 3) * contents_length world words.files + 1048576 + text_octets world words.chapters words.files
+
+-- A merge whose command line keeps its limits may read at most `most_by_length` bytes, also if it is refused.
+abbrev pub ReadsAreBounded : Type 0
+ReadsAreBounded = (world : List ℕ → Option (List ℕ)) (words : MergeWords) → IsSoundMerge words → most_read world words ≤ most_by_length world words
