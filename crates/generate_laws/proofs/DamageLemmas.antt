@@ -2,7 +2,7 @@
 use Rattle.std.specs.List.{All}
 use Rattle.std.specs.Option.{option_map_or}
 use Rattle.std.proofs.Common.{◌≡◌, ℕ, ◌==◌, Bool, true, false, if◌then◌else◌, List, [], ◌∷◌, map, find, zip, Some, refl, sym, ap, subst, ◌∙◌}
-use Rattle.std.proofs.lemmas.List.Elements.{All-append, All-cons, All-head, All-nil, All-tail}
+use Rattle.std.proofs.lemmas.List.Elements.{All-append, All-cons, All-head, All-map, All-nil, All-tail, All-weaker}
 use Rattle.mkv_io.specs.declared.damage.Damage.{Damage}
 use Rattle.mkv_schema.specs.declared.element.Header.{Header}
 use Rattle.file_format.specs.Info.{scale_of}
@@ -11,14 +11,15 @@ use Rattle.block_format.specs.Block.{Block}
 use Rattle.block_format.specs.Events.{damages_of, events_of}
 use Rattle.output_model.specs.Document.{Document, layout}
 use Rattle.merge_model.specs.Lanes.{lane_damages}
-use Rattle.merge_model.specs.Links.{Given}
+use Rattle.merge_model.specs.Links.{Given, going_on}
 use Rattle.output_laws.specs.Places.{block_events}
 use Rattle.output_laws.specs.Reading.{blocks_of_document, header_of_segment}
 use Rattle.ext_times.specs.Listing.{Listing}
+use Rattle.requests.specs.declared.merge.MergeWords.{MergeWords}
 use Rattle.merge_inputs.specs.declared.taken.TakenTrack.{TakenTrack}
 use Rattle.merge_inputs.specs.Input.{InputRead, BlocksRead, Clusters, events_by}
 use Rattle.merge_plan.specs.Front.{reads_of}
-use Rattle.merge_plan.specs.Plan.{Source, given_from, given_of, append_offset, inputs_given, lanes_given}
+use Rattle.merge_plan.specs.Plan.{Source, given_from, given_of, append_offset, inputs_given, lanes_given, lanes_taken}
 use Rattle.merge_plan.specs.Records.{is_appended}
 use Rattle.merge_plan.proofs.ChainLemmas.{lanes-all}
 use Rattle.mkv_merge.specs.Merge.{damages_met, links_met}
@@ -68,6 +69,12 @@ found-whole p (link ∷ links) whole = of (p link) (found-whole p links (All-tai
     of true rest = All-head IsWhole link links whole
     of false rest = rest
 
+-- An output track without damage has none either if it goes on after damage.
+taken-whole : (b : Bool) (lanes : List (List Given)) → All (All IsUndamaged) lanes → All (All IsUndamaged) (map (map (going_on b)) lanes)
+taken-whole b lanes none =
+    All-map (All IsUndamaged) (map (going_on b)) lanes
+    (All-weaker (All IsUndamaged) (λ (gs : List Given). All IsUndamaged (map (going_on b) gs)) (λ gs own. All-map IsUndamaged (going_on b) gs own) lanes none)
+
 -- ---- sources
 
 -- The tracks of a source are read without damage.
@@ -75,12 +82,12 @@ pub HasNoDamage : Source → Type 0
 HasNoDamage s = All IsUndamaged (given_of s)
 
 -- No damage is met in sources without damage.
-pub none-damaged : (sources : List Source) (k : ℕ) → All HasNoDamage sources → damages_met sources k ≡ []
+pub none-damaged : (words : MergeWords) (sources : List Source) (k : ℕ) → All HasNoDamage sources → damages_met words sources k ≡ []
 unfolding HasNoDamage
-none-damaged sources k none =
-    found-whole (λ (link : ℕ × List Damage). link.0 == k) (links_met (inputs_given 0 (reads_of sources)) (lanes_given sources))
-    (links-whole (inputs_given 0 (reads_of sources)) (lanes_given sources)
-    (lanes-all IsUndamaged (λ (s : Source). is_appended s.1) given_of HasNoDamage (λ s is. is) sources none))
+none-damaged words sources k none =
+    found-whole (λ (link : ℕ × List Damage). link.0 == k) (links_met (inputs_given 0 (reads_of sources)) (lanes_taken words sources))
+    (links-whole (inputs_given 0 (reads_of sources)) (lanes_taken words sources)
+    (taken-whole words.append_damaged (lanes_given sources) (lanes-all IsUndamaged (λ (s : Source). is_appended s.1) given_of HasNoDamage (λ s is. is) sources none)))
 
 no-damages : (bs : List Block) → damages_of (block_events bs) ≡ []
 no-damages [] = refl

@@ -50,6 +50,7 @@ use Rattle.mkv_generate.specs.declared.names.Names.{Names}
 use Rattle.mkv_generate.specs.Blocks.{block_of, blocks_of as made_blocks}
 use Rattle.mkv_generate.specs.Files.{default_limits, file_of, lane_blocks as made_lane, rule_of}
 use Rattle.mkv_generate.specs.Generate.{both_words, made_of}
+use Rattle.merge_laws.proofs.TakenLemmas.{lanes-same}
 use Rattle.remerge_laws.proofs.AgainLaneLemmas.{lanes-merged}
 use Rattle.remerge_laws.proofs.WholeLemmas.{one-document}
 use Rattle.generate_laws.specs.Generated.{both_blocks}
@@ -168,7 +169,7 @@ module _ (n : ℕ) (few : n ≤ 100000) (names : Names) where
       ∙ ap₂ (λ (x y : List (List OutputBlock)). x ++ y) (ap (map (lane_blocks 1000000)) (sym (append-nil a)) ∙ file-lanes Pictures names.pictures picture-read) (file-lanes Sounds names.sounds sound-read)
 
   pub blocks-merged : blocks_of words sources ≡ both_blocks n
-  blocks-merged = ap merged both-lanes_read
+  blocks-merged = ap (λ (lanes : List (List Given)). merged (map (lane_blocks 1000000) lanes)) (lanes-same (lanes_given sources)) ∙ ap merged both-lanes_read
 
   -- ---- the output
 
@@ -192,10 +193,10 @@ module _ (n : ℕ) (few : n ≤ 100000) (names : Names) where
       All-cons HasNoDamage first (second ∷ []) (output-undamaged (file_of Pictures n) first.1 picture-read.output)
       (All-cons HasNoDamage second [] (output-undamaged (file_of Sounds n) second.1 sound-read.output) (All-nil HasNoDamage))
 
-  none-met : (k : ℕ) → damages_met sources k ≡ []
-  none-met k = none-damaged sources k none-in
+  none-met : (k : ℕ) → damages_met words sources k ≡ []
+  none-met k = none-damaged words sources k none-in
 
-  pub both-undamaged : has_damage sources ≡ false
+  pub both-undamaged : has_damage words sources ≡ false
   both-undamaged = ap₂ (λ (x y : List Damage). is_some_of x || (is_some_of y || false)) (none-met 0) (none-met 1)
 
   pub both-unwarned : (made_of words sources).warned ≡ []

@@ -17,6 +17,8 @@ use Rattle.output_model.specs.Document.{Document, layout}
 use Rattle.output_model.specs.OutputBlock.{OutputBlock}
 use Rattle.output_model.specs.Sound.{IsSoundBlock}
 use Rattle.splitter.specs.Sections.{Part, Split, parts}
+use Rattle.merge_model.specs.Lanes.{lane_blocks}
+use Rattle.merge_model.specs.Links.{Given}
 use Rattle.merge_model.specs.Merged.{merged}
 use Rattle.remux_plan.specs.Parts.{PlannedOutput}
 use Rattle.remux_plan.specs.Uuids.{uuid_at, with_uuids}
@@ -27,7 +29,7 @@ use Rattle.merge_inputs.specs.declared.input.InputRefusal.{InputRefusal}
 use Rattle.merge_plan.specs.Appending.{append_refusal}
 use Rattle.merge_plan.specs.Front.{reads_of}
 use Rattle.merge_plan.specs.Places.{in_place}
-use Rattle.merge_plan.specs.Plan.{Source}
+use Rattle.merge_plan.specs.Plan.{Source, lanes_given}
 use Rattle.merge_plan.specs.Refusal.{plan_refusal}
 use Rattle.merge_plan.specs.declared.refusal.PlanRefusal.{PlanRefusal}
 use Rattle.mkv_merge.specs.Chapters.{chaptered, chapters_refusal, with_chapters}
@@ -43,6 +45,7 @@ use Rattle.mkv_generate.specs.declared.blocks.MediaKind.TheVariants.{Pictures, S
 use Rattle.mkv_generate.specs.declared.names.Names.{Names}
 use Rattle.mkv_generate.specs.Blocks.{blocks_of as made_blocks}
 use Rattle.mkv_generate.specs.Generate.{made_of, parts_words}
+use Rattle.merge_laws.proofs.TakenLemmas.{lanes-same}
 use Rattle.generate_laws.specs.Files.{HoldsBlocks}
 use Rattle.generate_laws.specs.Generated.{HoldsItsBlocks, both_blocks, ten_seconds}
 use Rattle.generate_laws.proofs.BlockLemmas.{IsGood, blocks-count, blocks-good, good-in_lane, good-in_output}
@@ -152,10 +155,10 @@ module _ (n : ℕ) (few : n ≤ 100000) (names : Names) where
 
   -- ---- no damage
 
-  none-met : (k : ℕ) → damages_met part_sources k ≡ []
-  none-met k = none-damaged part_sources k (All-cons HasNoDamage source [] (output-undamaged document source.1 both-read.output) (All-nil HasNoDamage))
+  none-met : (k : ℕ) → damages_met words part_sources k ≡ []
+  none-met k = none-damaged words part_sources k (All-cons HasNoDamage source [] (output-undamaged document source.1 both-read.output) (All-nil HasNoDamage))
 
-  pub parts-undamaged : has_damage part_sources ≡ false
+  pub parts-undamaged : has_damage words part_sources ≡ false
   parts-undamaged = ap (λ (x : List Damage). is_some_of x || false) (none-met 0)
 
   pub parts-unwarned : (made_of words part_sources).warned ≡ []
@@ -165,7 +168,8 @@ module _ (n : ℕ) (few : n ≤ 100000) (names : Names) where
 
   blocks-again : blocks_of words part_sources ≡ both_blocks n
   blocks-again =
-      ap merged (lanes-read both_rules tracks 2 (both_blocks n) both-plain names.both (made_blocks Pictures n ∷ made_blocks Sounds n ∷ []) refl
+      ap (λ (lanes : List (List Given)). merged (map (lane_blocks 1000000) lanes)) (lanes-same (lanes_given part_sources))
+      ∙ ap merged (lanes-read both_rules tracks 2 (both_blocks n) both-plain names.both (made_blocks Pictures n ∷ made_blocks Sounds n ∷ []) refl
       (All-cons (All HasNoLane) (made_blocks Pictures n) (made_blocks Sounds n ∷ []) (all-unplaced Pictures _) (All-cons (All HasNoLane) (made_blocks Sounds n) [] (all-unplaced Sounds _) (All-nil (All HasNoLane)))) refl both-read)
 
   -- the Tracks of each part

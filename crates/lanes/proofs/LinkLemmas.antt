@@ -1,9 +1,9 @@
 -- The first event of an input, for an output track.
 use Rattle.std.proofs.Common.{◌≡◌, ℕ, ◌+◌, Bool, true, false, if◌then◌else◌, List, [], ◌∷◌, ◌++◌, filter, flat_map, length, Option, Some, None, refl, sym, ap, add-zero}
-use Rattle.std.specs.Prelude.{◌||◌, ◌==◌}
+use Rattle.std.specs.Prelude.{◌||◌, ◌&&◌, ◌==◌, is_some, not}
 use Rattle.mkv_io.specs.declared.damage.Damage.{Damage}
 use Rattle.block_format.specs.Block.{Block}
-use Rattle.block_format.specs.Events.{Event, block, blocks_of}
+use Rattle.block_format.specs.Events.{Event, block, blocks_of, last_of}
 use Rattle.cluster_reader.specs.Reading.{damage_event}
 use Rattle.ext_times.specs.Listing.{Listing}
 use Rattle.merge_model.specs.Links.{Placing, given_blocks, placed}
@@ -43,12 +43,17 @@ pub damage-told : (t : TrackLink) (k : ℕ) (st last now : Bool) (d : Damage) (e
 damage-told t k st true now d es = refl
 damage-told t k st false now d es = refl
 
--- A damaged place may end the reading.
-pub damage-stops : (t : TrackLink) (k : ℕ) (st last : Bool) (d : Damage) (es : List Event) → (track_behind t k st (damage_event last d ∷ es)).stops ≡ (track_behind t k (last || st) es).stops
-damage-stops t k true true d es = refl
-damage-stops t k true false d es = refl
-damage-stops t k false true d es = refl
-damage-stops t k false false d es = refl
+-- A damaged place may end the reading, unless the link goes on.
+pub damage-stops : (t : TrackLink) (k : ℕ) (st last : Bool) (d : Damage) (es : List Event) → (track_behind t k st (damage_event last d ∷ es)).stops ≡ (track_behind t k ((not t.goes_on && last) || st) es).stops
+damage-stops t k st last d es = split t.goes_on st last
+  where
+    split : (goes_on st last : Bool) → (st || (not goes_on && is_some (last_of (damage_event last d ∷ es)))) ≡ (((not goes_on && last) || st) || (not goes_on && is_some (last_of es)))
+    split true true last = refl
+    split true false last = refl
+    split false true true = refl
+    split false true false = refl
+    split false false true = refl
+    split false false false = refl
 
 -- At the file's end no block is left.
 pub end-blocks : (scale : ℕ) (t : TrackLink) (k : ℕ) (st : Bool) → given_blocks scale (track_behind t k st []) ≡ []
@@ -59,5 +64,10 @@ end-blocks scale t k st = none (listing_of t)
     none (Some l) = refl
 
 pub end-stops : (t : TrackLink) (k : ℕ) (st : Bool) → (track_behind t k st []).stops ≡ st
-end-stops t k true = refl
-end-stops t k false = refl
+end-stops t k st = split t.goes_on st
+  where
+    split : (goes_on st : Bool) → (st || (not goes_on && false)) ≡ st
+    split true true = refl
+    split true false = refl
+    split false true = refl
+    split false false = refl

@@ -40,12 +40,12 @@ given-texts f [] none = refl
 given-texts f (Track t ∷ links) none = absurd (cc)
 given-texts f (Entries e ∷ links) none = ap (λ gs. given_in f (Entries e) ∷ gs) (given-texts f links none)
 
-stops-texts : (f : LiveFiles) (links : List Link) → first_track links ≡ None → stops_any (map (given_in f) links) ≡ false
+stops-texts : (f : LiveFiles) (links : List Link) → first_track links ≡ None → stops_any f links ≡ false
 stops-texts f [] none = refl
 stops-texts f (Track t ∷ links) none = absurd (cc)
 stops-texts f (Entries e ∷ links) none = stops-texts f links none
 
-pub survey-texts : (f : LiveFiles) (links : List Link) (end : ℕ) → first_track links ≡ None → end ≡ texts_end links → IsSurvey (map (given_in f) links) (record { end = end; stopped = false })
+pub survey-texts : (f : LiveFiles) (links : List Link) (end : ℕ) → first_track links ≡ None → end ≡ texts_end links → IsSurvey f links (record { end = end; stopped = false })
 survey-texts f links end none is = record {
   end = is ∙ ap file_end (sym (given-texts f links none));
   stopped = sym (stops-texts f links none);
@@ -53,35 +53,36 @@ survey-texts f links end none is = record {
 
 -- ---- with a track
 
+or-same : (s x : Bool) → (x || s) ≡ s → ((s || x) || s) ≡ s
+or-same true x rest = refl
+or-same false x rest = rest
+
+or-first : (s x : Bool) → (x || s) ≡ s → (s || x) ≡ s
+or-first true x rest = refl
+or-first false true rest = rest
+or-first false false rest = refl
+
 -- A text never stops, and a track stops if its file does.
-stops-given : (es : List Event) (links : List Link) → (stops_any (map (given_by es) links) || is_some (last_of es)) ≡ is_some (last_of es)
-stops-given es [] = refl
-stops-given es (Track t ∷ links) = split (is_some (last_of es)) (stops-given es links)
-  where
-    split : (s : Bool) → (stops_any (map (given_by es) links) || s) ≡ s → ((s || stops_any (map (given_by es) links)) || s) ≡ s
-    split true rest = refl
-    split false rest = rest
-stops-given es (Entries e ∷ links) = stops-given es links
+stops-given : (f : LiveFiles) (t : TrackLink) (links : List Link) → All (IsOfFile t) links → (stops_any f links || is_some (last_of (track_events f t))) ≡ is_some (last_of (track_events f t))
+stops-given f t [] all = refl
+stops-given f t (Track other ∷ links) all =
+    ap (λ (es : List Event). (is_some (last_of es) || stops_any f links) || is_some (last_of (track_events f t))) (same-events f t other (All-head (IsOfFile t) (Track other) links all))
+    ∙ or-same (is_some (last_of (track_events f t))) (stops_any f links) (stops-given f t links (All-tail (IsOfFile t) (Track other) links all))
+stops-given f t (Entries e ∷ links) all = stops-given f t links (All-tail (IsOfFile t) (Entries e) links all)
 
-or-none : (x : Bool) → (x || false) ≡ false → x ≡ false
-or-none true is = is
-or-none false is = refl
+stops-first : (f : LiveFiles) (t : TrackLink) (links : List Link) → first_track links ≡ Some t → All (IsOfFile t) links → stops_any f links ≡ is_some (last_of (track_events f t))
+stops-first f t [] is all = absurd (cc)
+stops-first f t (Track other ∷ links) is all =
+    ap (λ (es : List Event). is_some (last_of es) || stops_any f links) (same-events f t other (All-head (IsOfFile t) (Track other) links all))
+    ∙ or-first (is_some (last_of (track_events f t))) (stops_any f links) (stops-given f t links (All-tail (IsOfFile t) (Track other) links all))
+stops-first f t (Entries e ∷ links) is all = stops-first f t links is (All-tail (IsOfFile t) (Entries e) links all)
 
-stops-first : (es : List Event) (links : List Link) (t : TrackLink) → first_track links ≡ Some t → stops_any (map (given_by es) links) ≡ is_some (last_of es)
-stops-first es [] t is = absurd (cc)
-stops-first es (Track other ∷ links) t is = split (is_some (last_of es)) (stops-given es links)
-  where
-    split : (s : Bool) → (stops_any (map (given_by es) links) || s) ≡ s → (s || stops_any (map (given_by es) links)) ≡ s
-    split true rest = refl
-    split false rest = or-none (stops_any (map (given_by es) links)) rest
-stops-first es (Entries e ∷ links) t is = stops-first es links t is
-
-pub survey-walked : (f : LiveFiles) (links : List Link) (t : TrackLink) (s : Survey) (es : List Event) → first_track links ≡ Some t → AreOfOneFile links → es ≡ track_events f t → IsWalked es links s → IsSurvey (map (given_in f) links) s
+pub survey-walked : (f : LiveFiles) (links : List Link) (t : TrackLink) (s : Survey) (es : List Event) → first_track links ≡ Some t → AreOfOneFile links → es ≡ track_events f t → IsWalked es links s → IsSurvey f links s
 survey-walked f links t s es first one is walked =
     let given : map (given_in f) links ≡ map (given_by es) links = given-all f t links (one t first) ∙ ap (λ each. map (given_by each) links) (sym is) in
     record {
       end = walked.end ∙ ap file_end (sym given);
-      stopped = walked.stopped ∙ sym (stops-first es links t first) ∙ ap stops_any (sym given);
+      stopped = walked.stopped ∙ ap (λ (each : List Event). is_some (last_of each)) is ∙ sym (stops-first f t links first (one t first));
     }
 
 -- A fact about all links holds for the first track.

@@ -1,6 +1,6 @@
 -- A turn at a link, for each result of its cursor: its block, its distance, and the bytes it reads.
 use Rattle.std.proofs.Common.{◌≡◌, ℕ, suc, zero, ◌+◌, ◌-◌, ◌*◌, ◌<◌, ◌≤◌, Bool, true, false, List, [], ◌∷◌, ◌++◌, length, drop, Option, Some, None, Result, Ok, Err, refl, sym, ◌∙◌, ap, subst, add-one, arith}
-use Rattle.std.specs.Prelude.{◌||◌, ◌==◌}
+use Rattle.std.specs.Prelude.{◌||◌, ◌&&◌, ◌==◌, not}
 use Rattle.std.specs.Result.{IsErr}
 use Rattle.std.specs.List.{All, slice_get}
 use Rattle.std.proofs.Math.ListN.{set}
@@ -207,7 +207,7 @@ module _ (f : LiveFiles) (scale : ℕ) {links : List Link} {t : TrackLink} {old 
 
   -- ---- a damaged place
 
-  pub turns-damage : (last : Bool) (x : Damage) (r : ToldDamages) → new.frames ≡ old.frames → new.stopped ≡ (last || old.stopped) → new.greatest ≡ old.greatest → left_of (octets_in f t.file.n) c ≡ damage_event last x ∷ left_of (octets_in f t.file.n) d
+  pub turns-damage : (last : Bool) (x : Damage) (r : ToldDamages) → new.frames ≡ old.frames → new.stopped ≡ ((not t.goes_on && last) || old.stopped) → new.greatest ≡ old.greatest → left_of (octets_in f t.file.n) c ≡ damage_event last x ∷ left_of (octets_in f t.file.n) d
       → slice_get old.told.items old.at ≡ Some r → old.at < length old.told.items → new.told.items ≡ set old.told.items old.at (with_damage r x) → Turns f scale links old new (Ok None)
   turns-damage last x r frames stopped greatest gives here inside told = record {
     blocks = left-passes f scale links old new _ _ damage-stays

@@ -1,11 +1,11 @@
 -- Facts about a file for the inputs that are appended to it.
-use Rattle.std.specs.Prelude.{◌≡◌, ⊤, ℕ, Bool, false, ◌||◌, List, [], ◌∷◌, Option, Some, None, map, Result, IfOk}
+use Rattle.std.specs.Prelude.{◌≡◌, ⊤, ℕ, Bool, false, ◌||◌, List, [], ◌∷◌, Option, Some, None, is_some, map, Result, IfOk}
 use Rattle.std.specs.List.{All}
+use Rattle.block_format.specs.Events.{last_of}
 use Rattle.mkv_io.specs.LiveFiles.{LiveFiles}
 use Rattle.mkv_io.specs.declared.outside.ReadEnd.{ReadEnd}
-use Rattle.merge_model.specs.Links.{Given}
 use Rattle.merge_model.specs.Ends.{file_end}
-use Rattle.merge_model.specs.FileLinks.{IsToldLink, given_in}
+use Rattle.merge_model.specs.FileLinks.{IsToldLink, given_in, track_events}
 use Rattle.merge_model.specs.declared.link.Link.{Link}
 use Rattle.merge_model.specs.declared.link.Link.TheVariants.{Track, Entries}
 use Rattle.merge_model.specs.declared.link.TrackLink.{TrackLink}
@@ -32,19 +32,20 @@ IsOfFile t (Entries e) = ⊤
 abbrev pub AreOfOneFile : List Link → Type 0
 AreOfOneFile links = (t : TrackLink) → first_track links ≡ Some t → All (IsOfFile t) links
 
--- One of the links isn't read to its end.
-abbrev pub stops_any : List Given → Bool
-stops_any [] = false
-stops_any (g ∷ gs) = g.stops || stops_any gs
+-- Damage ends the reading of the file of one of the links, whether or not the files after it are read.
+abbrev pub stops_any : LiveFiles → List Link → Bool
+stops_any f [] = false
+stops_any f (Track t ∷ links) = is_some (last_of (track_events f t)) || stops_any f links
+stops_any f (Entries e ∷ links) = stops_any f links
 
--- `s` has the end of the file, and whether damage ends its reading.
-pub record IsSurvey (given : List Given) (s : Survey) : Type 0 where
-  pub end : s.end ≡ file_end given
-  pub stopped : s.stopped ≡ stops_any given
+-- `s` has the end of the file of `links`, and whether damage ends its reading.
+pub record IsSurvey (f : LiveFiles) (links : List Link) (s : Survey) : Type 0 where
+  pub end : s.end ≡ file_end (map (given_in f) links)
+  pub stopped : s.stopped ≡ stops_any f links
 
 -- A survey of the file of `links` is right, if the files are visible to the proof.
 abbrev pub Surveys : LiveFiles → List Link → Result Survey ReadEnd → Type 0
-Surveys f links result = All (IsToldLink f) links → IfOk result (IsSurvey (map (given_in f) links))
+Surveys f links result = All (IsToldLink f) links → IfOk result (IsSurvey f links)
 
 -- the length of the file that is walked over
 abbrev pub length_of : LiveFiles → Option TrackLink → ℕ

@@ -1,5 +1,5 @@
 -- A walk over the links of an output track: the blocks that are left, its last block, and its place among the files.
-use Rattle.std.specs.Prelude.{◌≡◌, ℕ, ◌+◌, ◌-◌, ◌*◌, ◌≤◌, ⊤, Bool, false, ◌||◌, List, [], ◌∷◌, ◌++◌, length, map, take, drop, Option, Some, None, is_some, if◌then◌else◌}
+use Rattle.std.specs.Prelude.{◌≡◌, ℕ, ◌+◌, ◌-◌, ◌*◌, ◌≤◌, ⊤, Bool, false, ◌||◌, ◌&&◌, not, List, [], ◌∷◌, ◌++◌, length, map, take, drop, Option, Some, None, is_some, if◌then◌else◌}
 use Rattle.std.specs.List.{All, slice_get}
 use Rattle.mkv_io.specs.LiveFiles.{LiveFiles}
 use Rattle.block_format.specs.Events.{Event, last_of}
@@ -21,9 +21,10 @@ use Rattle.lanes.specs.declared.walk.Walk.{Walk}
 
 -- ---- blocks and damaged places that are left
 
--- the rest of a track with the events `events` left, after `k` of its frames; `stopped` is set if damage has ended the reading
+-- the rest of a track with the events `events` left, after `k` of its frames; `stopped` is set if damage has ended the reading of the files after
+-- it
 abbrev pub track_behind : TrackLink → ℕ → Bool → List Event → Given
-track_behind t k stopped events = record (timed_given (listing_of t) k (track_given (placing_of t) t.number events)) { stops = stopped || is_some (last_of events) }
+track_behind t k stopped events = record (timed_given (listing_of t) k (track_given (placing_of t) t.number events)) { stops = stopped || (not t.goes_on && is_some (last_of events)) }
 
 -- the rest of a track: all of it, or what its cursor has left
 abbrev pub track_left : LiveFiles → TrackLink → ℕ → Bool → Option Reading → Given
@@ -96,7 +97,7 @@ pub record IsReady (f : LiveFiles) (links : List Link) (w : Walk) : Type 0 where
   pub stopped : w.cursor ≡ None → w.stopped ≡ false
   pub frames : HasCounted w.frames w.cursor
 
--- the walk after leaving its current link: at the next one, or after all `count` links if the file wasn't read to its end
+-- the walk after leaving its current link: at the next one, or after all `count` links if damage ended the reading
 abbrev pub behind_link : ℕ → Walk → Walk
 behind_link count w = record w { at = if w.stopped then count else w.at + 1; cursor = None; next = 0; frames = 0; stopped = false }
 

@@ -1,6 +1,6 @@
 //! One turn of a walk: the next event of a link
 
-ghost use Rattle.std.specs.Prelude.{◌≡◌, ◌≤◌, Some, Ok, None, IfOk};
+ghost use Rattle.std.specs.Prelude.{◌≡◌, ◌≤◌, ◌&&◌, not, Some, Ok, None, IfOk};
 ghost use Rattle.std.specs.List.{All, slice_get};
 ghost use Rattle.mkv_io.specs.Faults.{HasCause, is_read_fault};
 ghost use Rattle.mkv_io.specs.LiveFiles.{LiveFiles};
@@ -18,6 +18,13 @@ use cluster_reader::{BlockFilter, Cursor, Step};
 use merge_model::{Link, TextLink, TrackLink};
 use mkv_io::{ReadEnd, Reads};
 use std::alloc::Global;
+
+// Checks whether damage ended the reading of the track's file and of the files after it.
+fn stopped(track: &TrackLink, cursor: &Cursor) -> bool
+    ensures { result ≡ (not track.now.goes_on && cursor.now.stopped) }
+{
+    !track.goes_on && cursor.stopped()
+}
 
 // Takes one turn in the file of a track. Returns `None` if no block was placed.
 fn turn_track<R: Reads>(
@@ -63,7 +70,7 @@ fn turn_track<R: Reads>(
             }
         }
         Step::Damaged(damage) => {
-            walk.stopped = cursor.stopped() || walk.stopped;
+            walk.stopped = stopped(track, cursor) || walk.stopped;
             walk.told[walk.at].add(damage);
             Ok(None)
         }

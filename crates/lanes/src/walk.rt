@@ -19,7 +19,7 @@ pub struct Walk {
     pub next: usize,
     /// Number of its track's previous frames, if it is a track
     pub frames: u64,
-    /// Damage ended the reading of its file
+    /// Damage ended the reading of its file, and the files after it aren't read
     pub stopped: bool,
     /// Damaged places that were reached, by link
     pub told: Vec<Damages>,
@@ -50,7 +50,7 @@ impl Walk {
         })
     }
 
-    /// Leaves the current link: goes to the next one, or after all `count` links if the file wasn't read to its end.
+    /// Leaves the current link: goes to the next one, or after all `count` links if damage ended the reading.
     pub fn leave(&mut self, count: usize)
         requires { self.old.at < count }
         ensures { self.new ≡ behind_link count self.old }

@@ -303,7 +303,7 @@ module _ (words : MergeWords) (sources : List Source) (sound : IsSoundMerge word
   tracks-few = plan-few words (reads_of sources) are.unrefused
 
   lanes-as_many : length (tracks.entries_of (tracks_of_output (reads_of sources))) ≡ length (lanes_selected words sources)
-  lanes-as_many = taken-lanes (tracks_taken (reads_of sources)) (all-tracks sources are.each) tracks-few ∙ sym (lanes-length words.scale sources)
+  lanes-as_many = taken-lanes (tracks_taken (reads_of sources)) (all-tracks sources are.each) tracks-few ∙ sym (lanes-length words sources)
 
   -- Its tracks have unchanged frames.
   pub document-plain : All HasNoEncodings (tracks.entries_of (tracks_of_output (reads_of sources)))

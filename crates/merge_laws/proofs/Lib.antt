@@ -6,6 +6,7 @@ mod GivenLemmas
 mod PlaceLemmas
 pub mod SourceLemmas
 pub mod LaneLemmas
+pub mod TakenLemmas
 mod LoadLemmas
 mod ChapterLemmas
 mod PartLemmas

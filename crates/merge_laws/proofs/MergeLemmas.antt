@@ -33,7 +33,7 @@ use Rattle.mkv_args.specs.Words.{command}
 use Rattle.mkv_args.specs.declared.command.Command.TheVariants.{Merge}
 use Rattle.mkv_args.proofs.SoundLemmas.{command-sound}
 use Rattle.mkv_args.proofs.TextLemmas.{asked-texts}
-use Rattle.merge_plan.specs.Plan.{Source, lanes_given, limits_of}
+use Rattle.merge_plan.specs.Plan.{Source, lanes_given, lanes_taken, limits_of}
 use Rattle.mkv_merge.specs.Merge.{merge_verdict, outputs_of, sources_of, verdict_of}
 use Rattle.mkv_merge.specs.Read.{is_split}
 use Rattle.mkv_merge.specs.Records.{CanBeReadAgain, HaveRecords, IsFilled}
@@ -46,7 +46,7 @@ use Rattle.merge_laws.specs.Merge.{HoldsLanes, HoldsOutput, IsMerged, laid_out, 
 use Rattle.merge_laws.specs.Sources.{AreSources, HoldsOctets}
 use Rattle.merge_laws.proofs.DocumentLemmas.{document-ids, document-plain, document-scale, document-sound, document_with}
 use Rattle.merge_laws.proofs.ExactLemmas.{blocks-exact}
-use Rattle.merge_laws.proofs.LaneLemmas.{lanes-free}
+use Rattle.merge_laws.proofs.LaneLemmas.{lanes-as_many, lanes-free}
 use Rattle.merge_laws.proofs.LoadLemmas.{loads-kept}
 use Rattle.merge_laws.proofs.OutputLemmas.{IsPartOf, output_with, outputs-hold, outputs-parts}
 use Rattle.merge_laws.proofs.SourceLemmas.{sources-read}
@@ -86,9 +86,9 @@ module _ (words : MergeWords) (sources : List Source) (sound : IsSoundMerge word
         let scale = document-scale words sources sound texts are number in
         let events = file_events false (layout document) (header_of_segment document) in
         let lanes = lanes_selected words sources in
-        let as_many : length lanes ≡ length (lanes_given sources) = length-map (lanes_given sources) (lane_blocks words.scale) in
+        let as_many : length lanes ≡ length (lanes_given sources) = length-map (lanes_taken words sources) (lane_blocks words.scale) ∙ lanes-as_many words sources in
         ap (λ s. lanes_read s 1 (length (lanes_given sources)) events) (sym scale) ∙ ap (λ n. lanes_read (scale_of document.front.info) 1 n events) (sym as_many)
-        ∙ lanes-again document (limits_of words) lanes (sound-one short) (ap (clusters (limits_of words)) (is.whole whole)) (lanes-free words.scale sources are.each)
+        ∙ lanes-again document (limits_of words) lanes (sound-one short) (ap (clusters (limits_of words)) (is.whole whole)) (lanes-free words sources are.each)
 
     becomes-one : Becomes (output_with words sources number files part)
     becomes-one = draft-layout (name_of (is_split words) words.output number) document (length-area_of document (document-ids words sources number files part have))

@@ -76,7 +76,7 @@ pub record IsPartOf (words : MergeWords) (sources : List Source) (part : Part) :
 module _ (words : MergeWords) (sources : List Source) (sound : IsSoundMerge words) (are : AreSources words sources) where
   parts-are : All (IsPartOf words sources) (parts_of words sources)
   parts-are = λ k d below. record {
-    blocks = parts-sound (length (lanes_selected words sources)) (split_of words sources) (blocks_of words sources) (merged-of (lanes_selected words sources) (lanes-sound words.scale sources sound.scale.least are.each)) k d below;
+    blocks = parts-sound (length (lanes_selected words sources)) (split_of words sources) (blocks_of words sources) (merged-of (lanes_selected words sources) (lanes-sound words sources sound.scale.least are.each)) k d below;
     whole = λ whole. subst (All (HasAll words sources)) (sym (one-part words sources whole)) (All-cons (HasAll words sources) (whole_of words sources) [] refl (All-nil (HasAll words sources))) k d below;
   }
 

@@ -1,5 +1,5 @@
 -- Laws: the outputs of a merge can be read, and hold the merge.
-use Rattle.std.specs.Prelude.{◌≡◌, ◌≤◌, ℕ, List, [], ◌∷◌, Option, None, Ok, length, map, All}
+use Rattle.std.specs.Prelude.{◌≡◌, ◌≤◌, ℕ, false, true, List, [], ◌∷◌, Option, None, Ok, length, map, flat_map, All}
 use Rattle.mkv_io.specs.declared.outside.TheConstants.{LONGEST_FILE}
 use Rattle.output_model.specs.Document.{layout}
 use Rattle.output_model.specs.OutputBlock.{OutputBlock}
@@ -7,7 +7,8 @@ use Rattle.output_model.specs.Sound.{IsSoundBlock, IsSoundDocument}
 use Rattle.remux_plan.specs.Parts.{PlannedOutput}
 use Rattle.requests.specs.declared.merge.MergeWords.{MergeWords}
 use Rattle.requests.specs.Sound.{IsSoundMerge}
-use Rattle.merge_plan.specs.Plan.{Source}
+use Rattle.merge_model.specs.Links.{Given, given_blocks}
+use Rattle.merge_plan.specs.Plan.{Source, lanes_given, lanes_taken}
 use Rattle.mkv_merge.specs.Merge.{blocks_of, outputs_of, sources_of}
 use Rattle.mkv_merge.specs.Records.{HaveRecords}
 use Rattle.merge_laws.specs.Merge.{HoldsOutput, lanes_selected}
@@ -46,3 +47,18 @@ abbrev pub WholeMergesAreOne : Type 0
 WholeMergesAreOne =
     (words : MergeWords) (sources : List Source) → words.split ≡ None
     → map name_and_blocks (outputs_of words sources) ≡ (words.output, blocks_of words sources) ∷ []
+
+-- Damage doesn't end the reading of the files after the source `g`.
+abbrev pub NeverStops : Given → Type 0
+NeverStops g = g.stops ≡ false
+
+-- If no source stops, the option to go on after damage changes nothing.
+abbrev pub UndamagedLanesStay : Type 0
+UndamagedLanesStay =
+    (words : MergeWords) (sources : List Source) → All (All NeverStops) (lanes_given sources) → lanes_taken words sources ≡ lanes_given sources
+
+-- With the option to go on after damage, all blocks of all links of each output track are selected.
+abbrev pub DamagedLanesGoOn : Type 0
+DamagedLanesGoOn =
+    (words : MergeWords) (sources : List Source) → words.append_damaged ≡ true
+    → lanes_selected words sources ≡ map (λ (gs : List Given). flat_map (given_blocks words.scale) gs) (lanes_given sources)

@@ -24,7 +24,7 @@ use Rattle.splitter.specs.Words.{size_of}
 use Rattle.part_size.specs.Laws.{AllButLast, IsFull, IsSmall}
 use Rattle.remux_plan.specs.Parts.{PlannedOutput}
 use Rattle.requests.specs.declared.merge.MergeWords.{MergeWords}
-use Rattle.merge_plan.specs.Plan.{Source, lanes_given}
+use Rattle.merge_plan.specs.Plan.{Source, lanes_given, lanes_taken}
 use Rattle.mkv_args.specs.Words.{command}
 use Rattle.mkv_args.specs.declared.command.Command.TheVariants.{Merge}
 use Rattle.mkv_merge.specs.Merge.{blocks_of, outputs_of, sources_of, split_of}
@@ -38,7 +38,7 @@ use Rattle.merge_laws.specs.Sources.{HoldsOctets}
 -- the selected blocks, one output track after another: the blocks of each selected track outside any damage. Each has its own timestamp or the
 -- timestamp file's, with its delay, in ticks of the output. The bytes that header stripping removed are before each frame again.
 abbrev pub lanes_selected : MergeWords → List Source → List (List OutputBlock)
-lanes_selected words sources = map (lane_blocks words.scale) (lanes_given sources)
+lanes_selected words sources = map (lane_blocks words.scale) (lanes_taken words sources)
 
 -- the events in the content `bytes` of an output, read without a reader's limits, in the Segment of the output's document
 abbrev pub events_read : PlannedOutput → List ℕ → List Event

@@ -5,7 +5,7 @@
 //! that reads or writes depends on this crate.
 
 ghost use Rattle.merge_laws.specs.Bound.{ReadsAreBounded};
-ghost use Rattle.merge_laws.specs.Laws.{LayoutsHoldOutputs, MergedDocumentsAreSound, SelectedBlocksAreSound, SourcesAreRead, WholeMergesAreOne};
+ghost use Rattle.merge_laws.specs.Laws.{DamagedLanesGoOn, LayoutsHoldOutputs, MergedDocumentsAreSound, SelectedBlocksAreSound, SourcesAreRead, UndamagedLanesStay, WholeMergesAreOne};
 
 /// Law: the sources of a merge, as they are read, consist of bytes, and their tracks can be written.
 pub fn sources_are_read()
@@ -31,6 +31,16 @@ pub fn whole_merges_are_one()
 /// merge gives it. They must be at most 2^48.
 pub fn layouts_hold_outputs()
     ensures { LayoutsHoldOutputs }
+{}
+
+/// Law: if damage ends the reading of no file, the option to go on after damage changes nothing.
+pub fn undamaged_lanes_stay()
+    ensures { UndamagedLanesStay }
+{}
+
+/// Law: with the option to go on after damage, an output track has all blocks of all its files.
+pub fn damaged_lanes_go_on()
+    ensures { DamagedLanesGoOn }
 {}
 
 /// Law: a merge reads at most 16 times its inputs' lengths for each output track, and 48 times these lengths besides.

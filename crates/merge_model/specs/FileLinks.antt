@@ -11,7 +11,7 @@ use Rattle.output_model.specs.declared.TheConstants.{MAX_PREFIX_LEN}
 use Rattle.output_model.specs.OutputBlock.{OutputBlock}
 use Rattle.ext_times.specs.Listing.{Listing}
 use Rattle.merge_model.specs.Lanes.{lane_blocks}
-use Rattle.merge_model.specs.Links.{Given, Placing, text_given, track_given}
+use Rattle.merge_model.specs.Links.{Given, Placing, going_on, text_given, track_given}
 use Rattle.merge_model.specs.Timed.{timed}
 use Rattle.merge_model.specs.declared.limits.TheConstants.{MAX_SHIFT, TOO_LARGE_DELAY}
 use Rattle.merge_model.specs.declared.link.Link.{Link}
@@ -39,7 +39,7 @@ timed_given times k g = record g { blocks = timed times k g.blocks }
 
 -- the source of the link `t`, if its file has the events `events`
 abbrev pub track_with : TrackLink → List Event → Given
-track_with t events = timed_given (listing_of t) 0 (track_given (placing_of t) t.number events)
+track_with t events = going_on t.goes_on (timed_given (listing_of t) 0 (track_given (placing_of t) t.number events))
 
 -- the blocks and damage of the file of the track `t`
 abbrev pub track_events : LiveFiles → TrackLink → List Event

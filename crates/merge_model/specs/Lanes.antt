@@ -5,7 +5,7 @@ use Rattle.mkv_io.specs.declared.damage.Damage.{Damage}
 use Rattle.output_model.specs.OutputBlock.{OutputBlock}
 use Rattle.merge_model.specs.Links.{Given, given_blocks}
 
--- the blocks of an output track, one input after another; inputs after one that isn't read to its end don't count
+-- the blocks of an output track, one input after another; inputs after one that stops don't count
 abbrev pub lane_blocks : ℕ → List Given → List OutputBlock
 lane_blocks scale [] = []
 lane_blocks scale (g ∷ gs) = given_blocks scale g ++ (if g.stops then [] else lane_blocks scale gs)

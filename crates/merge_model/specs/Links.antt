@@ -1,6 +1,6 @@
 -- Sources of output tracks, and the place of their blocks in the output: RFC 9559, sections 10 (Cluster Blocks), 10.3 (Block Lacing) and 11
 -- (Timestamps).
-use Rattle.std.specs.Prelude.{ℕ, ◌+◌, ◌==◌, ℤ, pos, ◌+ℤ◌, Bool, true, false, List, [], ◌∷◌, ◌++◌, map, filter, flat_map, Option, Some, None, is_some}
+use Rattle.std.specs.Prelude.{ℕ, ◌+◌, ◌==◌, ℤ, pos, ◌+ℤ◌, Bool, true, false, not, ◌&&◌, List, [], ◌∷◌, ◌++◌, map, filter, flat_map, Option, Some, None, is_some}
 use Rattle.std.specs.Option.{option_map}
 use Rattle.lacing.specs.declared.kind.Lace.{Lace}
 use Rattle.lacing.specs.declared.kind.Lace.TheVariants as lace
@@ -21,8 +21,8 @@ pub record Placing : Type 0 where
   pub default_duration : Option ℕ
   pub prefix : List ℕ
 
--- a source. It has the blocks of a track in the order of the file, the damage of the file, whether the damage ends the reading, and the place of
--- the blocks.
+-- a source. It has the blocks of a track in the order of the file, the damage of the file, whether the damage ends the reading of the files after
+-- it, and the place of the blocks.
 pub record Given : Type 0 where
   pub blocks : List Block
   pub damages : List Damage
@@ -37,6 +37,10 @@ track_given p number events = record {
   stops = is_some (last_of events);
   placing = p;
 }
+
+-- the source `g`; if `goes_on`, damage doesn't end the reading of the files after it
+abbrev pub going_on : Bool → Given → Given
+going_on goes_on g = record g { stops = not goes_on && g.stops }
 
 -- the entry of a text as a block: a group of one frame, which lasts as long as the entry is shown
 abbrev pub entry_block : Entry → Block

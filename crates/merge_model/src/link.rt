@@ -42,6 +42,8 @@ pub struct TrackLink {
     /// Timestamps of the track's frames from a timestamp file, if there is one; frames count from 0. Each block gets
     /// the timestamp of its first frame instead of its own.
     pub times: Option<Rc<Times>>,
+    /// The files after this one are read even if damage ends its reading.
+    pub goes_on: bool,
 }
 
 /// Source text: entries of a SubRip file.

@@ -31,18 +31,18 @@ zip-append R (x ∷ xs) (y ∷ ys) ws zs all more = (all.0, zip-append R xs ys w
 -- ---- links
 
 -- One more track of an input is a link.
-pub link-more : (i : Input) (taken : List TakenTrack) (k : ℕ) (t : TakenTrack) (link : Link) (old new : List Link) → k < length taken → t ≡ get_or taken k t → AllZip (IsLink i) (take k taken) old → IsLink i t link → new ≡ old ++ link ∷ [] → AllZip (IsLink i) (take (k + 1) taken) new
-link-more i taken k t link old new inside at are is put =
-    let more : AllZip (IsLink i) (take k taken ++ t ∷ []) (old ++ link ∷ []) = zip-append (IsLink i) (take k taken) old (t ∷ []) (link ∷ []) are (is, tt) in
-    subst (AllZip (IsLink i) (take (k + 1) taken)) (sym put) (subst (λ (ts : List TakenTrack). AllZip (IsLink i) ts (old ++ link ∷ [])) (sym (take-next taken k t inside at)) more)
+pub link-more : (b : Bool) (i : Input) (taken : List TakenTrack) (k : ℕ) (t : TakenTrack) (link : Link) (old new : List Link) → k < length taken → t ≡ get_or taken k t → AllZip (IsLink b i) (take k taken) old → IsLink b i t link → new ≡ old ++ link ∷ [] → AllZip (IsLink b i) (take (k + 1) taken) new
+link-more b i taken k t link old new inside at are is put =
+    let more : AllZip (IsLink b i) (take k taken ++ t ∷ []) (old ++ link ∷ []) = zip-append (IsLink b i) (take k taken) old (t ∷ []) (link ∷ []) are (is, tt) in
+    subst (AllZip (IsLink b i) (take (k + 1) taken)) (sym put) (subst (λ (ts : List TakenTrack). AllZip (IsLink b i) ts (old ++ link ∷ [])) (sym (take-next taken k t inside at)) more)
 
 -- ---- one output track
 
 -- It is continued.
-pub lane-more : (first : Spot) (spots more : List Spot) (old new : PlannedLane) → IsLaneOf (first ∷ spots) old → GoesOn more old new → IsLaneOf (first ∷ (spots ++ more)) new
-lane-more first spots more old new is goes =
+pub lane-more : (b : Bool) (first : Spot) (spots more : List Spot) (old new : PlannedLane) → IsLaneOf b (first ∷ spots) old → GoesOn b more old new → IsLaneOf b (first ∷ (spots ++ more)) new
+lane-more b first spots more old new is goes =
     record {
-      links = subst (AllZip IsLinkAt (first ∷ (spots ++ more))) (sym goes.links) (zip-append IsLinkAt (first ∷ spots) old.spec.links more goes.more is.links goes.are);
+      links = subst (AllZip (IsLinkAt b) (first ∷ (spots ++ more))) (sym goes.links) (zip-append (IsLinkAt b) (first ∷ spots) old.spec.links more goes.more is.links goes.are);
       inputs = goes.inputs ∙ ap (λ l. l ++ map (λ (s : Spot). s.number) more) is.inputs ∙ sym (map-append (λ (s : Spot). s.number) (first ∷ spots) more);
       rule = goes.rule ∙ is.rule;
     }
@@ -57,9 +57,9 @@ spots-one place number i o is = ap option_to_list (of place i.taken ∙ ap (opti
     of (suc place) (t ∷ ts) = of place ts
 
 -- An input without a track at this index leaves the output track as it is.
-pub stays : (place number : ℕ) (i : Input) (old new : PlannedLane) → slice_get i.taken place ≡ None → new ≡ old → GoesOn (spots_at place (number, i)) old new
-stays place number i old new none same =
-    subst (λ (spots : List Spot). GoesOn spots old new) (sym (spots-one place number i None none))
+pub stays : (b : Bool) (place number : ℕ) (i : Input) (old new : PlannedLane) → slice_get i.taken place ≡ None → new ≡ old → GoesOn b (spots_at place (number, i)) old new
+stays b place number i old new none same =
+    subst (λ (spots : List Spot). GoesOn b spots old new) (sym (spots-one place number i None none))
     (record {
       more = [];
       links = ap (λ (l : PlannedLane). l.spec.links) same ∙ sym (append-nil old.spec.links);
@@ -82,19 +82,19 @@ behind-more place number inputs k i inside is =
 
 -- ---- output tracks in sequence
 
--- The output tracks `lanes`, followed by output tracks of `left`, are the output tracks of `all`.
-abbrev pub GoOn : List (List Spot) → List PlannedLane → List (List Spot) → Type 0
-GoOn left lanes all = (rest : List PlannedLane) → AllZip IsLaneOf left rest → AllZip IsLaneOf all (lanes ++ rest)
+-- The output tracks `lanes`, followed by output tracks of `left`, are the output tracks of `all`. If `b`, damage doesn't end them.
+abbrev pub GoOn : Bool → List (List Spot) → List PlannedLane → List (List Spot) → Type 0
+GoOn b left lanes all = (rest : List PlannedLane) → AllZip (IsLaneOf b) left rest → AllZip (IsLaneOf b) all (lanes ++ rest)
 
-pub lane-next : (spots : List Spot) (left all : List (List Spot)) (lanes new : List PlannedLane) (lane : PlannedLane) → GoOn (spots ∷ left) lanes all → IsLaneOf spots lane → new ≡ lanes ++ lane ∷ [] → GoOn left new all
-lane-next spots left all lanes new lane so_far one put = λ rest are.
-    subst (λ (l : List PlannedLane). AllZip IsLaneOf all l) (sym (ap (λ l. l ++ rest) put ∙ append_assoc lanes (lane ∷ []) rest)) (so_far (lane ∷ rest) (one, are))
+pub lane-next : (b : Bool) (spots : List Spot) (left all : List (List Spot)) (lanes new : List PlannedLane) (lane : PlannedLane) → GoOn b (spots ∷ left) lanes all → IsLaneOf b spots lane → new ≡ lanes ++ lane ∷ [] → GoOn b left new all
+lane-next b spots left all lanes new lane so_far one put = λ rest are.
+    subst (λ (l : List PlannedLane). AllZip (IsLaneOf b) all l) (sym (ap (λ l. l ++ rest) put ∙ append_assoc lanes (lane ∷ []) rest)) (so_far (lane ∷ rest) (one, are))
 
-pub lanes-done : (all : List (List Spot)) (lanes : List PlannedLane) → GoOn [] lanes all → AllZip IsLaneOf all lanes
-lanes-done all lanes so_far = subst (AllZip IsLaneOf all) (append-nil lanes) (so_far [] tt)
+pub lanes-done : (b : Bool) (all : List (List Spot)) (lanes : List PlannedLane) → GoOn b [] lanes all → AllZip (IsLaneOf b) all lanes
+lanes-done b all lanes so_far = subst (AllZip (IsLaneOf b) all) (append-nil lanes) (so_far [] tt)
 
-pub left-same : (left other all : List (List Spot)) (lanes : List PlannedLane) → left ≡ other → GoOn left lanes all → GoOn other lanes all
-left-same left other all lanes same so_far = subst (λ (l : List (List Spot)). GoOn l lanes all) same so_far
+pub left-same : (b : Bool) (left other all : List (List Spot)) (lanes : List PlannedLane) → left ≡ other → GoOn b left lanes all → GoOn b other lanes all
+left-same b left other all lanes same so_far = subst (λ (l : List (List Spot)). GoOn b l lanes all) same so_far
 
 -- ---- the output tracks of an input
 

@@ -1,5 +1,5 @@
 -- The links of an input's tracks.
-use Rattle.std.proofs.Common.{◌≡◌, ◌≤◌, ◌<◌, ℕ, ◌^◌, List, map, Option, Some, None, IfSome, refl, sym, ap, subst, ◌∙◌, arith}
+use Rattle.std.proofs.Common.{◌≡◌, false, ◌≤◌, ◌<◌, ℕ, ◌^◌, List, map, Option, Some, None, IfSome, refl, sym, ap, subst, ◌∙◌, arith}
 use Rattle.std.specs.Bool.{⊤}
 use Rattle.std.specs.List.{All}
 use Rattle.std.proofs.lemmas.List.Elements.{All-weaker}
@@ -29,16 +29,16 @@ use Rattle.merge_plan.specs.Behind.{walked_in, walked_of}
 -- ---- one link
 
 -- The times of a link keep their limits.
-link-timed : (i : Input) (t : TakenTrack) (blocks : Blocks) (link : Link) → IsLinkBy i blocks t link → HasPlace i → IsTaken t → IsShortText blocks → IsTimed link
+link-timed : (i : Input) (t : TakenTrack) (blocks : Blocks) (link : Link) → IsLinkBy false i blocks t link → HasPlace i → IsTaken t → IsShortText blocks → IsTimed link
 link-timed i t (held_by.Clusters outline scale) (Track link) is place taken short =
-    let small = link-small i t (held_by.Clusters outline scale) (Track link) is taken place short in
+    let small = link-small false i t (held_by.Clusters outline scale) (Track link) is taken place short in
     record {
       moves = small.moves;
       default = subst (λ (o : Option ℕ). IfSome o (λ d. d < 2 ^ 48)) (sym (is.default_duration ∙ ap (λ (track : TrackSeen). track.default_duration) taken.said)) taken.track.duration;
     }
 link-timed i t (held_by.Clusters outline scale) (Entries text) is place taken short = absurd is
 link-timed i t (held_by.Entries entries) (Track link) is place taken short = absurd is
-link-timed i t (held_by.Entries entries) (Entries text) is place taken short = link-small i t (held_by.Entries entries) (Entries text) is taken place short
+link-timed i t (held_by.Entries entries) (Entries text) is place taken short = link-small false i t (held_by.Entries entries) (Entries text) is taken place short
 
 -- The link is a track of the input's file, with the outline that was read.
 record IsTrackOf (i : Input) (read : FileOutline) (nanoseconds : ℕ) (link : TrackLink) : Type 0 where
@@ -52,7 +52,7 @@ IsOfInput i (held_by.Clusters outline scale) (Entries text) = ⊥
 IsOfInput i (held_by.Entries entries) (Track link) = ⊥
 IsOfInput i (held_by.Entries entries) (Entries text) = ⊤
 
-link-own : (i : Input) (t : TakenTrack) (blocks : Blocks) (link : Link) → IsLinkBy i blocks t link → IsOfInput i blocks link
+link-own : (i : Input) (t : TakenTrack) (blocks : Blocks) (link : Link) → IsLinkBy false i blocks t link → IsOfInput i blocks link
 link-own i t (held_by.Clusters outline scale) (Track link) is = record { file = is.file; segment = ap (λ (o : FileOutline). o.segment) is.outline; scale = is.scale }
 link-own i t (held_by.Clusters outline scale) (Entries text) is = is
 link-own i t (held_by.Entries entries) (Track link) is = is
@@ -77,14 +77,14 @@ link-length f i (held_by.Entries entries) t is = absurd is
 
 module _ (i : Input) (links : List Link) (are : AreLinksOf i links) (has : HasTaken i) where
   -- A property holds for each link if it follows from the link's track.
-  each-link : (P : Link → Type 0) → ((t : TakenTrack) (link : Link) → IsTaken t → IsLink i t link → P link) → All P links
-  each-link P so = zip-all (IsLink i) IsTaken P so i.taken links has.taken are
+  each-link : (P : Link → Type 0) → ((t : TakenTrack) (link : Link) → IsTaken t → IsLink false i t link → P link) → All P links
+  each-link P so = zip-all (IsLink false i) IsTaken P so i.taken links has.taken are
 
   pub links-open : (f : LiveFiles) → IsInput f i → All (IsOpenLink f) links
-  links-open f good = each-link (IsOpenLink f) (λ t link taken is. link-open i t f i.blocks link is good.live good.blocks)
+  links-open f good = each-link (IsOpenLink f) (λ t link taken is. link-open false i t f i.blocks link is good.live good.blocks)
 
   pub links-told : (f : LiveFiles) → IsToldInput f i → All (IsToldLink f) links
-  links-told f told = each-link (IsToldLink f) (λ t link taken is. link-told i t f i.blocks link is told)
+  links-told f told = each-link (IsToldLink f) (λ t link taken is. link-told false i t f i.blocks link is told)
 
   pub links-timed : HasPlace i → All IsTimed links
   links-timed place = each-link IsTimed (λ t link taken is. link-timed i t i.blocks link is place taken has.text)
@@ -105,4 +105,4 @@ module _ (i : Input) (links : List Link) (are : AreLinksOf i links) (has : HasTa
 
   -- The blocks of the links are the blocks of the input.
   pub links-given : (f : LiveFiles) → map (given_in f) links ≡ given_of (source_in f i)
-  links-given f = zip-map (IsLink i) (given_in f) (given_from (read_in i).times (append_offset (read_in i)) (blocks_in i.blocks) (octets_in f i.file.n)) (λ t link is. link-given i t f i.blocks link is) i.taken links are
+  links-given f = zip-map (IsLink false i) (given_in f) (given_from (read_in i).times (append_offset (read_in i)) (blocks_in i.blocks) (octets_in f i.file.n)) (λ t link is. link-given false i t f i.blocks link is) i.taken links are

@@ -1,5 +1,6 @@
 -- The output tracks of a plan.
 use Rattle.std.proofs.Common.{◌≡◌, ◌≤◌, ◌<◌, ℕ, zero, suc, ◌+◌, Bool, true, false, if◌then◌else◌, List, [], ◌∷◌, ◌++◌, length, map, flat_map, get_or, Option, Some, None, nat_abs, refl, sym, ap, ap₂, subst, ◌∙◌, arith}
+use Rattle.std.specs.Prelude.{◌&&◌, not}
 use Rattle.std.specs.List.{All, AllZip, enumerate_from, range_with_len, sum_by}
 use Rattle.std.specs.Option.{option_or}
 use Rattle.std.proofs.lemmas.List.{map-append, length-map}
@@ -14,7 +15,7 @@ use Rattle.block_format.specs.Events.{events_of}
 use Rattle.mkv_io.specs.declared.entry.Entry.{Entry}
 use Rattle.text_formats.specs.Reading.{AreWithin, IsEntryWithin}
 use Rattle.input_files.specs.declared.limits.TheConstants.{MAX_SRT_LEN}
-use Rattle.merge_model.specs.Links.{Given, Placing, text_given, track_given}
+use Rattle.merge_model.specs.Links.{Given, Placing, going_on, text_given, track_given}
 use Rattle.ext_times.specs.Listing.{Listing}
 use Rattle.merge_model.specs.FileLinks.{listing_of, octets_in, placing_of, given_in, timed_given, IsOpenLink, IsOpenTrack, IsToldLink, IsSmallEntry, IsSmallLink, IsSmallText, IsSmallTrack}
 use Rattle.merge_model.specs.declared.link.Link.{Link}
@@ -141,7 +142,7 @@ spots-hold P n inputs each all =
 made : LiveFiles → Placing → ℕ → ℕ → ℕ → FileOutline → Given
 made f p number scale file outline = track_given p number (events_of (with_limits scale) (octets_in f file) outline.segment)
 
-module _ (i : Input) (read : FileOutline) (nanoseconds : ℕ) (t : TakenTrack) (link : TrackLink) (is : IsLinkOf i read nanoseconds t link) where
+module _ (b : Bool) (i : Input) (read : FileOutline) (nanoseconds : ℕ) (t : TakenTrack) (link : TrackLink) (is : IsLinkOf b i read nanoseconds t link) where
   placing-is : placing_of link ≡ placing_for (append_offset (read_in i)) t
   placing-is = λ j. record { delay = is.delay j; shift = is.shift j; default_duration = is.default_duration j; prefix = is.prefix j }
 
@@ -153,11 +154,12 @@ module _ (i : Input) (read : FileOutline) (nanoseconds : ℕ) (t : TakenTrack) (
       ∙ ap (λ (file : FileId). made f (placing_for (append_offset (read_in i)) t) t.track.number nanoseconds file.n link.outline.value) is.file
       ∙ ap (made f (placing_for (append_offset (read_in i)) t) t.track.number nanoseconds i.file.n) is.outline
 
-  track-given : (f : LiveFiles) → given_in f (Track link) ≡ given_for (read_in i).times (append_offset (read_in i)) (events_of (with_limits nanoseconds) (octets_in f i.file.n) read.segment) t
+  track-given : (f : LiveFiles) → given_in f (Track link) ≡ going_on b (given_for (read_in i).times (append_offset (read_in i)) (events_of (with_limits nanoseconds) (octets_in f i.file.n) read.segment) t)
   unfolding made
   track-given f =
-      ap (timed_given (listing_of link) 0) (made-same f)
-      ∙ ap (λ (times : Option Listing). timed_given times 0 (track_given (placing_for (append_offset (read_in i)) t) t.track.number (events_of (with_limits nanoseconds) (octets_in f i.file.n) read.segment))) is.times
+      ap (λ g. going_on link.goes_on (timed_given (listing_of link) 0 g)) (made-same f)
+      ∙ ap (λ (times : Option Listing). going_on link.goes_on (timed_given times 0 (track_given (placing_for (append_offset (read_in i)) t) t.track.number (events_of (with_limits nanoseconds) (octets_in f i.file.n) read.segment)))) is.times
+      ∙ ap (λ on. going_on on (given_for (read_in i).times (append_offset (read_in i)) (events_of (with_limits nanoseconds) (octets_in f i.file.n) read.segment) t)) is.on
 
   track-small : IsTaken t → HasPlace i → IsSmallTrack link
   track-small taken place =
@@ -205,50 +207,55 @@ input-taken f i good = record { taken = good.taken; text = short i.blocks good.b
     short (held_by.Clusters outline scale) are = tt
     short (held_by.Entries entries) are = are
 
-module _ (i : Input) (t : TakenTrack) where
-  pub link-given : (f : LiveFiles) (blocks : Blocks) (link : Link) → IsLinkBy i blocks t link → given_in f link ≡ given_from (read_in i).times (append_offset (read_in i)) (blocks_in blocks) (octets_in f i.file.n) t
-  link-given f (held_by.Clusters outline scale) (Track link) is = track-given i outline.value scale t link is f
+-- Damage never ends a text.
+text-never : (b : Bool) → (not b && false) ≡ false
+text-never true = refl
+text-never false = refl
+
+module _ (b : Bool) (i : Input) (t : TakenTrack) where
+  pub link-given : (f : LiveFiles) (blocks : Blocks) (link : Link) → IsLinkBy b i blocks t link → given_in f link ≡ going_on b (given_from (read_in i).times (append_offset (read_in i)) (blocks_in blocks) (octets_in f i.file.n) t)
+  link-given f (held_by.Clusters outline scale) (Track link) is = track-given b i outline.value scale t link is f
   link-given f (held_by.Clusters outline scale) (Entries text) is = absurd is
   link-given f (held_by.Entries entries) (Track link) is = absurd is
-  link-given f (held_by.Entries entries) (Entries text) is = text-given i entries t text is f
+  link-given f (held_by.Entries entries) (Entries text) is = text-given i entries t text is f ∙ ap (λ st. record (text_given t.delay (append_offset (read_in i)) entries) { stops = st }) (sym (text-never b))
 
-  pub link-small : (blocks : Blocks) (link : Link) → IsLinkBy i blocks t link → IsTaken t → HasPlace i → IsShortText blocks → IsSmallLink link
-  link-small (held_by.Clusters outline scale) (Track link) is taken place short = track-small i outline.value scale t link is taken place
+  pub link-small : (blocks : Blocks) (link : Link) → IsLinkBy b i blocks t link → IsTaken t → HasPlace i → IsShortText blocks → IsSmallLink link
+  link-small (held_by.Clusters outline scale) (Track link) is taken place short = track-small b i outline.value scale t link is taken place
   link-small (held_by.Clusters outline scale) (Entries text) is taken place short = absurd is
   link-small (held_by.Entries entries) (Track link) is taken place short = absurd is
   link-small (held_by.Entries entries) (Entries text) is taken place short = text-small i entries t text is taken place short
 
-  pub link-open : (f : LiveFiles) (blocks : Blocks) (link : Link) → IsLinkBy i blocks t link → f.live i.file.n ≡ true → CanBeGiven (f.size i.file.n) blocks → IsOpenLink f link
-  link-open f (held_by.Clusters outline scale) (Track link) is live are = track-open i outline.value scale t link is f live are
+  pub link-open : (f : LiveFiles) (blocks : Blocks) (link : Link) → IsLinkBy b i blocks t link → f.live i.file.n ≡ true → CanBeGiven (f.size i.file.n) blocks → IsOpenLink f link
+  link-open f (held_by.Clusters outline scale) (Track link) is live are = track-open b i outline.value scale t link is f live are
   link-open f (held_by.Clusters outline scale) (Entries text) is live are = absurd is
   link-open f (held_by.Entries entries) (Track link) is live are = absurd is
   link-open f (held_by.Entries entries) (Entries text) is live are = tt
 
   -- The file of a track is the file of its input.
-  file-of : (P : ℕ → Type 0) → P i.file.n → (blocks : Blocks) (link : TrackLink) → IsLinkBy i blocks t (Track link) → P link.file.n
+  file-of : (P : ℕ → Type 0) → P i.file.n → (blocks : Blocks) (link : TrackLink) → IsLinkBy b i blocks t (Track link) → P link.file.n
   file-of P own (held_by.Clusters outline scale) link is = subst (λ (file : FileId). P file.n) (sym is.file) own
   file-of P own (held_by.Entries entries) link is = absurd is
 
-  pub link-told : (f : LiveFiles) (blocks : Blocks) (link : Link) → IsLinkBy i blocks t link → IsToldInput f i → IsToldLink f link
+  pub link-told : (f : LiveFiles) (blocks : Blocks) (link : Link) → IsLinkBy b i blocks t link → IsToldInput f i → IsToldLink f link
   link-told f blocks (Track link) is told = file-of (λ n. f.content n ≡ Some (octets_in f n)) told blocks link is
   link-told f blocks (Entries text) is told = tt
 
-  link-spared : (test : ℕ → Bool) (blocks : Blocks) (link : Link) → IsLinkBy i blocks t link → test i.file.n ≡ false → IsSparedLink test link
+  link-spared : (test : ℕ → Bool) (blocks : Blocks) (link : Link) → IsLinkBy b i blocks t link → test i.file.n ≡ false → IsSparedLink test link
   link-spared test blocks (Track link) is own = file-of (λ n. test n ≡ false) own blocks link is
   link-spared test blocks (Entries text) is own = tt
 
-  link-length : (f : LiveFiles) (blocks : Blocks) (link : Link) → IsLinkBy i blocks t link → file_length f link ≤ f.size i.file.n
+  link-length : (f : LiveFiles) (blocks : Blocks) (link : Link) → IsLinkBy b i blocks t link → file_length f link ≤ f.size i.file.n
   link-length f blocks (Track link) is = file-of (λ n. f.size n ≤ f.size i.file.n) (omega arith) blocks link is
   link-length f blocks (Entries text) is = omega arith
 
 -- ---- the output tracks
 
-lane-given : (f : LiveFiles) (spots : List Spot) (l : PlannedLane) → IsLaneOf spots l → map (given_in f) l.spec.links ≡ map (given_at f) spots
-lane-given f spots l is = zip-map IsLinkAt (given_in f) (given_at f) (λ s link at. link-given s.input s.track f s.input.blocks link at) spots l.spec.links is.links
+lane-given : (b : Bool) (f : LiveFiles) (spots : List Spot) (l : PlannedLane) → IsLaneOf b spots l → map (given_in f) l.spec.links ≡ map (λ (s : Spot). going_on b (given_at f s)) spots
+lane-given b f spots l is = zip-map (IsLinkAt b) (given_in f) (λ (s : Spot). going_on b (given_at f s)) (λ s link at. link-given b s.input s.track f s.input.blocks link at) spots l.spec.links is.links
 
-lane-linked : (inputs : List Input) (spots : List Spot) (l : PlannedLane) → length spots ≤ length inputs → IsLaneOf spots l → IsLinked inputs l
-lane-linked inputs spots l few is =
-    let links = zip-length IsLinkAt spots l.spec.links is.links in
+lane-linked : (b : Bool) (inputs : List Input) (spots : List Spot) (l : PlannedLane) → length spots ≤ length inputs → IsLaneOf b spots l → IsLinked inputs l
+lane-linked b inputs spots l few is =
+    let links = zip-length (IsLinkAt b) spots l.spec.links is.links in
     let numbers : length l.inputs ≡ length spots = ap length is.inputs ∙ length-map spots (λ (s : Spot). s.number) in
     record { few = omega arith; numbered = omega arith }
 
@@ -256,13 +263,13 @@ lane-linked inputs spots l few is =
 abbrev spot_length : LiveFiles → Spot → ℕ
 spot_length f s = f.size s.input.file.n
 
-lane-length : (f : LiveFiles) (spots : List Spot) (links : List Link) → AllZip IsLinkAt spots links → files_length f links ≤ sum_by (spot_length f) spots
-lane-length f [] [] all = omega arith
-lane-length f [] (link ∷ links) all = absurd all
-lane-length f (s ∷ spots) [] all = absurd all
-lane-length f (s ∷ spots) (link ∷ links) all =
-    let here = link-length s.input s.track f s.input.blocks link all.0 in
-    let rest = lane-length f spots links all.1 in
+lane-length : (b : Bool) (f : LiveFiles) (spots : List Spot) (links : List Link) → AllZip (IsLinkAt b) spots links → files_length f links ≤ sum_by (spot_length f) spots
+lane-length b f [] [] all = omega arith
+lane-length b f [] (link ∷ links) all = absurd all
+lane-length b f (s ∷ spots) [] all = absurd all
+lane-length b f (s ∷ spots) (link ∷ links) all =
+    let here = link-length b s.input s.track f s.input.blocks link all.0 in
+    let rest = lane-length b f spots links all.1 in
     omega (arith, sum_by-cons (spot_length f) s spots)
 
 -- The links of an input keep their limits.
@@ -270,25 +277,37 @@ record KeepsLimits (i : Input) : Type 0 where
   pub place : HasPlace i
   pub has : HasTaken i
 
-module _ (inputs : List Input) (lanes : List PlannedLane) (are : AllZip IsLaneOf (spots_from 0 inputs) lanes) where
+module _ (b : Bool) (inputs : List Input) (lanes : List PlannedLane) (are : AllZip (IsLaneOf b) (spots_from 0 inputs) lanes) where
   -- There is one output track for each track that begins one.
   pub lanes-length : length lanes ≡ length (tracks_taken (map read_in inputs))
   lanes-length =
       let spots : List (List Spot) = spots_from 0 inputs in
-      zip-length IsLaneOf spots lanes are ∙ sym (length-map spots rule_at) ∙ ap length (spots-rules 0 inputs) ∙ length-map (tracks_taken (map read_in inputs)) rule_of
+      zip-length (IsLaneOf b) spots lanes are ∙ sym (length-map spots rule_at) ∙ ap length (spots-rules 0 inputs) ∙ length-map (tracks_taken (map read_in inputs)) rule_of
 
-  pub lanes-given : (f : LiveFiles) → map (map (given_in f)) (links_of lanes) ≡ lanes_given (map (source_in f) inputs)
-  lanes-given f = maps lanes ∙ zip-map IsLaneOf (λ (l : PlannedLane). map (given_in f) l.spec.links) (map (given_at f)) (lane-given f) (spots_from 0 inputs) lanes are ∙ spots-given f 0 inputs
+  pub lanes-given : (f : LiveFiles) → map (map (given_in f)) (links_of lanes) ≡ map (map (going_on b)) (lanes_given (map (source_in f) inputs))
+  lanes-given f =
+      maps lanes
+      ∙ zip-map (IsLaneOf b) (λ (l : PlannedLane). map (given_in f) l.spec.links) (map (λ (s : Spot). going_on b (given_at f s))) (lane-given b f) (spots_from 0 inputs) lanes are
+      ∙ each (spots_from 0 inputs)
+      ∙ ap (map (map (going_on b))) (spots-given f 0 inputs)
     where
       maps : (ls : List PlannedLane) → map (map (given_in f)) (links_of ls) ≡ map (λ (l : PlannedLane). map (given_in f) l.spec.links) ls
       maps [] = refl
       maps (l ∷ ls) = ap (λ rest. map (given_in f) l.spec.links ∷ rest) (maps ls)
 
+      one : (spots : List Spot) → map (λ (s : Spot). going_on b (given_at f s)) spots ≡ map (going_on b) (map (given_at f) spots)
+      one [] = refl
+      one (s ∷ spots) = ap (λ gs. going_on b (given_at f s) ∷ gs) (one spots)
+
+      each : (rows : List (List Spot)) → map (map (λ (s : Spot). going_on b (given_at f s))) rows ≡ map (map (going_on b)) (map (map (given_at f)) rows)
+      each [] = refl
+      each (spots ∷ rows) = ap₂ (λ gs rest. gs ∷ rest) (one spots) (each rows)
+
   pub lanes-numbers : map (λ (l : PlannedLane). l.inputs) lanes ≡ inputs_given 0 (map read_in inputs)
-  lanes-numbers = zip-map IsLaneOf (λ (l : PlannedLane). l.inputs) (map (λ (s : Spot). s.number)) (λ spots l is. is.inputs) (spots_from 0 inputs) lanes are ∙ spots-numbers 0 inputs
+  lanes-numbers = zip-map (IsLaneOf b) (λ (l : PlannedLane). l.inputs) (map (λ (s : Spot). s.number)) (λ spots l is. is.inputs) (spots_from 0 inputs) lanes are ∙ spots-numbers 0 inputs
 
   pub lanes-rules : rules_of lanes ≡ rules_given (map read_in inputs)
-  lanes-rules = zip-map IsLaneOf (λ (l : PlannedLane). l.cues) rule_at (λ spots l is. is.rule) (spots_from 0 inputs) lanes are ∙ spots-rules 0 inputs
+  lanes-rules = zip-map (IsLaneOf b) (λ (l : PlannedLane). l.cues) rule_at (λ spots l is. is.rule) (spots_from 0 inputs) lanes are ∙ spots-rules 0 inputs
 
   -- The drivers are determined by the types of the tracks.
   pub lanes-drives : (videos : List Bool) → AreDriven videos lanes → videos ≡ map is_video (tracks_taken (map read_in inputs)) → drivers_of lanes ≡ drives_given (map read_in inputs)
@@ -302,7 +321,7 @@ module _ (inputs : List Input) (lanes : List PlannedLane) (are : AllZip IsLaneOf
   lanes-linked =
       let few : All (λ (spots : List Spot). length spots ≤ length inputs) (spots_from 0 inputs) =
       subst (λ (n : ℕ). All (λ (spots : List Spot). length spots ≤ n) (spots_from 0 inputs)) (length-enumerate_from 0 inputs) (lanes-few own_place spots_in (enumerate_from 0 inputs)) in
-      zip-all IsLaneOf (λ (spots : List Spot). length spots ≤ length inputs) (IsLinked inputs) (λ spots l is_few is. lane-linked inputs spots l is_few is) (spots_from 0 inputs) lanes few are
+      zip-all (IsLaneOf b) (λ (spots : List Spot). length spots ≤ length inputs) (IsLinked inputs) (λ spots l is_few is. lane-linked b inputs spots l is_few is) (spots_from 0 inputs) lanes few are
 
   -- Each output track has the bytes of each file at most once.
   pub lanes-once : (f : LiveFiles) → All (λ (l : PlannedLane). files_length f l.spec.links ≤ sum_by (λ (i : Input). f.size i.file.n) inputs) lanes
@@ -312,30 +331,30 @@ module _ (inputs : List Input) (lanes : List PlannedLane) (are : AllZip IsLaneOf
       subst (λ (n : ℕ). All (λ (spots : List Spot). sum_by (spot_length f) spots ≤ n) (spots_from 0 inputs)) (enumerate-sum (λ (i : Input). f.size i.file.n) 0 inputs)
       (lanes-light own_place spots_in (spot_length f) (λ (each : ℕ × Input). f.size each.1.file.n)
       (λ each. All-map (λ (s : Spot). spot_length f s ≤ f.size each.1.file.n) (spot each.0 each.1) each.1.taken (λ k d inside. omega arith)) (enumerate_from 0 inputs)) in
-      zip-all IsLaneOf (λ (spots : List Spot). sum_by (spot_length f) spots ≤ whole) (λ (l : PlannedLane). files_length f l.spec.links ≤ whole)
-      (λ spots l fits is. omega (arith, lane-length f spots l.spec.links is.links)) (spots_from 0 inputs) lanes each are
+      zip-all (IsLaneOf b) (λ (spots : List Spot). sum_by (spot_length f) spots ≤ whole) (λ (l : PlannedLane). files_length f l.spec.links ≤ whole)
+      (λ spots l fits is. omega (arith, lane-length b f spots l.spec.links is.links)) (spots_from 0 inputs) lanes each are
 
   -- A property holds for each link if it follows from a property of each input.
-  pub lanes-links : (C : Input → Type 0) (P : Link → Type 0) → ((i : Input) (t : TakenTrack) (link : Link) → C i → IsTaken t → IsLink i t link → P link) → All C inputs → All HasTaken inputs → All (All P) (links_of lanes)
+  pub lanes-links : (C : Input → Type 0) (P : Link → Type 0) → ((i : Input) (t : TakenTrack) (link : Link) → C i → IsTaken t → IsLink b i t link → P link) → All C inputs → All HasTaken inputs → All (All P) (links_of lanes)
   lanes-links C P so each taken =
       All-map (All P) (λ (l : PlannedLane). l.spec.links) lanes
-      (zip-all IsLaneOf (All (Holds C)) (λ (l : PlannedLane). All P l.spec.links)
-      (λ spots l holds is. zip-all IsLinkAt (Holds C) P (λ s link one at. so s.input s.track link one.input one.taken at) spots l.spec.links holds is.links) (spots_from 0 inputs) lanes (spots-hold C 0 inputs each taken) are)
+      (zip-all (IsLaneOf b) (All (Holds C)) (λ (l : PlannedLane). All P l.spec.links)
+      (λ spots l holds is. zip-all (IsLinkAt b) (Holds C) P (λ s link one at. so s.input s.track link one.input one.taken at) spots l.spec.links holds is.links) (spots_from 0 inputs) lanes (spots-hold C 0 inputs each taken) are)
 
   module _ (taken : All HasTaken inputs) where
     pub links-small : All HasPlace inputs → All (All IsSmallLink) (links_of lanes)
     links-small places =
-        lanes-links KeepsLimits IsSmallLink (λ i t link can one is. link-small i t i.blocks link is one can.place can.has.text)
+        lanes-links KeepsLimits IsSmallLink (λ i t link can one is. link-small b i t i.blocks link is one can.place can.has.text)
         (λ k d inside. record { place = places k d inside; has = taken k d inside }) taken
 
     pub links-open : (f : LiveFiles) → All (IsInput f) inputs → All (All (IsOpenLink f)) (links_of lanes)
-    links-open f good = lanes-links (IsInput f) (IsOpenLink f) (λ i t link own one is. link-open i t f i.blocks link is own.live own.blocks) good taken
+    links-open f good = lanes-links (IsInput f) (IsOpenLink f) (λ i t link own one is. link-open b i t f i.blocks link is own.live own.blocks) good taken
 
     pub links-told : (f : LiveFiles) → All (IsToldInput f) inputs → All (All (IsToldLink f)) (links_of lanes)
-    links-told f told = lanes-links (IsToldInput f) (IsToldLink f) (λ i t link own one is. link-told i t f i.blocks link is own) told taken
+    links-told f told = lanes-links (IsToldInput f) (IsToldLink f) (λ i t link own one is. link-told b i t f i.blocks link is own) told taken
 
     pub links-spared : (test : ℕ → Bool) → All (λ (i : Input). test i.file.n ≡ false) inputs → All (All (IsSparedLink test)) (links_of lanes)
-    links-spared test spared = lanes-links (λ (i : Input). test i.file.n ≡ false) (IsSparedLink test) (λ i t link own one is. link-spared i t test i.blocks link is own) spared taken
+    links-spared test spared = lanes-links (λ (i : Input). test i.file.n ≡ false) (IsSparedLink test) (λ i t link own one is. link-spared b i t test i.blocks link is own) spared taken
 
 -- ---- the plan
 

@@ -8,7 +8,7 @@ use Rattle.file_format.specs.Encoding.{prefix_of}
 use Rattle.output_model.specs.declared.heads.ClusterLimits.{ClusterLimits}
 use Rattle.ext_times.specs.Listing.{Listing}
 use Rattle.merge_model.specs.FileLinks.{timed_given}
-use Rattle.merge_model.specs.Links.{Given, Placing, text_given, track_given}
+use Rattle.merge_model.specs.Links.{Given, Placing, going_on, text_given, track_given}
 use Rattle.output_model.specs.declared.rule.CueRule.{CueRule}
 use Rattle.output_model.specs.declared.rule.CueRule.TheVariants as rule
 use Rattle.record_changes.specs.Starts.{top_starts}
@@ -57,6 +57,10 @@ given_of s = map (given_from s.1.times (append_offset s.1) s.1.blocks s.0) s.1.t
 -- that source continue it.
 abbrev pub lanes_given : List Source → List (List Given)
 lanes_given sources = lanes_by (λ (s : Source). is_appended s.1) given_of sources
+
+-- the links of each output track; with the option for it, damage in one doesn't end the reading of the files after it
+abbrev pub lanes_taken : MergeWords → List Source → List (List Given)
+lanes_taken words sources = map (map (going_on words.append_damaged)) (lanes_given sources)
 
 -- the number of an input, once for each of its tracks
 abbrev pub numbers_of : ℕ × InputRead → List ℕ

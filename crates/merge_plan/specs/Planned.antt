@@ -27,7 +27,7 @@ use Rattle.merge_plan.specs.declared.outputs.OutputRecords.{OutputRecords}
 use Rattle.merge_plan.specs.Records.{chapters_of, tags_of, tracks_of_output}
 use Rattle.merge_plan.specs.Identifiers.{Have64Bits, identifiers_of}
 use Rattle.merge_plan.specs.Front.{attachments_of, attached_length, front_of}
-use Rattle.merge_plan.specs.Plan.{Source, drives_given, inputs_given, lanes_given, limits_of, rules_given, split_given}
+use Rattle.merge_plan.specs.Plan.{Source, drives_given, inputs_given, lanes_taken, limits_of, rules_given, split_given}
 use Rattle.merge_plan.specs.Refusal.{plan_refusal}
 
 -- an input, with its content among live files
@@ -89,7 +89,7 @@ pub record IsPlanOf (words : MergeWords) (inputs : List Input) (p : MergePlan) :
   pub octets : sum_by (λ (a : Attachment). a.len) p.front.attachments ≡ attached_length (map read_in inputs)
   pub chapters : p.chapters ≡ chapters_of (map read_in inputs)
   pub tags : p.tags ≡ tags_of (map read_in inputs)
-  pub lanes : (f : LiveFiles) → map (map (given_in f)) (links_of p.lanes) ≡ lanes_given (map (source_in f) inputs)
+  pub lanes : (f : LiveFiles) → map (map (given_in f)) (links_of p.lanes) ≡ lanes_taken words (map (source_in f) inputs)
   pub numbers : map (λ (l : PlannedLane). l.inputs) p.lanes ≡ inputs_given 0 (map read_in inputs)
   pub rules : rules_of p.lanes ≡ rules_given (map read_in inputs)
   pub drives : drivers_of p.lanes ≡ drives_given (map read_in inputs)

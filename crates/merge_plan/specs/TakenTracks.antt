@@ -1,5 +1,5 @@
 -- The sources of an output track's blocks, and of the attached files of an output. The rule is this project's.
-use Rattle.std.specs.Prelude.{◌≡◌, ◌≤◌, ⊤, ℕ, Bool, List, [], ◌∷◌, ◌++◌, length, map, slice_get, IfSome, Option}
+use Rattle.std.specs.Prelude.{◌≡◌, ◌≤◌, ⊤, ℕ, Bool, false, List, [], ◌∷◌, ◌++◌, length, map, slice_get, IfSome, Option}
 use Rattle.std.specs.List.{All, AllZip, enumerate_from, range_with_len}
 use Rattle.std.specs.Option.{option_to_list}
 use Rattle.mkv_schema.specs.declared.ids.TheConstants.{CHAPTERS, TAGS}
@@ -68,8 +68,9 @@ abbrev pub times_listed : Input → TakenTrack → Option Listing
 times_listed i t = value_for t.id (read_in i).times
 
 -- The link is track `t` of an input whose file has this outline and `nanoseconds` nanoseconds in a tick. At most MAX_PREFIX_LEN bytes were
--- removed from the start of each frame.
-pub record IsLinkOf (i : Input) (read : FileOutline) (nanoseconds : ℕ) (t : TakenTrack) (link : TrackLink) : Type 0 where
+-- removed from the start of each frame. If `b`, the files after it are read even if damage
+-- ends its reading.
+pub record IsLinkOf (b : Bool) (i : Input) (read : FileOutline) (nanoseconds : ℕ) (t : TakenTrack) (link : TrackLink) : Type 0 where
   pub file : link.file ≡ i.file
   pub outline : link.outline.value ≡ read
   pub number : link.number ≡ t.track.number
@@ -79,6 +80,7 @@ pub record IsLinkOf (i : Input) (read : FileOutline) (nanoseconds : ℕ) (t : Ta
   pub shift : link.shift ≡ append_offset (read_in i)
   pub prefix : link.prefix ≡ prefix_of t.track.entry
   pub times : listing_of link ≡ times_listed i t
+  pub on : link.goes_on ≡ b
   pub short : length link.prefix ≤ MAX_PREFIX_LEN
 
 -- The link is track `t` of an input that is a text with these entries.
@@ -87,48 +89,48 @@ pub record IsTextOf (i : Input) (read : List Entry) (t : TakenTrack) (link : Tex
   pub delay : link.delay ≡ t.delay
   pub shift : link.shift ≡ append_offset (read_in i)
 
--- The link is track `t` of an input with blocks in this form.
-abbrev pub IsLinkBy : Input → Blocks → TakenTrack → Link → Type 0
-IsLinkBy i (held_by.Clusters outline scale) t (Track link) = IsLinkOf i outline.value scale t link
-IsLinkBy i (held_by.Clusters outline scale) t (Entries text) = ⊥
-IsLinkBy i (held_by.Entries entries) t (Track link) = ⊥
-IsLinkBy i (held_by.Entries entries) t (Entries text) = IsTextOf i entries t text
+-- The link is track `t` of an input with blocks in this form. If `b`, damage doesn't end the reading of the files after it.
+abbrev pub IsLinkBy : Bool → Input → Blocks → TakenTrack → Link → Type 0
+IsLinkBy b i (held_by.Clusters outline scale) t (Track link) = IsLinkOf b i outline.value scale t link
+IsLinkBy b i (held_by.Clusters outline scale) t (Entries text) = ⊥
+IsLinkBy b i (held_by.Entries entries) t (Track link) = ⊥
+IsLinkBy b i (held_by.Entries entries) t (Entries text) = IsTextOf i entries t text
 
--- The link is the track `t` of the input `i`.
-abbrev pub IsLink : Input → TakenTrack → Link → Type 0
-IsLink i t link = IsLinkBy i i.blocks t link
+-- The link is the track `t` of the input `i`. If `b`, damage doesn't end the reading of the files after it.
+abbrev pub IsLink : Bool → Input → TakenTrack → Link → Type 0
+IsLink b i t link = IsLinkBy b i i.blocks t link
 
--- The link is the copied track `s`.
-abbrev pub IsLinkAt : Spot → Link → Type 0
-IsLinkAt s link = IsLink s.input s.track link
+-- The link is the copied track `s`. If `b`, damage doesn't end the reading of the files after it.
+abbrev pub IsLinkAt : Bool → Spot → Link → Type 0
+IsLinkAt b s link = IsLink b s.input s.track link
 
--- The links are the selected tracks of an input.
+-- The links are the selected tracks of an input, and damage ends the reading of the files after each.
 abbrev pub AreLinksOf : Input → List Link → Type 0
-AreLinksOf i links = AllZip (IsLink i) i.taken links
+AreLinksOf i links = AllZip (IsLink false i) i.taken links
 
 -- the rule for cue points: the rule of the track that begins the output track
 abbrev pub rule_at : List Spot → CueRule
 rule_at [] = Never
 rule_at (s ∷ spots) = rule_of s.track
 
--- The output track `new` is `old`, continued with the tracks `spots`.
-pub record GoesOn (spots : List Spot) (old new : PlannedLane) : Type 0 where
+-- The output track `new` is `old`, continued with the tracks `spots`. If `b`, damage in them doesn't end it.
+pub record GoesOn (b : Bool) (spots : List Spot) (old new : PlannedLane) : Type 0 where
   pub more : List Link
   pub links : new.spec.links ≡ old.spec.links ++ more
-  pub are : AllZip IsLinkAt spots more
+  pub are : AllZip (IsLinkAt b) spots more
   pub inputs : new.inputs ≡ old.inputs ++ map (λ (s : Spot). s.number) spots
   pub rule : new.cues ≡ old.cues
   pub drives : new.drives ≡ old.drives
 
--- The output track consists of the tracks `spots`, in sequence.
-pub record IsLaneOf (spots : List Spot) (l : PlannedLane) : Type 0 where
-  pub links : AllZip IsLinkAt spots l.spec.links
+-- The output track consists of the tracks `spots`, in sequence. If `b`, damage in them doesn't end it.
+pub record IsLaneOf (b : Bool) (spots : List Spot) (l : PlannedLane) : Type 0 where
+  pub links : AllZip (IsLinkAt b) spots l.spec.links
   pub inputs : l.inputs ≡ map (λ (s : Spot). s.number) spots
   pub rule : l.cues ≡ rule_at spots
 
--- The planned output tracks `lanes` consist of the copied tracks of `inputs`.
-abbrev pub AreLanesOf : List Input → List PlannedLane → Type 0
-AreLanesOf inputs lanes = AllZip IsLaneOf (spots_from 0 inputs) lanes
+-- The planned output tracks `lanes` consist of the copied tracks of `inputs`. If `b`, damage doesn't end them.
+abbrev pub AreLanesOf : Bool → List Input → List PlannedLane → Type 0
+AreLanesOf b inputs lanes = AllZip (IsLaneOf b) (spots_from 0 inputs) lanes
 
 -- Each output track knows whether it is a driver; `videos` holds for the video tracks.
 abbrev pub AreDriven : List Bool → List PlannedLane → Type 0

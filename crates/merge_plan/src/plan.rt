@@ -116,7 +116,7 @@ pub fn plan_of(alloc: Global, words: &MergeWords, inputs: &[Input]) -> Result<Me
             span: words.span,
             scale: words.scale,
         },
-        lanes: lanes_of(alloc, inputs, videos.as_slice())?,
+        lanes: lanes_of(alloc, inputs, words.append_damaged, videos.as_slice())?,
         front: Front {
             webm: words.webm,
             info,

@@ -79,16 +79,18 @@ fn times_of(input: &Input, taken: &TakenTrack) -> Result<Option<Rc<Times>>, Allo
     Ok(None)
 }
 
-/// Makes the link of a track of an input whose file has this outline and `scale` nanoseconds in a tick.
+/// Makes the link of a track of an input whose file has this outline and `scale` nanoseconds in a tick. With `past_damage`
+/// the files after it are read even if damage ends its reading.
 fn track_of(
     alloc: Global,
     input: &Input,
     outline: &Rc<Outline>,
     scale: u64,
+    past_damage: bool,
     taken: &TakenTrack,
 ) -> Result<TrackLink, AllocError>
     requires { IsTaken taken.now }
-    ensures { IfOk result (IsLinkOf input.now outline.now.value scale taken.now) }
+    ensures { IfOk result (IsLinkOf past_damage input.now outline.now.value scale taken.now) }
 {
     Ok(TrackLink {
         file: input.file,
@@ -100,6 +102,7 @@ fn track_of(
         shift: append_offset(input),
         prefix: prefix_of(alloc, taken)?,
         times: times_of(input, taken)?,
+        goes_on: past_damage,
     })
 }
 
@@ -134,14 +137,20 @@ fn text_of(
     })
 }
 
-/// Makes the link of the track `taken` of an input, which is a file with Clusters or a text.
-fn link_of(alloc: Global, input: &Input, taken: &TakenTrack) -> Result<Link, AllocError>
+/// Makes the link of the track `taken` of an input, which is a file with Clusters or a text. With `past_damage` the files
+/// after it are read even if damage ends its reading.
+fn link_of(
+    alloc: Global,
+    input: &Input,
+    past_damage: bool,
+    taken: &TakenTrack,
+) -> Result<Link, AllocError>
     requires { IsTaken taken.now }
-    ensures { IfOk result (IsLink input.now taken.now) }
+    ensures { IfOk result (IsLink past_damage input.now taken.now) }
 {
     match &input.blocks {
         Blocks::Clusters { outline, scale } => {
-            let track = track_of(alloc, input, outline, *scale, taken)?;
+            let track = track_of(alloc, input, outline, *scale, past_damage, taken)?;
             Ok(Link::Track(track))
         }
         Blocks::Entries { entries } => {
@@ -151,14 +160,14 @@ fn link_of(alloc: Global, input: &Input, taken: &TakenTrack) -> Result<Link, All
     }
 }
 
-/// Makes the links of the selected tracks of an input.
+/// Makes the links of the selected tracks of an input, for a survey of its file.
 pub fn links_of(alloc: Global, input: &Input) -> Result<List<Link>, AllocError>
     requires { HasTaken input.now }
     ensures { IfOk result (AreLinksOf input.now) }
 {
     let mut links = List::new(alloc);
     for taken in input.taken.as_slice() {
-        links.push(link_of(alloc, input, taken)?)?;
+        links.push(link_of(alloc, input, false, taken)?)?;
     }
     Ok(links)
 }
@@ -175,19 +184,21 @@ fn appended(inputs: &[Input]) -> &[Input]
     inputs
 }
 
-/// Adds track `place` of input `number` to `lane`, if the input has one there.
+/// Adds track `place` of input `number` to `lane`, if the input has one there. With `past_damage` the files after it are
+/// read even if damage ends its reading.
 fn go_on(
     alloc: Global,
     place: usize,
     number: usize,
     input: &Input,
+    past_damage: bool,
     lane: &mut PlannedLane,
 ) -> Result<(), AllocError>
     requires { HasTaken input.now }
-    ensures { OnOk result (GoesOn (spots_at place (number, input.now)) lane.old lane.new) }
+    ensures { OnOk result (GoesOn past_damage (spots_at place (number, input.now)) lane.old lane.new) }
 {
     if let Some(taken) = input.taken.get(place) {
-        let link = link_of(alloc, input, taken)?;
+        let link = link_of(alloc, input, past_damage, taken)?;
         lane.spec.links.push(link)?;
         lane.inputs.push(number)?;
     }
@@ -195,7 +206,8 @@ fn go_on(
 }
 
 /// Makes the output track that a track of the input number `number`, counted from 0, begins. The track at `place` of
-/// each input in `behind`, the ones appended to it, continues it. `drives` is true if its keyframes allow a cut.
+/// each input in `behind`, the ones appended to it, continues it, with `past_damage` even after damage. `drives` is true if
+/// its keyframes allow a cut.
 fn lane_of(
     alloc: Global,
     number: usize,
@@ -203,16 +215,17 @@ fn lane_of(
     place: usize,
     taken: &TakenTrack,
     behind: &[Input],
+    past_damage: bool,
     drives: bool,
 ) -> Result<PlannedLane, AllocError>
     requires taken { IsTaken taken.now }
     requires behind { All HasTaken behind.now }
     requires room { number + length behind.now + 1 < 2 ^ 64 }
-    ensures lane { IfOk result (IsLaneOf (spot number input.now taken.now ∷ spots_behind place (number + 1) behind.now)) }
+    ensures lane { IfOk result (IsLaneOf past_damage (spot number input.now taken.now ∷ spots_behind place (number + 1) behind.now)) }
     ensures drives { IfOk result (λ lane. lane.drives ≡ drives) }
 {
     let mut links = List::new(alloc);
-    links.push(link_of(alloc, input, taken)?)?;
+    links.push(link_of(alloc, input, past_damage, taken)?)?;
     let mut inputs = List::new(alloc);
     inputs.push(number)?;
     let mut lane = PlannedLane {
@@ -222,19 +235,21 @@ fn lane_of(
         drives,
     };
     for (k, other) in behind.iter().enumerate() {
-        go_on(alloc, place, number + 1 + k, other, &mut lane)?;
+        go_on(alloc, place, number + 1 + k, other, past_damage, &mut lane)?;
     }
     Ok(lane)
 }
 
-/// Makes the output tracks of `inputs`, in sequence; `videos` holds for the video tracks.
+/// Makes the output tracks of `inputs`, in sequence; `videos` holds for the video tracks. With `past_damage` damage doesn't
+/// end an output track.
 pub(crate) fn lanes_of(
     alloc: Global,
     inputs: &[Input],
+    past_damage: bool,
     videos: &[bool],
 ) -> Result<List<PlannedLane>, AllocError>
     requires { All HasTaken inputs.now }
-    ensures lanes { IfOk result (AreLanesOf inputs.now) }
+    ensures lanes { IfOk result (AreLanesOf past_damage inputs.now) }
     ensures drives { IfOk result (AreDriven videos.now) }
 {
     let mut lanes = List::new(alloc);
@@ -242,7 +257,17 @@ pub(crate) fn lanes_of(
         let behind = appended(&inputs[number + 1..]);
         for (place, taken) in tracks_begun(input).iter().enumerate() {
             let drives = is_driver(videos, lanes.len());
-            lanes.push(lane_of(alloc, number, input, place, taken, behind, drives)?)?;
+            let lane = lane_of(
+                alloc,
+                number,
+                input,
+                place,
+                taken,
+                behind,
+                past_damage,
+                drives,
+            )?;
+            lanes.push(lane)?;
         }
     }
     Ok(lanes)

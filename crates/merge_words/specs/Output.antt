@@ -51,4 +51,5 @@ merge_words items = record {
   files = files items;
   uuids = uuids_in items;
   link = stands subject.Link items;
+  append_damaged = stands subject.AppendDamaged items;
 }

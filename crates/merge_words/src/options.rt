@@ -17,6 +17,7 @@ pub enum Subject {
     Split,
     Uuids,
     Link,
+    AppendDamaged,
     Identify,
     Audio,
     Video,
@@ -77,7 +78,7 @@ pub struct OptionRow(
 );
 
 #[rattlefmt::skip]
-static MERGE_OPTIONS: [OptionRow; 35] = [
+static MERGE_OPTIONS: [OptionRow; 36] = [
     OptionRow("-o", "--output", Subject::Output, Scope::Output, ValueForm::Name),
     OptionRow("-w", "--webm", Subject::Webm, Scope::Output, ValueForm::Flag),
     OptionRow("", "--title", Subject::Title, Scope::Output, ValueForm::Text),
@@ -87,6 +88,7 @@ static MERGE_OPTIONS: [OptionRow; 35] = [
     OptionRow("", "--split", Subject::Split, Scope::Output, ValueForm::Split),
     OptionRow("", "--segment-uid", Subject::Uuids, Scope::Output, ValueForm::Uuids),
     OptionRow("", "--link", Subject::Link, Scope::Output, ValueForm::Flag),
+    OptionRow("", "--append-damaged", Subject::AppendDamaged, Scope::Output, ValueForm::Flag),
     OptionRow("-J", "", Subject::Identify, Scope::Output, ValueForm::Flag),
     OptionRow("-a", "--audio-tracks", Subject::Audio, Scope::File, ValueForm::Ids),
     OptionRow("-A", "--no-audio", Subject::Audio, Scope::File, ValueForm::Exclusion),

@@ -54,7 +54,7 @@ pub(crate) const INFO_PAGE: [&str; 11] = [
 
 /// The page of `merge`.
 #[rattlefmt::skip]
-pub(crate) const MERGE_PAGE: [&str; 88] = [
+pub(crate) const MERGE_PAGE: [&str; 90] = [
     "usage: mkvsuite merge -o OUT [OUTPUT OPTIONS] [FILE OPTIONS] FILE",
     "                      [[+] [FILE OPTIONS] FILE]..",
     "       mkvsuite merge -J FILE",
@@ -81,6 +81,8 @@ pub(crate) const MERGE_PAGE: [&str; 88] = [
     "                                (default: none)",
     "    --link                      store the UUIDs of the previous and next part",
     "                                in each part; requires --segment-uid",
+    "    --append-damaged            go on with the next appended file if damage",
+    "                                ends the reading of one (default: stop)",
     "    -J                          print what FILE contains as JSON; only as",
     "                                merge -J FILE",
     "  file options:",

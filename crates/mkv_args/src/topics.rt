@@ -525,9 +525,10 @@ pub(crate) const GENERAL_TOPICS: [(&str, &[&str]); 7] = [
         "warning: the run is complete, but something is missing: status 1.",
         "Cause: a damaged place. merge and extract skip the rest of its Cluster. If the",
         "  Cluster has no known end within FILE, or the place is outside Clusters, they",
-        "  skip the rest of FILE and the blocks of all files appended to it.",
-        "Do: to keep an appended file, first repair the damaged one: \"mkvsuite merge -o",
-        "  NEW FILE\", then append to NEW.",
+        "  skip the rest of FILE and, without --append-damaged, the blocks of all files",
+        "  appended to it.",
+        "Do: to keep an appended file, give --append-damaged, or first repair the",
+        "  damaged one: \"mkvsuite merge -o NEW FILE\", then append to NEW.",
     ]),
     ("word", &[
         "word: word N of the command line is wrong.",

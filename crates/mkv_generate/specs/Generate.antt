@@ -72,8 +72,8 @@ pub record MergeMade : Type 0 where
 abbrev pub made_of : MergeWords → List Source → MergeMade
 made_of words sources = record {
   outputs = outputs_of words sources;
-  warned = flat_map (warnings sources) (enumerate_from 0 words.files);
-  damaged = has_damage sources;
+  warned = flat_map (warnings words sources) (enumerate_from 0 words.files);
+  damaged = has_damage words sources;
 }
 
 -- the merge of the documents `files`, or its refusal; no journal is looked at

@@ -29,8 +29,8 @@ use Rattle.mkv_merge.proofs.WritingLemmas.{IsMergeOf, lanes-for}
 pub summary-of : (f : LiveFiles) (words : MergeWords) (inputs : List Input) (p : MergePlan) (sources : List Source) (s : Summary) → IsMergeOf f words inputs p sources → IsSummary f p s → IsSummaryOf words sources s
 summary-of f words inputs p sources s is sums = record {
   outputs = sums.outputs ∙ ap (map written_of) (outputs-are f words inputs p sources is);
-  warned = warnings-told (damages_of f p.lanes) _ s words.files sources (tells-is f p s sums) (λ k. damages-are f sources p.lanes k (lanes-for f words inputs p sources is));
-  damaged = some-told (damages_of f p.lanes) _ s sources (tells-is f p s sums) (λ k. damages-are f sources p.lanes k (lanes-for f words inputs p sources is));
+  warned = warnings-told (damages_of f p.lanes) _ s words.files words sources (tells-is f p s sums) (λ k. damages-are f words sources p.lanes k (lanes-for f words inputs p sources is));
+  damaged = some-told (damages_of f p.lanes) _ s words sources (tells-is f p s sums) (λ k. damages-are f words sources p.lanes k (lanes-for f words inputs p sources is));
 }
 
 -- The outputs were written, or couldn't be written.

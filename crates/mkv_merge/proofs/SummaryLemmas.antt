@@ -22,7 +22,8 @@ use Rattle.requests.specs.declared.merge.FileWords.{FileWords}
 use Rattle.merge_inputs.specs.Input.{InputRead}
 use Rattle.merge_inputs.specs.declared.taken.TakenTrack.{TakenTrack}
 use Rattle.merge_plan.specs.Front.{reads_of}
-use Rattle.merge_plan.specs.Plan.{Source, inputs_given, lanes_given, numbers_of}
+use Rattle.requests.specs.declared.merge.MergeWords.{MergeWords}
+use Rattle.merge_plan.specs.Plan.{Source, inputs_given, lanes_taken, numbers_of}
 use Rattle.merge_plan.specs.Records.{is_appended}
 use Rattle.merge_plan.proofs.ChainLemmas.{numbers-below}
 use Rattle.mkv_lines.specs.Line.{more_damages_line, warning_line}
@@ -52,14 +53,14 @@ links-are : (f : LiveFiles) (lanes : List PlannedLane) → flat_map (link_damage
 links-are f [] = refl
 links-are f (l ∷ lanes) = ap (λ (rest : Tagged). zip l.inputs (lane_damages (map (given_in f) l.spec.links)) ++ rest) (links-are f lanes)
 
--- `lanes` are the planned output tracks of a merge of `sources`.
-pub record AreLanesFor (f : LiveFiles) (sources : List Source) (lanes : List PlannedLane) : Type 0 where
+-- `lanes` are the planned output tracks of a merge of `sources` for `words`.
+pub record AreLanesFor (f : LiveFiles) (words : MergeWords) (sources : List Source) (lanes : List PlannedLane) : Type 0 where
   pub numbers : map (λ (l : PlannedLane). l.inputs) lanes ≡ inputs_given 0 (reads_of sources)
-  pub given : map (map (given_in f)) (links_of lanes) ≡ lanes_given sources
+  pub given : map (map (given_in f)) (links_of lanes) ≡ lanes_taken words sources
 
 -- The damage of an input is the damage of its source.
-pub damages-are : (f : LiveFiles) (sources : List Source) (lanes : List PlannedLane) (k : ℕ) → AreLanesFor f sources lanes → damages_of f lanes k ≡ damages_met sources k
-damages-are f sources lanes k are =
+pub damages-are : (f : LiveFiles) (words : MergeWords) (sources : List Source) (lanes : List PlannedLane) (k : ℕ) → AreLanesFor f words sources lanes → damages_of f lanes k ≡ damages_met words sources k
+damages-are f words sources lanes k are =
     ap (first_met k) (links-are f lanes)
     ∙ ap (λ (numbers : List (List ℕ)). first_met k (links_met numbers (map (map (given_in f)) (links_of lanes)))) are.numbers
     ∙ ap (λ (given : List (List Given)). first_met k (links_met (inputs_given 0 (reads_of sources)) given)) are.given
@@ -85,11 +86,11 @@ abbrev first_of : Option (ℕ × List Damage) → List Damage
 first_of o = option_map_or (λ (link : ℕ × List Damage). link.1) o []
 
 -- Therefore it has no damage.
-past-source : (sources : List Source) (k : ℕ) → length sources ≤ k → damages_met sources k ≡ []
-past-source sources k past =
+past-source : (words : MergeWords) (sources : List Source) (k : ℕ) → length sources ≤ k → damages_met words sources k ≡ []
+past-source words sources k past =
     let many : length (reads_of sources) ≡ length sources = length-map sources (λ (s : Source). s.1) in
     let below : All (All (λ m. m < k)) (inputs_given 0 (reads_of sources)) = numbers-below (λ (each : ℕ × InputRead). is_appended each.1) numbers_of (λ each. All-map (λ m. m ≡ each.0) (λ (t : TakenTrack). each.0) each.1.taken (λ n d inside. refl)) 0 k (reads_of sources) (omega arith) in
-    ap first_of (met-none (inputs_given 0 (reads_of sources)) (lanes_given sources) k below)
+    ap first_of (met-none (inputs_given 0 (reads_of sources)) (lanes_taken words sources) k below)
 
 -- ---- no output track has a link with a greater input number
 
@@ -224,16 +225,16 @@ input-told found count s tells k name =
 one_more : (n : ℕ) → n + 1 ≡ suc n
 one_more n = omega arith
 
-all-warnings : (s : Summary) (found : ℕ → List Damage) (sources : List Source) → ((k : ℕ) (name : List ℕ) → input_warnings s k name ≡ damages_warned name (found k))
-    → ((k : ℕ) → found k ≡ damages_met sources k) → (n : ℕ) (files : List FileWords) → warnings_from s n files ≡ flat_map (warnings sources) (enumerate_from n files)
-all-warnings s found sources told are n [] = refl
-all-warnings s found sources told are n (file ∷ files) =
+all-warnings : (s : Summary) (found : ℕ → List Damage) (words : MergeWords) (sources : List Source) → ((k : ℕ) (name : List ℕ) → input_warnings s k name ≡ damages_warned name (found k))
+    → ((k : ℕ) → found k ≡ damages_met words sources k) → (n : ℕ) (files : List FileWords) → warnings_from s n files ≡ flat_map (warnings words sources) (enumerate_from n files)
+all-warnings s found words sources told are n [] = refl
+all-warnings s found words sources told are n (file ∷ files) =
     ap (λ (lines : List (List ℕ)). lines ++ warnings_from s (suc n) files) (told n file.name ∙ ap (λ (list : List Damage). damages_warned file.name list) (are n))
-    ∙ ap (λ (lines : List (List ℕ)). damages_warned file.name (damages_met sources n) ++ lines)
-    (ap (λ (m : ℕ). warnings_from s m files) (sym (one_more n)) ∙ all-warnings s found sources told are (n + 1) files)
+    ∙ ap (λ (lines : List (List ℕ)). damages_warned file.name (damages_met words sources n) ++ lines)
+    (ap (λ (m : ℕ). warnings_from s m files) (sym (one_more n)) ∙ all-warnings s found words sources told are (n + 1) files)
 
-pub warnings-told : (found : ℕ → List Damage) (count : ℕ) (s : Summary) (files : List FileWords) (sources : List Source) → Tells found count s → ((k : ℕ) → found k ≡ damages_met sources k) → warnings_from s 0 files ≡ flat_map (warnings sources) (enumerate_from 0 files)
-warnings-told found count s files sources tells are = all-warnings s found sources (input-told found count s tells) are 0 files
+pub warnings-told : (found : ℕ → List Damage) (count : ℕ) (s : Summary) (files : List FileWords) (words : MergeWords) (sources : List Source) → Tells found count s → ((k : ℕ) → found k ≡ damages_met words sources k) → warnings_from s 0 files ≡ flat_map (warnings words sources) (enumerate_from 0 files)
+warnings-told found count s files words sources tells are = all-warnings s found words sources (input-told found count s tells) are 0 files
 
 -- ---- whether there are warnings
 
@@ -246,28 +247,28 @@ first-none k [] none = refl
 first-none k (x ∷ xs) none = absurd (cc)
 
 -- No source has damage.
-none-any : (sources : List Source) → ((k : ℕ) → damages_met sources k ≡ []) → (n count : ℕ) → list_any (λ k. is_some_of (damages_met sources k)) (range_with_len n count) ≡ false
-none-any sources none n zero = refl
-none-any sources none n (suc count) =
-    ap (λ (found : List Damage). is_some_of found || list_any (λ k. is_some_of (damages_met sources k)) (range_with_len (n + 1) count)) (none n)
-    ∙ none-any sources none (n + 1) count
+none-any : (words : MergeWords) (sources : List Source) → ((k : ℕ) → damages_met words sources k ≡ []) → (n count : ℕ) → list_any (λ k. is_some_of (damages_met words sources k)) (range_with_len n count) ≡ false
+none-any words sources none n zero = refl
+none-any words sources none n (suc count) =
+    ap (λ (found : List Damage). is_some_of found || list_any (λ k. is_some_of (damages_met words sources k)) (range_with_len (n + 1) count)) (none n)
+    ∙ none-any words sources none (n + 1) count
 
-any-none : (sources : List Source) (k n count : ℕ) → n ≤ k → k < n + count → list_any (λ j. is_some_of (damages_met sources j)) (range_with_len n count) ≡ false → damages_met sources k ≡ []
-any-none sources k n zero from past none = absurd (omega arith)
-any-none sources k n (suc count) from past none =
-    let both = neither (is_some_of (damages_met sources n)) (list_any (λ j. is_some_of (damages_met sources j)) (range_with_len (n + 1) count)) none in
-    step (none-is (damages_met sources n) both.0) (λ above. any-none sources k (n + 1) count above (omega arith) both.1) (n == k) refl
+any-none : (words : MergeWords) (sources : List Source) (k n count : ℕ) → n ≤ k → k < n + count → list_any (λ j. is_some_of (damages_met words sources j)) (range_with_len n count) ≡ false → damages_met words sources k ≡ []
+any-none words sources k n zero from past none = absurd (omega arith)
+any-none words sources k n (suc count) from past none =
+    let both = neither (is_some_of (damages_met words sources n)) (list_any (λ j. is_some_of (damages_met words sources j)) (range_with_len (n + 1) count)) none in
+    step (none-is (damages_met words sources n) both.0) (λ above. any-none words sources k (n + 1) count above (omega arith) both.1) (n == k) refl
   where
-    step : damages_met sources n ≡ [] → (n + 1 ≤ k → damages_met sources k ≡ []) → (is : Bool) → (n == k) ≡ is → damages_met sources k ≡ []
-    step here behind true is = ap (damages_met sources) (sym (is-same n k is)) ∙ here
+    step : damages_met words sources n ≡ [] → (n + 1 ≤ k → damages_met words sources k ≡ []) → (is : Bool) → (n == k) ≡ is → damages_met words sources k ≡ []
+    step here behind true is = ap (damages_met words sources) (sym (is-same n k is)) ∙ here
     step here behind false is = let apart = is-other n k is in behind (omega arith)
 
-found-none : (k : ℕ) (sources : List Source) → has_damage sources ≡ false → damages_met sources k ≡ []
-found-none k sources none = step (nat_lt k (length sources)) refl
+found-none : (k : ℕ) (words : MergeWords) (sources : List Source) → has_damage words sources ≡ false → damages_met words sources k ≡ []
+found-none k words sources none = step (nat_lt k (length sources)) refl
   where
-    step : (is : Bool) → nat_lt k (length sources) ≡ is → damages_met sources k ≡ []
-    step true is = any-none sources k 0 (length sources) (omega arith) (grind (arith, nat_tests)) none
-    step false is = past-source sources k (grind (arith, nat_tests))
+    step : (is : Bool) → nat_lt k (length sources) ≡ is → damages_met words sources k ≡ []
+    step true is = any-none words sources k 0 (length sources) (omega arith) (grind (arith, nat_tests)) none
+    step false is = past-source words sources k (grind (arith, nat_tests))
 
 none-told : (found : ℕ → List Damage) → ((k : ℕ) → found k ≡ []) → (n count : ℕ) → flat_map (λ input. first_damages input (told_damages (found input))) (range_with_len n count) ≡ []
 none-told found none n zero = refl
@@ -275,15 +276,15 @@ none-told found none n (suc count) =
     ap (λ (list : List Damage). first_damages n (told_damages list) ++ flat_map (λ input. first_damages input (told_damages (found input))) (range_with_len (n + 1) count)) (none n)
     ∙ none-told found none (n + 1) count
 
-pub some-told : (found : ℕ → List Damage) (count : ℕ) (s : Summary) (sources : List Source) → Tells found count s → ((k : ℕ) → found k ≡ damages_met sources k) → is_some_of s.damages ≡ has_damage sources
-some-told found count s sources tells are = step (is_some_of s.damages) (has_damage sources) refl refl
+pub some-told : (found : ℕ → List Damage) (count : ℕ) (s : Summary) (words : MergeWords) (sources : List Source) → Tells found count s → ((k : ℕ) → found k ≡ damages_met words sources k) → is_some_of s.damages ≡ has_damage words sources
+some-told found count s words sources tells are = step (is_some_of s.damages) (has_damage words sources) refl refl
   where
-    step : (a b : Bool) → is_some_of s.damages ≡ a → has_damage sources ≡ b → is_some_of s.damages ≡ has_damage sources
+    step : (a b : Bool) → is_some_of s.damages ≡ a → has_damage words sources ≡ b → is_some_of s.damages ≡ has_damage words sources
     step true true is there = is ∙ sym there
     step false false is there = is ∙ sym there
     step true false is there =
-        let none : s.damages ≡ [] = tells.damages ∙ none-told found (λ k. are k ∙ found-none k sources there) 0 count in
+        let none : s.damages ≡ [] = tells.damages ∙ none-told found (λ k. are k ∙ found-none k words sources there) 0 count in
         ap is_some_of none ∙ sym there
     step false true is there =
         let none : s.damages ≡ [] = none-is s.damages is in
-        is ∙ sym (none-any sources (λ k. sym (are k) ∙ first-none k (found k) (sym (damages-told found count s tells k) ∙ ap (damages_at k) none)) 0 (length sources))
+        is ∙ sym (none-any words sources (λ k. sym (are k) ∙ first-none k (found k) (sym (damages-told found count s tells k) ∙ ap (damages_at k) none)) 0 (length sources))

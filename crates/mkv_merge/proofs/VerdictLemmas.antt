@@ -52,13 +52,13 @@ behind-told f words inputs p sources s is sums =
     ap (λ (ws : List Written). map (λ (w : Written). wrote_blocks_line w.name w.blocks) ws ++ warnings_from s 0 words.files ++ uuid_lines words (length s.outputs)) (sums.outputs ∙ ap (map written_of) (outputs-are f words inputs p sources is))
     ∙ ap (λ (lines : List (List ℕ)). lines ++ warnings_from s 0 words.files ++ uuid_lines words (length s.outputs)) (map-map (λ (w : Written). wrote_blocks_line w.name w.blocks) written_of (outputs_of words sources))
     ∙ ap (λ (lines : List (List ℕ)). map output_line (outputs_of words sources) ++ lines ++ uuid_lines words (length s.outputs))
-    (warnings-told (damages_of f p.lanes) _ s words.files sources (tells-is f p s sums) (λ k. damages-are f sources p.lanes k (lanes-for f words inputs p sources is)))
-    ∙ ap (λ (n : ℕ). map output_line (outputs_of words sources) ++ flat_map (warnings sources) (enumerate_from 0 words.files) ++ uuid_lines words n) (count-told f words inputs p sources s is sums)
+    (warnings-told (damages_of f p.lanes) _ s words.files words sources (tells-is f p s sums) (λ k. damages-are f words sources p.lanes k (lanes-for f words inputs p sources is)))
+    ∙ ap (λ (n : ℕ). map output_line (outputs_of words sources) ++ flat_map (warnings words sources) (enumerate_from 0 words.files) ++ uuid_lines words n) (count-told f words inputs p sources s is sums)
 
-warned-told : (f : LiveFiles) (words : MergeWords) (inputs : List Input) (p : MergePlan) (sources : List Source) (s : Summary) → IsMergeOf f words inputs p sources → IsSummary f p s → (absent : Bool) → is_warned absent s ≡ (absent || has_damage sources)
+warned-told : (f : LiveFiles) (words : MergeWords) (inputs : List Input) (p : MergePlan) (sources : List Source) (s : Summary) → IsMergeOf f words inputs p sources → IsSummary f p s → (absent : Bool) → is_warned absent s ≡ (absent || has_damage words sources)
 warned-told f words inputs p sources s is sums absent =
     ap (λ (some : Bool). absent || some)
-    (some-told (damages_of f p.lanes) _ s sources (tells-is f p s sums) (λ k. damages-are f sources p.lanes k (lanes-for f words inputs p sources is)))
+    (some-told (damages_of f p.lanes) _ s words sources (tells-is f p s sums) (λ k. damages-are f words sources p.lanes k (lanes-for f words inputs p sources is)))
 
 -- ---- result
 
@@ -115,5 +115,5 @@ merge-told old new mid r f words inputs p sources s absent is sums missing befor
         all-whole old.names new.names (outputs_in f p) writes
         ∙ ap (λ (os : List PlannedOutput). with_outputs old.names (outputs_of_drafts (drafts_of os))) (outputs-are f words inputs p sources is)
 
-    warned : (is_warned absent s || has_other_count words (length s.outputs)) ≡ (has_absent words (reads_of sources) || has_damage sources || has_other_count words (length (outputs_of words sources)))
-    warned = ap₂ (λ (some : Bool) (n : ℕ). some || has_other_count words n) (warned-told f words inputs p sources s is sums absent ∙ ap (λ (some : Bool). some || has_damage sources) (missing ∙ ap (has_absent words) reads)) (count-told f words inputs p sources s is sums)
+    warned : (is_warned absent s || has_other_count words (length s.outputs)) ≡ (has_absent words (reads_of sources) || has_damage words sources || has_other_count words (length (outputs_of words sources)))
+    warned = ap₂ (λ (some : Bool) (n : ℕ). some || has_other_count words n) (warned-told f words inputs p sources s is sums absent ∙ ap (λ (some : Bool). some || has_damage words sources) (missing ∙ ap (has_absent words) reads)) (count-told f words inputs p sources s is sums)

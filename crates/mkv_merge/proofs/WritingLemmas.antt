@@ -20,7 +20,7 @@ use Rattle.output_model.specs.Document.{Front}
 use Rattle.output_model.specs.OutputBlock.{OutputBlock}
 use Rattle.output_model.specs.declared.heads.ClusterLimits.{ClusterLimits}
 use Rattle.merge_model.specs.Lanes.{lane_blocks}
-use Rattle.merge_model.specs.Links.{Given}
+use Rattle.merge_model.specs.Links.{Given, going_on}
 use Rattle.merge_model.specs.Merged.{merged}
 use Rattle.merge_model.specs.FileLinks.{given_in, IsOpenLink, IsSmallLink, IsToldLink}
 use Rattle.merge_model.specs.declared.link.Link.{Link}
@@ -41,7 +41,7 @@ use Rattle.merge_inputs.specs.declared.input.Blocks.{Blocks}
 use Rattle.merge_inputs.specs.declared.input.Blocks.TheVariants as held_by
 use Rattle.merge_inputs.specs.declared.input.Input.{Input}
 use Rattle.merge_inputs.specs.declared.taken.TakenTrack.{TakenTrack}
-use Rattle.merge_plan.specs.Plan.{Source, inputs_given, lanes_given, numbers_of}
+use Rattle.merge_plan.specs.Plan.{Source, inputs_given, lanes_given, lanes_taken, numbers_of}
 use Rattle.merge_plan.specs.Planned.{CanBeWritten, StandsInInput, IsSparedLink, IsPlanOf, IsToldInput, source_in}
 use Rattle.merge_plan.specs.Front.{attached_length, attachments_of, reads_of}
 use Rattle.merge_plan.specs.Identifiers.{Have64Bits, identifiers_of}
@@ -228,10 +228,10 @@ merge-is f words ids contents p prepared told many = record {
 pub reads-are : (f : LiveFiles) (words : MergeWords) (inputs : List Input) (p : MergePlan) (sources : List Source) → IsMergeOf f words inputs p sources → reads_of sources ≡ reads_in inputs
 reads-are f words inputs p sources is = ap reads_of (sym is.from) ∙ reads-in f inputs
 
-pub lanes-for : (f : LiveFiles) (words : MergeWords) (inputs : List Input) (p : MergePlan) (sources : List Source) → IsMergeOf f words inputs p sources → AreLanesFor f sources p.lanes
+pub lanes-for : (f : LiveFiles) (words : MergeWords) (inputs : List Input) (p : MergePlan) (sources : List Source) → IsMergeOf f words inputs p sources → AreLanesFor f words sources p.lanes
 lanes-for f words inputs p sources is = record {
   numbers = is.plan.numbers ∙ ap (inputs_given 0) (sym (reads-are f words inputs p sources is));
-  given = is.plan.lanes f ∙ ap lanes_given is.from;
+  given = is.plan.lanes f ∙ ap (lanes_taken words) is.from;
 }
 
 lanes-over : (f : LiveFiles) (scale : ℕ) (specs : List (List Link)) → lanes_over f scale specs ≡ map (lane_blocks scale) (map (map (given_in f)) specs)
@@ -307,3 +307,4 @@ lanes-count f words inputs p sources is =
     sym (length-map p.lanes (λ (l : PlannedLane). l.spec.links))
     ∙ sym (length-map (links_of p.lanes) (map (given_in f)))
     ∙ ap (λ (given : List (List Given)). length given) (lanes-for f words inputs p sources is).given
+    ∙ length-map (lanes_given sources) (map (going_on words.append_damaged))

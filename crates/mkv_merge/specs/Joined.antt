@@ -56,8 +56,8 @@ most_lone world words = most_of (sources_alone world words) (contents_length wor
 -- The summary `s` describes the outputs of `sources`, and gives the warnings of a merge of them.
 pub record IsSummaryOf (words : MergeWords) (sources : List Source) (s : Summary) : Type 0 where
   pub outputs : s.outputs ≡ map written_of (outputs_of words sources)
-  pub warned : warnings_from s 0 words.files ≡ flat_map (warnings sources) (enumerate_from 0 words.files)
-  pub damaged : is_some_of s.damages ≡ has_damage sources
+  pub warned : warnings_from s 0 words.files ≡ flat_map (warnings words sources) (enumerate_from 0 words.files)
+  pub damaged : is_some_of s.damages ≡ has_damage words sources
 
 -- The sources were found, their outputs were written, and `s` is their summary.
 pub record HasMerged (old new : Names) (words : MergeWords) (found : Result (List Source) Refusal) (s : Summary) : Type 0 where

@@ -30,7 +30,7 @@ use Rattle.requests.specs.declared.merge.FileWords.{FileWords}
 use Rattle.requests.specs.declared.merge.MergeWords.{MergeWords}
 use Rattle.merge_inputs.specs.Input.{InputRead}
 use Rattle.merge_plan.specs.Appending.{append_refusal}
-use Rattle.merge_plan.specs.Plan.{Source, drives_given, inputs_given, lanes_given, limits_of, rules_given, split_given}
+use Rattle.merge_plan.specs.Plan.{Source, drives_given, inputs_given, lanes_taken, limits_of, rules_given, split_given}
 use Rattle.merge_plan.specs.Front.{front_of, reads_of}
 use Rattle.merge_plan.specs.Places.{in_place}
 use Rattle.merge_plan.specs.Records.{chapters_of, tags_of}
@@ -90,7 +90,7 @@ sources_of world words = sources_unless (refusals world words) words (texts_held
 
 -- the merged list of the selected tracks
 abbrev pub blocks_of : MergeWords → List Source → List OutputBlock
-blocks_of words sources = merged (map (lane_blocks words.scale) (lanes_given sources))
+blocks_of words sources = merged (map (lane_blocks words.scale) (lanes_taken words sources))
 
 -- the split of the output, in its ticks
 abbrev pub split_of : MergeWords → List Source → Split
@@ -155,26 +155,26 @@ links_met numbers given = flat_map (λ (lane : List ℕ × List Given). zip lane
 abbrev pub first_met : ℕ → List (ℕ × List Damage) → List Damage
 first_met k links = option_map_or (λ (link : ℕ × List Damage). link.1) (find (λ (link : ℕ × List Damage). link.0 == k) links) []
 
--- the damage that is met in the source number `k`. It is empty if no track of the source is selected, or if a file before it in its chain
--- stopped.
-abbrev pub damages_met : List Source → ℕ → List Damage
-damages_met sources k = first_met k (links_met (inputs_given 0 (reads_of sources)) (lanes_given sources))
+-- the damage that is met in the source number `k`. It is empty if no track of the source is selected. Without the option to go on it is also empty
+-- if a file before it in its chain stopped.
+abbrev pub damages_met : MergeWords → List Source → ℕ → List Damage
+damages_met words sources k = first_met k (links_met (inputs_given 0 (reads_of sources)) (lanes_taken words sources))
 
 -- the warnings about a file `name` with this damage
 abbrev pub damages_warned : List ℕ → List Damage → List (List ℕ)
 damages_warned name damages = let told = told_damages damages in damage_lines name told.first told.more
 
 -- the warnings about a source, by its number
-abbrev pub warnings : List Source → ℕ × FileWords → List (List ℕ)
-warnings sources each = damages_warned each.1.name (damages_met sources each.0)
+abbrev pub warnings : MergeWords → List Source → ℕ × FileWords → List (List ℕ)
+warnings words sources each = damages_warned each.1.name (damages_met words sources each.0)
 
 -- Some input lacks a track that the command line names.
 abbrev pub has_absent : MergeWords → List InputRead → Bool
 has_absent words reads = list_any (λ f. is_some_of (absent f)) (zip words.files reads)
 
 -- Some source has damage that is met while its blocks are merged.
-abbrev pub has_damage : List Source → Bool
-has_damage sources = list_any (λ k. is_some_of (damages_met sources k)) (range_with_len 0 (length sources))
+abbrev pub has_damage : MergeWords → List Source → Bool
+has_damage words sources = list_any (λ k. is_some_of (damages_met words sources k)) (range_with_len 0 (length sources))
 
 -- The command line gives segment identifiers, but not one for each of the `count` outputs.
 abbrev pub has_other_count : MergeWords → ℕ → Bool
@@ -202,12 +202,12 @@ output_line o = wrote_blocks_line o.name (counted 0 (length o.blocks))
 -- the lines after the outputs are written: one for each output, warnings of damage by input, and a warning of the number of segment identifiers
 abbrev pub lines_behind : MergeWords → List Source → List (List ℕ)
 lines_behind words sources =
-    map output_line (outputs_of words sources) ++ flat_map (warnings sources) (enumerate_from 0 words.files) ++ uuid_lines words (length (outputs_of words sources))
+    map output_line (outputs_of words sources) ++ flat_map (warnings words sources) (enumerate_from 0 words.files) ++ uuid_lines words (length (outputs_of words sources))
 
 -- the result of a merge that isn't refused: warnings of absent tracks, the outputs, and warnings of damage and of the number of identifiers
 abbrev pub merged_verdict : MergeWords → List Source → Verdict
 merged_verdict words sources = record {
-  status = warned_if (has_absent words (reads_of sources) || has_damage sources || has_other_count words (length (outputs_of words sources)));
+  status = warned_if (has_absent words (reads_of sources) || has_damage words sources || has_other_count words (length (outputs_of words sources)));
   lines = lines_before words (reads_of sources) ++ lines_behind words sources;
   before = lines_before words (reads_of sources);
   outputs = in_turn (drafts_of (outputs_of words sources));

@@ -1,6 +1,6 @@
 -- The output tracks of an output are merged again as they were.
 use Rattle.std.proofs.Common.{◌≡◌, ℕ, ◌+◌, ◌==◌, Bool, true, false, ◌||◌, if◌then◌else◌, ℤ, pos, List, [], ◌∷◌, ◌++◌, length, map, filter, flat_map, find, zip, All, Option, None, Some, refl, sym, ap, ap₂, subst, ◌∙◌, append-nil, suc, arith}
-use Rattle.std.specs.Prelude.{is_some}
+use Rattle.std.specs.Prelude.{◌&&◌, is_some, not}
 use Rattle.std.specs.Option.{option_map_or, unwrap_or}
 use Rattle.std.proofs.lemmas.List.Elements.{All-append, All-cons, All-head, All-nil, All-tail}
 use Rattle.mkv_io.specs.declared.damage.Damage.{Damage}
@@ -18,12 +18,13 @@ use Rattle.output_laws.specs.Places.{block_events}
 use Rattle.output_laws.specs.Reading.{blocks_of_document, header_of_segment}
 use Rattle.output_laws.proofs.LayoutLemmas.{layout-read}
 use Rattle.merge_model.specs.Lanes.{lane_blocks, lane_damages}
-use Rattle.merge_model.specs.Links.{Given, Placing, delayed, placed, placed_at, track_given}
+use Rattle.merge_model.specs.Links.{Given, Placing, delayed, going_on, placed, placed_at, track_given}
 use Rattle.ext_times.specs.Listing.{Listing}
 use Rattle.merge_inputs.specs.Input.{BlocksRead, Clusters, InputRead, events_by}
 use Rattle.merge_inputs.specs.declared.taken.TakenTrack.{TakenTrack}
 use Rattle.merge_plan.specs.Chains.{columns_from}
-use Rattle.merge_plan.specs.Plan.{Source, given_from, inputs_given, lanes_given}
+use Rattle.requests.specs.declared.merge.MergeWords.{MergeWords}
+use Rattle.merge_plan.specs.Plan.{Source, given_from, inputs_given, lanes_given, lanes_taken}
 use Rattle.merge_plan.specs.Front.{reads_of}
 use Rattle.mkv_io.specs.Lists.{is_some_of}
 use Rattle.mkv_merge.specs.Merge.{has_damage, links_met}
@@ -125,13 +126,13 @@ no-damages : (bs : List Block) → damages_of (block_events bs) ≡ []
 no-damages [] = refl
 no-damages (b ∷ bs) = no-damages bs
 
-given-undamaged : (segment : Header) (scale : ℕ) (bytes : List ℕ) (taken : List TakenTrack) → damages_of (events_of (with_limits scale) bytes segment) ≡ []
-    → All IsUndamaged (map (λ (g : Given). g ∷ []) (plain_given segment scale bytes taken))
-given-undamaged segment scale bytes [] none = All-nil IsUndamaged
-given-undamaged segment scale bytes (t ∷ taken) none =
+given-undamaged : (b : Bool) (segment : Header) (scale : ℕ) (bytes : List ℕ) (taken : List TakenTrack) → damages_of (events_of (with_limits scale) bytes segment) ≡ []
+    → All IsUndamaged (map (map (going_on b)) (map (λ (g : Given). g ∷ []) (plain_given segment scale bytes taken)))
+given-undamaged b segment scale bytes [] none = All-nil IsUndamaged
+given-undamaged b segment scale bytes (t ∷ taken) none =
     let g : Given = given_from [] 0 (Clusters segment scale) bytes t in
-    All-cons IsUndamaged (g ∷ []) (map (λ (h : Given). h ∷ []) (plain_given segment scale bytes taken)) (one (is_some (last_of (events_of (with_limits scale) bytes segment))))
-    (given-undamaged segment scale bytes taken none)
+    All-cons IsUndamaged (going_on b g ∷ []) (map (map (going_on b)) (map (λ (h : Given). h ∷ []) (plain_given segment scale bytes taken))) (one (not b && is_some (last_of (events_of (with_limits scale) bytes segment))))
+    (given-undamaged b segment scale bytes taken none)
   where
     one : (t : Bool) → All IsEmpty (damages_of (events_of (with_limits scale) bytes segment) ∷ (if t then [] else []))
     one true = All-cons IsEmpty (damages_of (events_of (with_limits scale) bytes segment)) [] none (All-nil IsEmpty)
@@ -149,17 +150,17 @@ module _ (d : Document) (again : InputRead) (is : IsReadOfOutput d again) where
   own-given : lanes_given ((layout d, again) ∷ []) ≡ map (λ (g : Given). g ∷ []) (plain_given (header_of_segment d) own_scale (layout d) again.taken)
   own-given = given-alone (layout d) (header_of_segment d) own_scale again is.blocks is.alone is.times
 
-  all-undamaged : All IsUndamaged (lanes_given ((layout d, again) ∷ []))
-  all-undamaged =
-      subst (All IsUndamaged) (sym own-given)
-      (given-undamaged (header_of_segment d) own_scale (layout d) again.taken (ap damages_of own-events ∙ no-damages (blocks_of_document d)))
+  all-undamaged : (words : MergeWords) → All IsUndamaged (lanes_taken words ((layout d, again) ∷ []))
+  all-undamaged words =
+      subst (λ (gss : List (List Given)). All IsUndamaged (map (map (going_on words.append_damaged)) gss)) (sym own-given)
+      (given-undamaged words.append_damaged (header_of_segment d) own_scale (layout d) again.taken (ap damages_of own-events ∙ no-damages (blocks_of_document d)))
 
-  none-damaged : has_damage ((layout d, again) ∷ []) ≡ false
-  none-damaged =
+  none-damaged : (words : MergeWords) → has_damage words ((layout d, again) ∷ []) ≡ false
+  none-damaged words =
       let sources : List Source = (layout d, again) ∷ [] in
       ap (λ (ds : List Damage). is_some_of ds || false)
-      (found-whole (λ (link : ℕ × List Damage). link.0 == 0) (links_met (inputs_given 0 (reads_of sources)) (lanes_given sources))
-      (links-whole (inputs_given 0 (reads_of sources)) (lanes_given sources) all-undamaged))
+      (found-whole (λ (link : ℕ × List Damage). link.0 == 0) (links_met (inputs_given 0 (reads_of sources)) (lanes_taken words sources))
+      (links-whole (inputs_given 0 (reads_of sources)) (lanes_taken words sources) (all-undamaged words)))
 
 pub lanes-merged : LanesAreReadAgain → LanesAreMergedAgain
 lanes-merged stay = record {
@@ -170,5 +171,5 @@ lanes-merged stay = record {
       ∙ lanes-plain scale segment scale (layout d) 1 again.taken is.numbers is.plain
       ∙ ap₂ (λ (n : ℕ) (es : List Event). lanes_read scale 1 n es) long (own-events d again is ∙ sym (layout-read d sound).events)
       ∙ stay d limits lanes sound cut none;
-  undamaged = none-damaged;
+  undamaged = λ words d again is. none-damaged d again is words;
 }

@@ -45,7 +45,7 @@ use Rattle.merge_inputs.specs.Input.{Clusters, InputRead}
 use Rattle.merge_inputs.specs.declared.taken.TakenTrack.{TakenTrack}
 use Rattle.merge_plan.specs.Front.{attachments_of, file_uids, reads_of}
 use Rattle.merge_plan.specs.Identifiers.{Have64Bits, identifiers_of}
-use Rattle.merge_plan.specs.Plan.{Source, lanes_given, limits_of, rule_of, rules_given, default_rule}
+use Rattle.merge_plan.specs.Plan.{Source, lanes_given, lanes_taken, limits_of, rule_of, rules_given, default_rule}
 use Rattle.merge_plan.specs.Records.{anywhere, chapters_of, info_of, kept_anywhere, records_from, records_of, tags_of, title_of, tracks_of_output, tracks_taken, uids_at, uids_behind, uids_of}
 use Rattle.merge_plan.specs.Records.{entries_of as entries_given}
 use Rattle.merge_plan.specs.Refusal.{plan_refusal}
@@ -66,6 +66,8 @@ use Rattle.remerge_laws.specs.Whole.{whole_document}
 use Rattle.remerge_laws.proofs.AgainChapterLemmas.{chapters-again}
 use Rattle.remerge_laws.proofs.AgainFileLemmas.{files-stay}
 use Rattle.remerge_laws.proofs.AgainInfoLemmas.{info-again}
+use Rattle.merge_laws.proofs.LaneLemmas.{lanes-as_many}
+use Rattle.merge_laws.proofs.TakenLemmas.{lanes-same}
 use Rattle.remerge_laws.proofs.AgainLaneLemmas.{lanes-merged}
 use Rattle.remerge_laws.proofs.AgainPlanLemmas.{IsTree, again-small, plan-again, tracks-tree, usable-again}
 use Rattle.remerge_laws.proofs.AgainTagLemmas.{tags-again}
@@ -92,7 +94,7 @@ pub record ArePlain (words : MergeWords) (sources : List Source) : Type 0 where
 pub record HavePlainDocument (words : MergeWords) (sources : List Source) : Type 0 where
   pub sound : IsSoundDocument (whole_document words sources)
   pub lanes : length (lanes_given sources) ≡ length (entries_of (whole_document words sources).front.tracks)
-  pub unnumbered : All (All HasNoLane) (map (lane_blocks words.scale) (lanes_given sources))
+  pub unnumbered : All (All HasNoLane) (map (lane_blocks words.scale) (lanes_taken words sources))
   pub plain : All (λ (entry : Node). first_child CONTENT_ENCODINGS entry ≡ None) (entries_of (whole_document words sources).front.tracks)
   pub limits : OutputKeepsLimits (whole_document words sources)
 
@@ -188,11 +190,12 @@ module _ (tracks_stay : TracksStay) (chapters_stay : ChaptersStay) (tags_stay : 
       keep = refl;
     }
 
-    lanes-again : map (lane_blocks 1000000) (lanes_given (s ∷ [])) ≡ map (lane_blocks words.scale) (lanes_given sources)
+    lanes-again : map (lane_blocks 1000000) (lanes_taken (plain_merge out name) (s ∷ [])) ≡ map (lane_blocks words.scale) (lanes_taken words sources)
     lanes-again =
-        ap (λ (n : ℕ). map (lane_blocks n) (lanes_given (s ∷ []))) (sym (scale-is ∙ usual.scale))
-        ∙ (lanes-merged lanes_stay).lanes d (limits_of words) (map (lane_blocks words.scale) (lanes_given sources)) s.1 has.sound refl has.unnumbered
-        (taken-of.many ∙ sym has.lanes ∙ sym (length-map (lanes_given sources) (lane_blocks words.scale))) output-read
+        ap (map (lane_blocks 1000000)) (lanes-same (lanes_given (s ∷ [])))
+        ∙ ap (λ (n : ℕ). map (lane_blocks n) (lanes_given (s ∷ []))) (sym (scale-is ∙ usual.scale))
+        ∙ (lanes-merged lanes_stay).lanes d (limits_of words) (map (lane_blocks words.scale) (lanes_taken words sources)) s.1 has.sound refl has.unnumbered
+        (taken-of.many ∙ sym has.lanes ∙ sym (length-map (lanes_taken words sources) (lane_blocks words.scale) ∙ lanes-as_many words sources)) output-read
 
     blocks-again : blocks_of (plain_merge out name) (s ∷ []) ≡ blocks_of words sources
     blocks-again = ap merged lanes-again
@@ -297,7 +300,7 @@ module _ (tracks_stay : TracksStay) (chapters_stay : ChaptersStay) (tags_stay : 
       outputs =
           ap (map laid_out) (one-document (plain_merge out name) (s ∷ []) refl refl)
           ∙ ap (λ (bytes : List ℕ). let o : Output = record { name = out; content = bytes } in o ∷ []) (sym (alike-one d e documents-alike));
-      undamaged = (lanes-merged lanes_stay).undamaged d s.1 output-read;
+      undamaged = (lanes-merged lanes_stay).undamaged (plain_merge out name) d s.1 output-read;
     }
 
   pub repeated : (r : FileRecords) × IsRepeated out name d r

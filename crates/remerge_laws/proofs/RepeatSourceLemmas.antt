@@ -71,7 +71,7 @@ module _ (documents_sound : MergedDocumentsAreSound) (layouts_hold : LayoutsHold
     sound = document-sound;
     lanes = lanes-count sources
         ∙ sym (ap length (entries-are (tracks_taken (reads_of sources)) taken) ∙ entries-count (tracks_taken (reads_of sources)));
-    unnumbered = lanes-free words.scale sources are.each;
+    unnumbered = lanes-free words sources are.each;
     plain = plain_one holds;
     limits = octets-keep d document-sound (whole-planned words sources are.unrefused) within;
   }

@@ -15,6 +15,7 @@ use Rattle.merge_model.specs.Lanes.{lane_blocks}
 use Rattle.merge_model.specs.Merged.{merged}
 use Rattle.merge_inputs.specs.Input.{Clusters, InputRead, events_in}
 use Rattle.merge_inputs.specs.declared.taken.TakenTrack.{TakenTrack}
+use Rattle.requests.specs.declared.merge.MergeWords.{MergeWords}
 use Rattle.merge_plan.specs.Plan.{lanes_given}
 use Rattle.mkv_merge.specs.Merge.{has_damage}
 
@@ -38,4 +39,4 @@ pub record LanesAreMergedAgain : Type 0 where
   pub lanes : (d : Document) (limits : ClusterLimits) (lanes : List (List OutputBlock)) (again : InputRead) → IsSoundDocument d
       → d.clusters ≡ clusters limits (merged lanes) → All (All HasNoLane) lanes → length again.taken ≡ length lanes → IsReadOfOutput d again
       → map (lane_blocks (scale_of d.front.info)) (lanes_given ((layout d, again) ∷ [])) ≡ lanes
-  pub undamaged : (d : Document) (again : InputRead) → IsReadOfOutput d again → has_damage ((layout d, again) ∷ []) ≡ false
+  pub undamaged : (words : MergeWords) (d : Document) (again : InputRead) → IsReadOfOutput d again → has_damage words ((layout d, again) ∷ []) ≡ false

@@ -38,4 +38,4 @@ OutputsAreSources =
 abbrev pub MergeIsDone : Type 0
 MergeIsDone =
     (world : List ℕ → Option (List ℕ)) (out name : List ℕ) (source : Source) → sources_of world (plain_merge out name) ≡ Ok (source ∷ [])
-    → has_damage (source ∷ []) ≡ false → (merge_verdict world (plain_merge out name)).status ≡ Done
+    → has_damage (plain_merge out name) (source ∷ []) ≡ false → (merge_verdict world (plain_merge out name)).status ≡ Done

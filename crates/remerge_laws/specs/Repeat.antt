@@ -53,7 +53,7 @@ pub record IsRepeated (out name : List ℕ) (d : Document) (r : FileRecords) : T
   pub usable : first_unusable (taken_from (plain_file name) 0 r.tracks) ≡ None
   pub planned : plan_refusal (plain_merge out name) (reads_of (source_again name d r ∷ [])) ≡ None
   pub outputs : map laid_out (outputs_of (plain_merge out name) (source_again name d r ∷ [])) ≡ record { name = out; content = layout d } ∷ []
-  pub undamaged : has_damage (source_again name d r ∷ []) ≡ false
+  pub undamaged : has_damage (plain_merge out name) (source_again name d r ∷ []) ≡ false
 
 -- The output of a merge with default options and plain sources is repeated, if it keeps a reader's limits.
 abbrev pub OutputsAreRepeated : Type 0

@@ -56,4 +56,5 @@ plain_words output split files = record {
   files = files;
   uuids = [];
   link = false;
+  append_damaged = false;
 }

@@ -77,4 +77,6 @@ pub struct MergeWords {
     pub uuids: List<u128>,
     /// Each part names the SegmentUUIDs of the previous and the next part.
     pub link: bool,
+    /// Files that are appended to a damaged one are read, too.
+    pub append_damaged: bool,
 }

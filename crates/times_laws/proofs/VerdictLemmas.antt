@@ -12,7 +12,7 @@ use Rattle.output_records.specs.Info.{output_info}
 use Rattle.output_records.specs.Tags.{merged_tags}
 use Rattle.output_records.specs.Tracks.{output_tracks}
 use Rattle.merge_model.specs.Lanes.{lane_blocks}
-use Rattle.merge_model.specs.Links.{Given}
+use Rattle.merge_model.specs.Links.{Given, going_on}
 use Rattle.merge_model.specs.Merged.{merged}
 use Rattle.splitter.specs.Sections.{Part, parts}
 use Rattle.splitter.specs.Words.{size_of, spec_of}
@@ -24,7 +24,7 @@ use Rattle.input_files.specs.declared.times_file.TimesName.{TimesName}
 use Rattle.merge_inputs.specs.Input.{InputRead}
 use Rattle.merge_inputs.specs.declared.taken.TakenTrack.{TakenTrack}
 use Rattle.merge_plan.specs.Front.{attachments_of, reads_of}
-use Rattle.merge_plan.specs.Plan.{Source, drivers_by, inputs_given, is_video, lanes_given, limits_of, rule_of, starts_in}
+use Rattle.merge_plan.specs.Plan.{Source, drivers_by, inputs_given, is_video, lanes_taken, limits_of, rule_of, starts_in}
 use Rattle.merge_plan.specs.Records.{entries_of, first_title, records_of, tracks_taken}
 use Rattle.mkv_lines.specs.Line.{append_differs_line, missing_line, no_track_line, pending_edit_line}
 use Rattle.mkv_lines.specs.Verdict.{Verdict, in_turn, refused}
@@ -150,8 +150,8 @@ module _ (words : MergeWords) (n : TimesName) (timed own : FileWords) (named : o
     numbers : inputs_given 0 (reads_of new) ≡ inputs_given 0 (reads_of old)
     numbers = same-of (inputs_given 0) (numbers-bare 0) (reads_of new) (reads_of old) reads
 
-    lanes : lanes_given new ≡ lanes_given old
-    lanes = lanes-same new old alike
+    lanes : lanes_taken more new ≡ lanes_taken words old
+    lanes = ap (map (map (going_on words.append_damaged))) (lanes-same new old alike)
 
     outputs : outputs_of more new ≡ outputs_of words old
     outputs =
@@ -171,15 +171,15 @@ module _ (words : MergeWords) (n : TimesName) (timed own : FileWords) (named : o
         same-of (λ (each : List InputRead). flat_map absent_lines (zip more.files each)) (lines-bare more.files) (reads_of new) (reads_of old) reads
         ∙ lines-there n.id timed own named name_is n.input words.files old found has
 
-    damaged : has_damage new ≡ has_damage old
+    damaged : has_damage more new ≡ has_damage words old
     damaged =
         let count = length-same new old alike in
         λ i. list_any (λ (k : ℕ). is_some_of (met_by (numbers i) (lanes i) k)) (range_with_len 0 (count i))
 
-    warned : flat_map (warnings new) (enumerate_from 0 more.files) ≡ flat_map (warnings old) (enumerate_from 0 words.files)
+    warned : flat_map (warnings more new) (enumerate_from 0 more.files) ≡ flat_map (warnings words old) (enumerate_from 0 words.files)
     warned =
         (λ i. flat_map (λ (each : ℕ × FileWords). damages_warned each.1.name (met_by (numbers i) (lanes i) each.0)) (enumerate_from 0 more.files))
-        ∙ warned-same n.id timed own named name_is (inputs_given 0 (reads_of old)) (lanes_given old) 0 n.input words.files found
+        ∙ warned-same n.id timed own named name_is (inputs_given 0 (reads_of old)) (lanes_taken words old) 0 n.input words.files found
 
     pub merged-same : merged_verdict more new ≡ merged_verdict words old
     merged-same = λ i. verdict_by (missing i) (damaged i) (before i) (warned i) (outputs i)

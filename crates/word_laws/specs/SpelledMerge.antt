@@ -54,7 +54,8 @@ output_options words =
     with_value (codes "--cluster-length") (length_word words.blocks words.span) ∷
     with_value (codes "--split") (option_map split_word words.split) ∷
     with_value (codes "--segment-uid") (uuids_word words.uuids) ∷
-    flag (codes "--link") words.link ∷ []
+    flag (codes "--link") words.link ∷
+    flag (codes "--append-damaged") words.append_damaged ∷ []
 
 -- the options for a file and for its tracks
 abbrev pub file_options : FileWords → List (List (List ℕ))

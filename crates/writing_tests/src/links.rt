@@ -73,6 +73,7 @@ fn link_of<R: Reads>(
         shift: u64::from(taken.shift) * SCALE,
         prefix: Bytes::new(alloc),
         times: None,
+        goes_on: false,
     }))
 }
 

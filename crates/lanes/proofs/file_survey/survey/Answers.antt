@@ -1,11 +1,11 @@
-use Rattle.std.proofs.Common.{◌≡◌, length, map, sym, ◌∙◌, ap, subst, arith}
+use Rattle.std.proofs.Common.{◌≡◌, length, sym, ◌∙◌, ap, subst, arith}
 use Rattle.std.specs.Prelude.{List, IfOk}
 use Rattle.mkv_io.specs.declared.outside.FileId.{FileId}
 use Rattle.mkv_io.specs.Sources.{live_files}
 use Rattle.block_format.specs.Elements.{with_limits}
 use Rattle.block_format.specs.Events.{events_of}
 use Rattle.cluster_reader.specs.Reading.{left_of}
-use Rattle.merge_model.specs.FileLinks.{IsOpenLink, IsToldLink, given_in, octets_in, track_events}
+use Rattle.merge_model.specs.FileLinks.{IsOpenLink, IsToldLink, octets_in, track_events}
 use Rattle.merge_model.specs.declared.link.Link.{Link}
 use Rattle.lanes.specs.Ends.{texts_end}
 use Rattle.lanes.specs.Survey.{IsSurvey, first_track, length_of}
@@ -48,7 +48,7 @@ returns-clause-value g c = λ told.
     c.in_ok-cursor.ensures.left (octets_in f t.file.n) whole ∙ ap (λ o. events_of (with_limits t.scale) (octets_in f t.file.n) o.segment) c.deref.ensures in
     let here = ap (λ (each : FileId). f.content each.n) c.in_ok-cursor.ensures.begins.file ∙ content in
     let links : List Link = c.args.links.now in
-    answer-map (IsWalked (left_of (octets_in f t.file.n) c.in_ok-cursor.cursor) links) (IsSurvey (map (given_in f) links)) c.walk.result
+    answer-map (IsWalked (left_of (octets_in f t.file.n) c.in_ok-cursor.cursor) links) (IsSurvey f links) c.walk.result
     (λ s walked. survey-walked f links t s (left_of (octets_in f t.file.n) c.in_ok-cursor.cursor) first c.requires.one begins walked)
     (subst (λ (ls : List Link). IfOk c.walk.result (IsWalked (left_of (octets_in f t.file.n) c.in_ok-cursor.cursor) ls)) c.as_slice-links.ensures (c.walk.ensures.value (octets_in f t.file.n) here))
 

@@ -1,5 +1,5 @@
 use Rattle.std.proofs.Common.{◌≡◌, ℕ, ◌+◌, ◌*◌, ◌≤◌, List, length, Some, None, Result, Ok, Err, Bool, ◌<◌, refl, sym, ◌∙◌, ap, subst, arith}
-use Rattle.std.specs.Prelude.{◌||◌}
+use Rattle.std.specs.Prelude.{◌||◌, ◌&&◌, not}
 use Rattle.std.proofs.Math.ListN.{length-set}
 use Rattle.std.proofs.lemmas.Option.{slice_get_within, slice_get_read}
 use Rattle.mkv_io.specs.declared.outside.FileId.{FileId}
@@ -222,7 +222,7 @@ returns-after-stopped-clause-gives g c = λ told.
     let r = c.index_mut.result.now in
     let new = damaged g (goal.at.returns-after-stopped-clause-gives g c).After-add in
     let gives = given_by g after (Ok c.in_ok-advance_for.field-0) told c.in_ok-advance_for.ensures.gives in
-    let stopped : c.if-stopped.walk ≡ (d.stopped || w.stopped) = elim c.if-stopped.branch [
+    let stopped : c.if-stopped.walk ≡ ((not c.args.track.now.goes_on && d.stopped) || w.stopped) = elim c.if-stopped.branch [
       | then-stopped v ↦ v.walk-is ∙ v.if-stopped.true ∙ ap (λ (b : Bool). b || w.stopped) (sym v.if-stopped.true ∙ c.stopped.ensures)
       | else-stopped v ↦ v.walk-is ∙ ap (λ (b : Bool). b || w.stopped) (sym v.if-stopped.false ∙ c.stopped.ensures)
     ] in

@@ -43,10 +43,10 @@ returns-clause-exact c =
         octets = records.octets;
         chapters = records.chapters;
         tags = records.tags;
-        lanes = lanes-given inputs lanes are;
-        numbers = lanes-numbers inputs lanes are;
-        rules = lanes-rules inputs lanes are;
-        drives = lanes-drives inputs lanes are c.as_slice-2.result.now c.in_ok-lanes_of.ensures.drives videos;
+        lanes = lanes-given c.args.words.now.append_damaged inputs lanes are;
+        numbers = lanes-numbers c.args.words.now.append_damaged inputs lanes are;
+        rules = lanes-rules c.args.words.now.append_damaged inputs lanes are;
+        drives = lanes-drives c.args.words.now.append_damaged inputs lanes are c.as_slice-2.result.now c.in_ok-lanes_of.ensures.drives videos;
       },
     )
 
@@ -55,17 +55,17 @@ returns-clause-written c =
     let inputs = c.args.inputs.now in
     let lanes = c.in_ok-lanes_of.field-0 in
     let are = c.in_ok-lanes_of.ensures.lanes in
-    let long = lanes-length inputs lanes are in
+    let long = lanes-length c.args.words.now.append_damaged inputs lanes are in
     let few = plan-few c.args.words.now (map read_in inputs) c.in_ok-tracks.ensures.exact.0 in
     let records = c.in_ok-tracks.ensures.sound in
     record {
       few = omega arith;
-      linked = lanes-linked inputs lanes are;
-      once = lanes-once inputs lanes are;
-      small = links-small inputs lanes are c.requires.tracks c.requires.places;
-      is_open = links-open inputs lanes are c.requires.tracks;
-      told = links-told inputs lanes are c.requires.tracks;
-      apart = links-spared inputs lanes are c.requires.tracks;
+      linked = lanes-linked c.args.words.now.append_damaged inputs lanes are;
+      once = lanes-once c.args.words.now.append_damaged inputs lanes are;
+      small = links-small c.args.words.now.append_damaged inputs lanes are c.requires.tracks c.requires.places;
+      is_open = links-open c.args.words.now.append_damaged inputs lanes are c.requires.tracks;
+      told = links-told c.args.words.now.append_damaged inputs lanes are c.requires.tracks;
+      apart = links-spared c.args.words.now.append_damaged inputs lanes are c.requires.tracks;
       info = c.in_ok-info.ensures.sound;
       tracks = records.tracks;
       attachments = records.attachments;

@@ -5,6 +5,6 @@ use Rattle.merge_plan.proofs.planned_lanes.lane_of.Given as goal
 
 abbrev pub invariant-loop-k : goal.invariant-loop-k
 invariant-loop-k l = record {
-  lane : IsLaneOf (spot l.number l.input l.taken ∷ spots_behind l.place (l.number + 1) (take l.k l.behind)) l.lane;
+  lane : IsLaneOf l.past_damage (spot l.number l.input l.taken ∷ spots_behind l.place (l.number + 1) (take l.k l.behind)) l.lane;
   drives : l.lane.drives ≡ l.drives;
 }

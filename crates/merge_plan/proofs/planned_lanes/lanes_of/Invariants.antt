@@ -6,12 +6,12 @@ use Rattle.merge_plan.proofs.planned_lanes.lanes_of.Given as goal
 
 abbrev pub invariant-loop-number : goal.invariant-loop-number
 invariant-loop-number l = record {
-  lanes : GoOn (spots_from l.number (drop l.number l.inputs)) l.lanes (spots_from 0 l.inputs);
+  lanes : GoOn l.past_damage (spots_from l.number (drop l.number l.inputs)) l.lanes (spots_from 0 l.inputs);
   drives : AreDriven l.videos l.lanes;
 }
 
 abbrev pub invariant-loop-place : goal.invariant-loop-place
 invariant-loop-place l = record {
-  lanes : GoOn (left_at l.inputs l.number l.input l.taken-items l.behind l.place) l.lanes (spots_from 0 l.inputs);
+  lanes : GoOn l.past_damage (left_at l.inputs l.number l.input l.taken-items l.behind l.place) l.lanes (spots_from 0 l.inputs);
   drives : AreDriven l.videos l.lanes;
 }
