@@ -86,7 +86,8 @@ fn add_laced(out: &mut Vec<u8>, kind: Lace, prefix: u32, sizes: &[u32])
     add_prefixed(out, kind, prefix, sizes);
 }
 
-// Appends the frame count and the head of a lace of frames with a prefix, whose sizes are first computed.
+// Appends to `out` the number of frames minus one and the head of their lace. Each frame is `prefix` bytes longer than
+// its size in `sizes`.
 fn add_prefixed(out: &mut Vec<u8>, kind: Lace, prefix: u32, sizes: &[u32])
     requires can { CanLace kind (prefixed_sizes prefix sizes.now) }
     requires room { HasRoom out.old (length (count_and_head kind (prefixed_sizes prefix sizes.now))) }

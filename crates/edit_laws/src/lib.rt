@@ -27,7 +27,8 @@ pub fn limits_hide_nothing()
     ensures { LimitsHideNothing }
 {}
 
-/// Each of the first 1,048,576 indexed blocks has its own cue point, also in a damaged file.
+/// The cue points of a file, damaged or not, belong to its first 1,048,576 indexed blocks, one to each, in the order of
+/// the file. Indexed blocks are the keyframes of video and subtitle tracks from the start on.
 pub fn each_block_has_its_point()
     ensures { EachBlockHasItsPoint }
 {}

@@ -61,7 +61,7 @@ pub fn track_outputs(
     Ok(list)
 }
 
-/// Makes the output `name` for the frames of `track`.
+/// Returns the output `name` for the frames of `track`, with the head and form of `coding`. No file is made yet.
 fn output_with(
     alloc: Global,
     coding: Coding,

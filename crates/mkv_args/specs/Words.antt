@@ -55,7 +55,7 @@ blocks_at words at = do
   word ← due_at words at
   read_value at (below 100001 (from 1 (number word)))
 
--- `generate N PREFIX`: the number of blocks, and the prefix of the names of the files
+-- `generate N PREFIX`: the number of video frames, and the prefix of the names of the files
 unfoldable pub generate : List (List ℕ) → Result Command Usage
 generate words = do
   n ← blocks_at words 1

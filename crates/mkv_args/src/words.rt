@@ -155,7 +155,7 @@ fn generate(alloc: Global, words: &[String]) -> Result<Command, ArgsEnd>
     })
 }
 
-/// Returns the number of blocks in the argument `at` of `generate`.
+/// Returns the argument `at` of `generate`: the number of video frames, from 1 to 100000.
 #[tactic(auto, unfolding(crate::specs::Words::blocks_at))]
 fn blocks_at(words: &[String], at: usize) -> Result<u32, ArgsEnd>
     ensures { Tells result (spec.blocks_at (texts words.now) at) }

@@ -29,7 +29,7 @@ most_of_content job octets = 0
 abbrev pub most_of_file : Job → ℕ → ℕ
 most_of_file job octets = most_before job octets + most_of_content job octets
 
--- the limit for a name, which may have no content
+-- the limit of bytes that `job` reads from a file with the content `bytes`, including the head of its journal; 0 without a file
 abbrev pub most_with : Job → Option (List ℕ) → ℕ
 most_with job None = 0
 most_with job (Some bytes) = with_sidecar_head (most_of_file job) (length bytes)

@@ -53,6 +53,6 @@ abbrev pub count_of : MediaKind → ℕ → ℕ
 count_of Pictures n = n
 count_of Sounds n = 2 * n
 
--- all `n` blocks of the file of pictures or of sounds
+-- all blocks of the file of the kind `medium` for `n` pictures
 abbrev pub blocks_of : MediaKind → ℕ → List OutputBlock
 blocks_of medium n = map (block_of medium) (range_with_len 0 (count_of medium n))

@@ -44,11 +44,11 @@ names_of prefix = record {
 
 -- ---- the two files
 
--- the output `name` of pictures or of sounds with `n` blocks
+-- the output `name` of pictures or of sounds, for `n` pictures
 abbrev pub made_file : MediaKind → ℕ → List ℕ → PlannedOutput
 made_file medium n name = record { name = name; blocks = blocks_of medium n; document = file_of medium n }
 
--- the two files that are merged, of pictures and of sounds, with `n` blocks each
+-- the two files that are merged, of `n` pictures and of their sounds, two for each picture
 abbrev pub two_files : ℕ → Names → List PlannedOutput
 two_files n names = made_file Pictures n names.pictures ∷ made_file Sounds n names.sounds ∷ []
 
@@ -92,7 +92,7 @@ abbrev pub first_written : List Written → Written
 first_written [] = record { name = []; blocks = 0; clusters = 0; cues = 0 }
 first_written (file ∷ more) = file
 
--- the line that `generate` prints about the merged file `both`, made of files with `n` blocks, and its number of parts
+-- the line that `generate` prints about the merged file `both`, made of files for `n` pictures, and its number of parts
 abbrev pub line_for : ℕ → Written → ℕ → List ℕ
 line_for n both parts = generated_line n both.blocks both.clusters both.cues parts
 
@@ -112,7 +112,7 @@ abbrev pub with_both : ℕ → Names → List PlannedOutput → Result MergeMade
 with_both n names files (Ok both) = with_parts n names files both (merge_of (parts_words names) both.outputs)
 with_both n names files (Err why) = comes_to Refused files (line_of (both_words names) why ∷ [])
 
--- the result of `generate` with `n` blocks in each of the two files
+-- the result of `generate` for `n` pictures, with the files `names`
 abbrev pub verdict_of : ℕ → Names → Verdict
 verdict_of n names = with_both n names (two_files n names) (merge_of (both_words names) (two_files n names))
 

@@ -25,7 +25,7 @@ use Rattle.mkv_generate.specs.Generate.{MergeMade, both_words, first_written, li
 abbrev pub warned_of : Done → List (List ℕ)
 warned_of d = warnings_from d.summary 0 d.words.files
 
--- the lines that `generate` prints for an outcome with `n` blocks in each of the two files
+-- the lines that `generate` prints for an outcome with `n` pictures
 abbrev pub lines_of : ℕ → Outcome → List (List ℕ)
 lines_of n (Refused words why) = line_of words why ∷ []
 lines_of n (Made both parts) = line_for n (first_written both.summary.outputs) (length parts.summary.outputs) ∷ warned_of both ++ warned_of parts

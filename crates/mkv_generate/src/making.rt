@@ -39,7 +39,7 @@ pub enum Outcome {
     Made { both: Done, parts: Done },
 }
 
-// Writes the two files that are merged later, of pictures and of sounds, with `n` blocks each.
+// Writes the two files that are merged later, of `n` pictures and of their sounds, two for each picture.
 fn write_files<F: Files>(
     alloc: Global,
     n: u32,

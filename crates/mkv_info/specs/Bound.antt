@@ -18,7 +18,7 @@ abbrev pub most_of_form : Form → ℕ → ℕ
 most_of_form Lines octets = most_to_list octets
 most_of_form Json octets = most_to_identify octets
 
--- the limit for a name, which may have no content
+-- the limit of bytes read to print a file with the content `bytes` in the form `form`, its journal's head included; 0 without a file
 abbrev pub most_with : Form → Option (List ℕ) → ℕ
 most_with form None = 0
 most_with form (Some bytes) = with_sidecar_head (most_of_form form) (length bytes)

@@ -24,7 +24,7 @@ impl fmt::Display for ShownElement {
     }
 }
 
-/// ID at a damaged place, or `-` if there is none.
+/// ID at a damaged place, printed in hexadecimal, or as `-` if it is 0 (none).
 #[derive(Clone, Copy)]
 pub struct DamagedId(pub u32);
 

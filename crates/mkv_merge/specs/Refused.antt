@@ -24,7 +24,7 @@ first_cause (Some why ∷ causes) = Some why
 
 -- ---- lines
 
--- the name of the input number `input`
+-- the name of the input number `input` of `words`, counted from 0, or an empty text if there is none
 abbrev pub name_of : MergeWords → ℕ → List ℕ
 name_of words input = option_map_or (λ (file : FileWords). file.name) (slice_get words.files input) []
 

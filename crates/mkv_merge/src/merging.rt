@@ -25,8 +25,8 @@ use mkv_lines::{CommandEnd, Status};
 use requests::MergeWords;
 use std::alloc::Global;
 
-/// Merges the live files `ids`, the inputs of `words`. Refuses the merge if a text file is missing, or if an edit of
-/// an input or of the output is pending.
+/// Merges the live files `ids`, the inputs of `words`, with the text files `texts`. Refuses the merge for a missing
+/// text file, for a pending edit of an input or of an unsplit output, or as `prepare` does.
 fn merge_opened<F: Files, P: Report>(
     alloc: Global,
     words: &MergeWords,

@@ -21,7 +21,7 @@ use remux_plan::{InputDamage, MoreDamage, Summary};
 use requests::{FileWords, MergeWords};
 use std::alloc::Global;
 
-/// Returns the name of the input number `input`.
+/// Returns the name of the input number `input` of `words`, counted from 0, or an empty text if there is none.
 fn name_of(words: &MergeWords, input: usize) -> &str
     ensures { result.now ≡ name_of words.now input }
 {

@@ -78,7 +78,7 @@ LanesAreReadAgain =
     → All (All HasNoLane) lanes
     → lanes_read (scale_of d.front.info) 1 (length lanes) (file_events false (layout d) (header_of_segment d)) ≡ lanes
 
--- They are merged and cut into the same Clusters again.
+-- The tracks that are read from an output are merged and cut into the same Clusters again.
 abbrev pub ClustersAreCutAgain : Type 0
 ClustersAreCutAgain =
     (d : Document) (limits : ClusterLimits) (lanes : List (List OutputBlock)) → IsSoundDocument d → d.clusters ≡ clusters limits (merged lanes)

@@ -27,7 +27,7 @@ abbrev pub uids_in : {A : Type 0} → (Node → List A) → Option Node → List
 uids_in f None = []
 uids_in f (Some n) = f n
 
--- the record `n`, or nothing if it has no children
+-- the record `n`, or nothing if the list of its children is empty
 abbrev pub unless_empty : Node → List Node → Option Node
 unless_empty n [] = None
 unless_empty n (child ∷ others) = Some n

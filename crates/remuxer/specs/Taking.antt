@@ -61,7 +61,8 @@ abbrev pub GetsAll : {S : Type 0} → Ghosts S → writing.Ghosts S → List Cue
 GetsAll r f rules was old new w w' =
     (before : Names) (name : List ℕ) (d : Document) → d.cues ≡ cues_for (is_cue rules) d.front d.clusters → Stands r f before name rules d old w.out w.buffer w.counts was → HasAll r f before name d new w'.out w'.counts
 
--- If the blocks `was` were left of an output, its content is one of the draft afterwards.
+-- If the output in `w` had the blocks `was` left in `old`, its content in `new` is one of its draft (`StandsDrafted`). It holds after a
+-- failed call.
 abbrev pub StaysDraft : {S : Type 0} → Ghosts S → writing.Ghosts S → List CueRule → List OutputBlock → S → S → BlockWriter → Type 0
 StaysDraft r f rules was old new w =
     (before : Names) (name : List ℕ) (d : Document) → Stands r f before name rules d old w.out w.buffer w.counts was → StandsDrafted before (f.names new) (draft_of name d)
@@ -136,7 +137,8 @@ pub record Leaves (f h : LiveFiles) (b b' : PlacedBlocks) : Type 0 where
   pub behind : is_within b.ahead ≡ true → behind_part h b' ≡ behind_part f b
   pub parts : BeginsNone b.ahead → parts_left h b' ≡ parts_left f b
 
--- If no block was placed, all parts are left. Without a block this is the part at the start of the output, if it is written.
+-- The parts that `b'` has left among the files `h` are all parts of the blocks that the merge of `b` had left among `f`. Without a block ahead
+-- they are only the current part, if it is written.
 abbrev pub LeavesAll : LiveFiles → LiveFiles → PlacedBlocks → PlacedBlocks → Type 0
 LeavesAll f h b b' = (if is_none b'.ahead && is_kept b'.cuts then part_in h b' ∷ [] else parts_left h b') ≡ parts (split_in b) (left f b.merge)
 

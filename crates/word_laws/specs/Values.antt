@@ -68,7 +68,7 @@ split_word split.AllChapters = codes "chapters:all"
 split_word (split.Chapters numbers) = codes "chapters" ++ (codes ":" ++ numbers_word numbers)
 split_word (split.Size limit) = codes "size" ++ (codes ":" ++ size_word limit)
 
--- identifiers of 32 hexadecimal digits, if there are any
+-- identifiers as an argument has them: 32 hexadecimal digits each, with commas between them; nothing if there are none
 abbrev pub uuids_word : List ℕ → Option (List ℕ)
 uuids_word [] = None
 uuids_word (u ∷ us) = Some (with_commas (map (last_digits 16 32) (u ∷ us)))
