@@ -13,21 +13,22 @@ use Rattle.mkv_merge.specs.Read.{is_split}
 
 -- ---- opened files
 
--- the names of the journals that are looked at: the journals of the inputs, and the output's journal unless the output is split
+-- the names of the journals that the merge `words` looks into for a pending edit: the inputs' journals, and unless it is split the output's
 abbrev pub sidecars_of : MergeWords → List (List ℕ)
 sidecars_of words = map sidecar_of (file_names words.files) ++ (if is_split words then [] else sidecar_of words.output ∷ [])
 
--- the names of the files that a merge opens: its text files, inputs and journals
+-- the names of the files that the merge `words` opens: its chapter file, timestamp files, inputs and journals
 abbrev pub opened_by : MergeWords → List (List ℕ)
 opened_by words = text_names words.chapters words.files ++ (file_names words.files ++ sidecars_of words)
 
 -- ---- calls for files
 
--- A merge doesn't make this call: it opens a name besides `opened`, or makes a name that no output can have.
+-- The call isn't one of the merge `words`. It opens a name that isn't in `opened`, or makes a file whose name no output of the merge can have.
 abbrev pub IsBesidesMerge : List (List ℕ) → MergeWords → Asked → Type 0
 IsBesidesMerge opened words (Opened name) = AreOthers name opened
 IsBesidesMerge opened words (Made name) = may_be_written (is_split words) words.output name ≡ false
 
--- Between `old` and `new` a merge opens only the names `opened`, and makes only names that its outputs may have.
+-- Between the calls `old` and the later calls `new`, the merge `words` opened only names in `opened`. It made only files with names that its outputs
+-- may have.
 abbrev pub AsksToMerge : List (List ℕ) → MergeWords → List Asked → List Asked → Type 0
 AsksToMerge opened words old new = AsksNone (IsBesidesMerge opened words) old new

@@ -15,47 +15,47 @@ use Rattle.merge_plan.specs.Plan.{Source, lanes_given}
 use Rattle.mkv_merge.specs.Merge.{sources_of}
 use Rattle.mkv_merge.specs.declared.refusal.Refusal.{Refusal}
 
--- the sum of the lengths of live files; a file counts as often as `list` has it
+-- the sum of the lengths in bytes of the live files `f` with the IDs `list`; a file counts as often as `list` has it
 abbrev pub files_size : LiveFiles → List FileId → ℕ
 files_size f list = sum_by (λ (file : FileId). f.size file.n) list
 
--- the sum of the lengths of the live files in `list` among `files`; a file counts as often as `list` has it
+-- the sum of the lengths in bytes of the live files with the IDs `list` in the state `files`. A file counts as often as `list` has it.
 abbrev pub live_size : {S : Type 0} → Ghosts S → S → List FileId → ℕ
 live_size r files list = files_size (live_files r files) list
 
--- the bytes that a merge with the plan `p` may read of inputs with `octets` bytes. Each input is read twice for each output track, and the data
--- of attached files once.
+-- the bytes that a merge with the plan `p` may read of inputs with `octets` bytes in all. Each output track reads each input at most twice, and the
+-- data of attached files is read once.
 abbrev pub most_planned : MergePlan → ℕ → ℕ
 most_planned p octets = 2 * (length p.lanes * octets) + data_length p
 
--- the sum of the lengths of the inputs' contents; a file counts as often as the command line names it
+-- the sum of the lengths in bytes of the inputs `files` whose contents are in `world`. A file counts as often as the command line names it.
 abbrev pub contents_length : (List ℕ → Option (List ℕ)) → List FileWords → ℕ
 contents_length world files = sum_by (λ (w : FileWords). length (unwrap_or (world w.name) [])) files
 
--- the number of output tracks, or 0 if the merge is refused
+-- the number of output tracks of the sources of a merge, or 0 if the merge is refused
 abbrev pub lane_count : Result (List Source) Refusal → ℕ
 lane_count (Ok sources) = length (lanes_given sources)
 lane_count (Err why) = 0
 
--- the number of bytes of data of the attached files
+-- the number of bytes of data of all attached files in the sources of a merge, or 0 if the merge is refused
 abbrev pub data_count : Result (List Source) Refusal → ℕ
 data_count (Ok sources) = attached_length (reads_of sources)
 data_count (Err why) = 0
 
--- the bytes that may be read of inputs with `octets` bytes. All inputs are read 25 times before the blocks, twice to find their ends, and twice
--- for each output track. The data of attached files is added.
+-- the bytes that a merge of `sources` may read of its inputs with `octets` bytes in all. All inputs are read 25 times before the blocks, twice to
+-- find their ends, and twice for each output track. The data of attached files is added.
 abbrev pub most_of : Result (List Source) Refusal → ℕ → ℕ
 most_of sources octets = 27 * octets + (2 * (lane_count sources * octets) + data_count sources)
 
--- the number of journals that are looked at for a pending edit: one for each input, and the output's unless the output is split
+-- the number of journals that the merge `words` looks into for a pending edit: one for each input, and unless it is split the output's
 abbrev pub looked_into : MergeWords → ℕ
 looked_into words = if is_none words.split then length words.files + 1 else length words.files
 
--- the bytes that may be read of journals: the head of each
+-- the bytes that the merge `words` may read of journals: the first `HEAD` bytes of each
 abbrev pub most_looked : MergeWords → ℕ
 most_looked words = HEAD * looked_into words
 
--- the bytes that a merge may read if the files are `world`. It reads its inputs and journals, and the chapter file and each timestamp file once.
+-- the bytes that the merge `words` may read if the files are `world`. It reads inputs and journals, and its chapter file and timestamp files once.
 abbrev pub most_read : (List ℕ → Option (List ℕ)) → MergeWords → ℕ
 most_read world words =
     text_octets world words.chapters words.files + (most_of (sources_of world words) (contents_length world words.files) + most_looked words)

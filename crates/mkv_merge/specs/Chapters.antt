@@ -13,14 +13,14 @@ use Rattle.mkv_merge.specs.declared.refusal.Refusal.TheVariants.{MissingChapters
 
 -- ---- refusals
 
--- the refusal because the chapter file is missing
+-- the refusal of a merge because its chapter file doesn't exist, if that is so
 abbrev pub missing_chapters : ChapterFile → Option Refusal
 missing_chapters file.Absent = None
 missing_chapters file.Missing = Some MissingChapters
 missing_chapters (file.Refused why) = None
 missing_chapters (file.Read chapters) = None
 
--- the refusal because the chapter file is refused
+-- the refusal of a merge because the content of its chapter file is refused, if that is so
 abbrev pub chapters_refusal : ChapterFile → Option Refusal
 chapters_refusal file.Absent = None
 chapters_refusal file.Missing = None
@@ -29,26 +29,28 @@ chapters_refusal (file.Read chapters) = None
 
 -- ---- Chapters of the file
 
--- the opened input `i` with the Chapters `chapters`
+-- the input `i`, as the code has it opened, with `chapters` instead of its own Chapters
 abbrev pub with_tree : Option Node → Input → Input
 with_tree chapters i = record i { chapters = chapters }
 
--- the input `i`, as it was read, with the Chapters `chapters`
+-- the input `i`, as it was read, with `chapters` instead of its own Chapters
 abbrev pub with_chapters : Option Node → InputRead → InputRead
 with_chapters chapters i = record i { chapters = chapters }
 
--- the inputs with `chapters` in the first one and no Chapters in the others
+-- the inputs with `chapters` in the first one and no Chapters in the others; `set` puts Chapters into an input
 abbrev pub first_with : {A : Type 0} → (Option Node → A → A) → Option Node → List A → List A
 first_with set chapters [] = []
 first_with set chapters (i ∷ is) = set chapters i ∷ map (set None) is
 
--- the inputs with the Chapters of a chapter file, in the first input instead of all others, or without any Chapters in WebM
+-- the inputs with the Chapters of a chapter file, if it was read. The first input gets them, and all others none; with `webm` no input has Chapters
+-- then. `set` puts Chapters into an input.
 abbrev pub chaptered : {A : Type 0} → (Option Node → A → A) → Bool → ChapterFile → List A → List A
 chaptered set webm file.Absent inputs = inputs
 chaptered set webm file.Missing inputs = inputs
 chaptered set webm (file.Refused why) inputs = inputs
 chaptered set webm (file.Read chapters) inputs = first_with set (kept_one (not webm) (Some chapters)) inputs
 
--- the inputs with the Chapters of a chapter file, unless the file is refused
+-- the inputs with the Chapters of the chapter file `file` as in `chaptered`, or the refusal if its content is refused. `set` puts Chapters into an
+-- input.
 abbrev pub with_file : {A : Type 0} → (Option Node → A → A) → Bool → ChapterFile → List A → Result (List A) Refusal
 with_file set webm file inputs = unless (chapters_refusal file) (chaptered set webm file inputs)

@@ -16,7 +16,8 @@ use Rattle.mkv_merge.specs.declared.refusal.MergeEnd.TheVariants.{Refused, Stopp
 use Rattle.mkv_merge.specs.declared.refusal.Refusal.TheVariants.{Missing, Plan}
 use Rattle.mkv_merge.specs.declared.refusal.Refusal.{Refusal}
 
--- A call that reads files is refused, or is stopped because memory ran out or a read failed. Only a failed read increases the count.
+-- A call that only reads ended with this result, and the count of failed reads was `before` and is `now`. The count rises exactly if a failed read
+-- stopped the call. No other failure stops it.
 abbrev pub HasReadCause : {T : Type 0} → ℕ → ℕ → Result T MergeEnd → Type 0
 HasReadCause before now (Ok _) = now ≡ before
 HasReadCause before now (Err (Refused why)) = now ≡ before
@@ -25,7 +26,7 @@ HasReadCause before now (Err (Stopped stop.Files)) = HasIncreased before now
 HasReadCause before now (Err (Stopped stop.Disk)) = ⊥
 HasReadCause before now (Err (Stopped stop.Report)) = ⊥
 
--- A call that reads no files is refused, or is stopped because memory ran out.
+-- The end of a call that reads no files: the merge was refused, or memory ran out.
 abbrev pub IsQuiet : MergeEnd → Type 0
 IsQuiet (Refused why) = ⊤
 IsQuiet (Stopped stop.Memory) = ⊤
@@ -33,28 +34,28 @@ IsQuiet (Stopped stop.Files) = ⊥
 IsQuiet (Stopped stop.Disk) = ⊥
 IsQuiet (Stopped stop.Report) = ⊥
 
--- the end of a merge whose inputs can't be opened
+-- the end of a merge whose inputs can't be opened, by the reason
 abbrev pub unopened : InputsEnd → MergeEnd
 unopened (inputs_end.Missing input) = Refused (Missing input)
 unopened inputs_end.Failed = Stopped stop.Files
 unopened inputs_end.Memory = Stopped stop.Memory
 
--- the end of a merge that can't be planned
+-- the end of a merge that can't be planned, by the reason
 abbrev pub unplanned : PlanEnd → MergeEnd
 unplanned (plan_end.Refused why) = Refused (Plan why)
 unplanned plan_end.Memory = Stopped stop.Memory
 
--- the end of a merge that prints messages while it writes, by the end of its writing
+-- the end of a merge that prints messages, by the result of its writing; an early end is a stop, never a refusal
 abbrev pub as_written : Result Status CommandEnd → Result Status MergeEnd
 as_written (Ok s) = Ok s
 as_written (Err why) = Err (Stopped why)
 
--- the end of a merge that prints nothing, by the end of its writing
+-- the end of a merge that prints nothing, by the result of its writing; an early end is a stop, never a refusal
 abbrev pub as_remuxed : Result Summary RemuxEnd → Result Summary MergeEnd
 as_remuxed (Ok s) = Ok s
 as_remuxed (Err end) = Err (Stopped (stop_of end))
 
--- the end of a command that merges files, by its result: `done` is applied to a result and `told` to a refusal
+-- the end of a command by the end of the merge that it ran. `done` is applied to the merge's result, and `told` to its refusal; a stop stays one.
 abbrev pub end_as : {A T : Type 0} → (A → T) → (Refusal → T) → Result A MergeEnd → Result T CommandEnd
 end_as done told (Ok x) = Ok (done x)
 end_as done told (Err (Refused why)) = Ok (told why)

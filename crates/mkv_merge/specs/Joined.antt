@@ -32,64 +32,68 @@ use Rattle.mkv_merge.specs.declared.refusal.MergeEnd.{MergeEnd}
 use Rattle.mkv_merge.specs.declared.refusal.Refusal.{Refusal}
 use Rattle.mkv_merge.specs.declared.refusal.Refusal.TheVariants.{Missing, OutputIsInput}
 
--- the text files of a merge that has none
+-- the text files of a merge whose command line names none
 abbrev pub no_texts : TextFiles
 no_texts = record { chapters = Absent; times = [] }
 
--- the sources of a merge that prints nothing, if its inputs have the contents `contents`. It is refused if an output could have the name of a
--- file that is read.
+-- the sources of the merge `words` without text files, if its inputs have the contents `contents`, or its refusal. It is refused first if an output
+-- could have the name of a file that is read.
 abbrev pub sources_apart : MergeWords → List (List ℕ) → Result (List Source) Refusal
 sources_apart words contents = sources_unless (option_map OutputIsInput (first_written words) ∷ []) words no_texts contents
 
--- the sources of a merge that prints nothing, or its refusal, if the files are `world`; an input may be missing
+-- the sources of the merge `words` without text files, if the files are `world`, or its refusal. An output with the name of a file that is read and a
+-- missing input are refused first, in this order. Pending edits don't matter.
 abbrev pub sources_alone : (List ℕ → Option (List ℕ)) → MergeWords → Result (List Source) Refusal
 sources_alone world words =
     sources_unless (option_map OutputIsInput (first_written words) ∷ option_map Missing (first_missing world (file_names words.files)) ∷ [])
     words no_texts (contents_held world words)
 
--- the bytes that a merge that prints nothing may read if the files are `world`
+-- the bytes that the merge `words` without text files may read if the files are `world`
 abbrev pub most_lone : (List ℕ → Option (List ℕ)) → MergeWords → ℕ
 most_lone world words = most_of (sources_alone world words) (contents_length world words.files)
 
 -- ---- merged files
 
--- The summary `s` describes the outputs of `sources`, and gives the warnings of a merge of them.
+-- The summary `s` of the merge `words` lists the outputs of `sources`, and gives the warnings about their damage.
 pub record IsSummaryOf (words : MergeWords) (sources : List Source) (s : Summary) : Type 0 where
   pub outputs : s.outputs ≡ map written_of (outputs_of words sources)
   pub warned : warnings_from s 0 words.files ≡ flat_map (warnings words sources) (enumerate_from 0 words.files)
   pub damaged : is_some_of s.damages ≡ has_damage words sources
 
--- The sources were found, their outputs were written, and `s` is their summary.
+-- From the files `old` to the files `new`, the merge `words` has written all outputs of its sources, and nothing else. `found` has these sources, and
+-- `s` is the summary.
 pub record HasMerged (old new : Names) (words : MergeWords) (found : Result (List Source) Refusal) (s : Summary) : Type 0 where
   pub sources : List Source
   pub are : found ≡ Ok sources
   pub writes : WritesAll old new (outputs_of words sources)
   pub summary : IsSummaryOf words sources s
 
--- the outputs of the sources, if they were found
+-- the outputs of the merge `words` if `found` has its sources; none if it has a refusal
 abbrev pub outputs_found : MergeWords → Result (List Source) Refusal → List PlannedOutput
 outputs_found words (Ok sources) = outputs_of words sources
 outputs_found words (Err why) = []
 
--- The outputs are written, or the merge is refused and nothing was written. After a stop some first outputs are complete, and the next one is a
--- draft.
+-- The result of a merge that prints nothing, with the files `old` before it and `new` after it. All outputs of the sources in `found` were written,
+-- or `found` has its refusal and no file changed. After a stop some first outputs are complete, and the next one is a draft.
 abbrev pub Merges : Names → Names → MergeWords → Result (List Source) Refusal → Result Merged CommandEnd → Type 0
 Merges old new words found (Ok (Written s)) = HasMerged old new words found s
 Merges old new words found (Ok (Refused why)) = (found ≡ Err why) × (new ≡ old)
 Merges old new words found (Err stop) = AreWrittenInOrder old new (drafts_of (outputs_found words found))
 
--- the end of a merge that prints nothing: its summary, or its refusal
+-- the result of `merge_files`, by the end of its merge: a summary, a refusal, or a stop
 abbrev pub as_merged : Result Summary MergeEnd → Result Merged CommandEnd
 as_merged result = end_as Written Refused result
 
--- `Merges` holds for live files, if names and contents are visible to the proof.
+-- `Merges` holds for the live files `list`, if names and contents are visible to the proof. The state is `old` before the merge `words` and `new`
+-- after it.
 abbrev pub MergesLive : {S : Type 0} → Ghosts S → writing.Ghosts S → S → S → MergeWords → List FileId → Result Merged CommandEnd → Type 0
 MergesLive r f old new words list result = IfAllTold r old list (λ contents. Merges (f.names old) (f.names new) words (sources_unless [] words no_texts contents) result)
 
--- `Merges` holds for the files that `words` names, if the names and their contents are visible to the proof.
+-- `Merges` holds for the files that `words` names, if their contents are visible to the proof. The state is `old` before the merge and `new` after
+-- it.
 abbrev pub MergesAlone : {S : Type 0} → writing.Ghosts S → S → S → MergeWords → Result Merged CommandEnd → Type 0
 MergesAlone f old new words result = IfVisible (f.names old) (λ world. Merges (f.names old) (f.names new) words (sources_alone world words) result)
 
--- A merge that prints nothing reads no more bytes of live files than it may.
+-- From `old` to `new` the merge `words` without text files reads no more bytes of the live files `list` than `most_of` gives.
 abbrev pub ReadsLive : {S : Type 0} → Ghosts S → S → S → MergeWords → List FileId → Type 0
 ReadsLive r old new words list = IfAllTold r old list (λ contents. ReadsUpTo r old new (most_of (sources_unless [] words no_texts contents) (live_size r old list)))

@@ -51,13 +51,13 @@ use Rattle.mkv_merge.specs.declared.refusal.Refusal.TheVariants.{Differs, Missin
 
 -- ---- sources
 
--- the sources of a merge whose inputs have the contents `contents`: the result of reading each, with the text files applied. The Chapters of a
--- chapter file replace all others, as the first input's. Each appended input has its append offset.
+-- the sources of the merge `words` whose inputs have the contents `contents`: the result of reading each input, with the text files `texts` applied.
+-- Each appended input has its append offset.
 abbrev pub sources_in : MergeWords → TextFiles → List (List ℕ) → List Source
 sources_in words texts contents = in_place (zip contents (reads_with words texts contents))
 
--- the refusals of a merge after its files are read, in order: an input, the chapter file, and a timestamp file. Then follow an appended input
--- whose tracks can't continue the output tracks, and the plan.
+-- the refusals of the merge `words` after its files are opened, in the order of the checks. They concern an input, the chapter file, a timestamp
+-- file, an appended input whose tracks can't continue the output tracks, and the plan. `contents` has the contents of the inputs.
 abbrev pub refusals_read : MergeWords → TextFiles → List (List ℕ) → List (Option Refusal)
 refusals_read words texts contents =
     result_err (inputs_of words contents)
@@ -67,13 +67,13 @@ refusals_read words texts contents =
     ∷ option_map Plan (plan_refusal words (reads_of (sources_in words texts contents)))
     ∷ []
 
--- the sources of a merge whose inputs have the contents `contents`, or its first refusal. `causes` are the refusals that are checked before the
--- inputs are read.
+-- the sources of the merge `words` whose inputs have the contents `contents`, or its first refusal. `causes` are the refusals that are checked before
+-- the inputs are read.
 abbrev pub sources_unless : List (Option Refusal) → MergeWords → TextFiles → List (List ℕ) → Result (List Source) Refusal
 sources_unless causes words texts contents = unless (first_cause (causes ++ refusals_read words texts contents)) (sources_in words texts contents)
 
--- the refusals of a merge before its files are read, in order, if the files are `world`. They are an output with the name of a file that is read,
--- a missing input, a missing text file, and a pending edit.
+-- the refusals of the merge `words` before its inputs are read, in the order of the checks. The files are `world`. They are an output with the name
+-- of a file that is read, a missing input, a missing text file, and a pending edit.
 abbrev pub refusals : (List ℕ → Option (List ℕ)) → MergeWords → List (Option Refusal)
 refusals world words =
     option_map OutputIsInput (first_written words)
@@ -82,17 +82,17 @@ refusals world words =
     ∷ pending_of world words
     ∷ []
 
--- the sources of a merge, or the first refusal that holds
+-- the sources of the merge `words` if the files are `world`, or its first refusal
 abbrev pub sources_of : (List ℕ → Option (List ℕ)) → MergeWords → Result (List Source) Refusal
 sources_of world words = sources_unless (refusals world words) words (texts_held world words) (contents_held world words)
 
 -- ---- outputs
 
--- the merged list of the selected tracks
+-- the blocks of all output tracks of the merge in one list, in the order of writing
 abbrev pub blocks_of : MergeWords → List Source → List OutputBlock
 blocks_of words sources = merged (map (lane_blocks words.scale) (lanes_taken words sources))
 
--- the split of the output, in its ticks
+-- the rule for cutting the output of the merge `words` into parts, with times in ticks of the output
 abbrev pub split_of : MergeWords → List Source → Split
 split_of words sources = record { spec = split_given words (reads_of sources); size = size_of words.split; scale = words.scale; drives = drives_by (drives_given (reads_of sources)) }
 
@@ -100,79 +100,80 @@ split_of words sources = record { spec = split_given words (reads_of sources); s
 abbrev pub parts_of : MergeWords → List Source → List Part
 parts_of words sources = parts (split_of words sources) (blocks_of words sources)
 
--- the Elements before the Clusters of the part `number`, from 1 on. Each part has its own identifiers; only the first part gets the attached
--- files.
+-- the Elements before the first Cluster of the part `number`, counted from 1; `front` has them for an unsplit output. Each part has its own
+-- identifiers; only the first part has the attached files.
 abbrev pub front_for : MergeWords → ℕ → Front → Front
 front_for words number front = record front {
   info = with_uuids (uuids_at words.uuids words.link number) front.info;
   attachments = if number == 1 then front.attachments else [];
 }
 
--- the Elements before the Clusters of the part `number` of this merge
+-- the Elements before the first Cluster of the part `number`, counted from 1, of the merge of `sources`
 abbrev pub front_at : MergeWords → List Source → ℕ → Front
 front_at words sources number = front_for words number (front_of words sources)
 
--- the Chapters of a part: the chapters in its period of time, or all if the output isn't split
+-- the Chapters of the part `part`: those within its period of time, or all if the output isn't split
 abbrev pub chapters_in : MergeWords → List Source → Part → Option Node
 chapters_in words sources part = chapters_within (is_split words) (chapters_of (reads_of sources)) (stretch_of words.scale part.start part.end)
 
--- the part as a document: its Clusters and the Elements around them
+-- the document of a part, which is given with its number, counted from 1: its Clusters and the Elements around them
 abbrev pub document_at : MergeWords → List Source → ℕ × Part → Document
 document_at words sources each =
     document_of (limits_of words) (rules_given (reads_of sources)) (front_at words sources each.0) (chapters_in words sources each.1) (tags_of (reads_of sources)) each.1.blocks
 
--- the output of a part: its name, blocks and document
+-- the output for a part, which is given with its number, counted from 1: its name, blocks and document
 abbrev pub output_at : MergeWords → List Source → ℕ × Part → PlannedOutput
 output_at words sources each = record { name = name_of (is_split words) words.output each.0; blocks = each.1.blocks; document = document_at words sources each }
 
--- all outputs, in the order of writing
+-- all outputs of the merge of `sources`, in the order of writing
 abbrev pub outputs_of : MergeWords → List Source → List PlannedOutput
 outputs_of words sources = map (output_at words sources) (enumerate_from 1 (parts_of words sources))
 
 -- ---- warnings
 
--- the tracks that the command line names for a file, each once, and that the file, with `count` tracks, doesn't have
+-- the track numbers, counted from 0, that the options of the input `file` name and that aren't below `count`, the number of its tracks
 abbrev pub absent_of : FileWords → ℕ → List ℕ
 absent_of file count = filter (λ n. nat_le count n) file.named
 
--- the tracks that the command line names for an input and that it doesn't have
+-- the track numbers, counted from 0, that the options of an input name and that it doesn't have
 abbrev pub absent : FileWords × InputRead → List ℕ
 absent f = absent_of f.0 f.1.count
 
--- a warning for each track that the command line names for a file and that the file, with `count` tracks, doesn't have
+-- a warning for each track that the options of the input `file` name and that isn't among its `count` tracks
 abbrev pub lines_absent : FileWords → ℕ → List (List ℕ)
 lines_absent file count = map (no_track_line file.name) (absent_of file count)
 
--- a warning for each track that the command line names for an input and that it doesn't have
+-- a warning for each track that the options of an input name and that it doesn't have
 abbrev pub absent_lines : FileWords × InputRead → List (List ℕ)
 absent_lines f = lines_absent f.0 f.1.count
 
--- the links of output tracks, each as the number of its source with the damage that is met in it
+-- the links of all output tracks: for each the number of its source, counted from 0, and the damage that is met in it. `numbers` and `given` have a
+-- list of links for each output track.
 abbrev pub links_met : List (List ℕ) → List (List Given) → List (ℕ × List Damage)
 links_met numbers given = flat_map (λ (lane : List ℕ × List Given). zip lane.0 (lane_damages lane.1)) (zip numbers given)
 
--- the damage that is met in the first link with the source number `k`, or none if there is no such link
+-- the damage that is met in the first link with the source number `k`, counted from 0, or none if there is no such link
 abbrev pub first_met : ℕ → List (ℕ × List Damage) → List Damage
 first_met k links = option_map_or (λ (link : ℕ × List Damage). link.1) (find (λ (link : ℕ × List Damage). link.0 == k) links) []
 
--- the damage that is met in the source number `k`. It is empty if no track of the source is selected. Without the option to go on it is also empty
--- if a file before it in its chain stopped.
+-- the damage that is met in the source number `k`, counted from 0, while its blocks are merged. There is none if no track of the source is selected.
+-- Without the option `--append-damaged` there is also none if a file before it in its chain of appended files ended at damage.
 abbrev pub damages_met : MergeWords → List Source → ℕ → List Damage
 damages_met words sources k = first_met k (links_met (inputs_given 0 (reads_of sources)) (lanes_taken words sources))
 
--- the warnings about a file `name` with this damage
+-- the warnings about the damage `damages` of a file `name`: its first places one by one, then the number of the others
 abbrev pub damages_warned : List ℕ → List Damage → List (List ℕ)
 damages_warned name damages = let told = told_damages damages in damage_lines name told.first told.more
 
--- the warnings about a source, by its number
+-- the warnings about the damage of a source, which is given with its number, counted from 0, and its options
 abbrev pub warnings : MergeWords → List Source → ℕ × FileWords → List (List ℕ)
 warnings words sources each = damages_warned each.1.name (damages_met words sources each.0)
 
--- Some input lacks a track that the command line names.
+-- Some input lacks a track that the options for it name; `reads` are the inputs as they were read.
 abbrev pub has_absent : MergeWords → List InputRead → Bool
 has_absent words reads = list_any (λ f. is_some_of (absent f)) (zip words.files reads)
 
--- Some source has damage that is met while its blocks are merged.
+-- Some of `sources` has damage that is met while its blocks are merged.
 abbrev pub has_damage : MergeWords → List Source → Bool
 has_damage words sources = list_any (λ k. is_some_of (damages_met words sources k)) (range_with_len 0 (length sources))
 
@@ -180,31 +181,31 @@ has_damage words sources = list_any (λ k. is_some_of (damages_met words sources
 abbrev pub has_other_count : MergeWords → ℕ → Bool
 has_other_count words count = not (length words.uuids == 0) && not (length words.uuids == count)
 
--- the warning about the number of segment identifiers, if it isn't the number `count` of outputs
+-- the warning about the number of segment identifiers, if `words` gives some, but not one for each of the `count` outputs
 abbrev pub uuid_lines : MergeWords → ℕ → List (List ℕ)
 uuid_lines words count = if has_other_count words count then uuid_count_line (length words.uuids) count ∷ [] else []
 
 -- ---- result
 
--- the status of a merge that isn't refused; the argument is true if it has a warning
+-- the status of a merge that isn't refused; the argument is true if it printed a warning
 abbrev pub warned_if : Bool → Status
 warned_if true = Warned
 warned_if false = Done
 
--- the lines before the outputs are written: warnings of tracks that inputs lack
+-- the messages before the outputs are written: a warning for each track that options name and that its input lacks
 abbrev pub lines_before : MergeWords → List InputRead → List (List ℕ)
 lines_before words reads = flat_map absent_lines (zip words.files reads)
 
--- the line about a complete output, with its number of blocks
+-- the message about a complete output, with its name and number of blocks
 abbrev pub output_line : PlannedOutput → List ℕ
 output_line o = wrote_blocks_line o.name (counted 0 (length o.blocks))
 
--- the lines after the outputs are written: one for each output, warnings of damage by input, and a warning of the number of segment identifiers
+-- the messages after the outputs are written: one for each output, warnings of damage by input, and a warning about the number of segment identifiers
 abbrev pub lines_behind : MergeWords → List Source → List (List ℕ)
 lines_behind words sources =
     map output_line (outputs_of words sources) ++ flat_map (warnings words sources) (enumerate_from 0 words.files) ++ uuid_lines words (length (outputs_of words sources))
 
--- the result of a merge that isn't refused: warnings of absent tracks, the outputs, and warnings of damage and of the number of identifiers
+-- the outcome of a merge that isn't refused: status, messages and outputs
 abbrev pub merged_verdict : MergeWords → List Source → Verdict
 merged_verdict words sources = record {
   status = warned_if (has_absent words (reads_of sources) || has_damage words sources || has_other_count words (length (outputs_of words sources)));
@@ -213,16 +214,17 @@ merged_verdict words sources = record {
   outputs = in_turn (drafts_of (outputs_of words sources));
 }
 
--- the result of a merge, given its sources or its refusal
+-- the outcome of the merge `words`, given its sources or its refusal
 abbrev pub verdict_of : MergeWords → Result (List Source) Refusal → Verdict
 verdict_of words (Ok sources) = merged_verdict words sources
 verdict_of words (Err why) = refused (line_of words why)
 
--- the result of `merge` if the files are `world`
+-- the outcome of the merge `words` if the files are `world`
 abbrev pub merge_verdict : (List ℕ → Option (List ℕ)) → MergeWords → Verdict
 merge_verdict world words = verdict_of words (sources_of world words)
 
--- A merge of the files that `words` names ends with its result, or was stopped on the way. A refusal is printed, too.
+-- The command `merge` ended with `result`, and has the outcome of the merge `words`, or was stopped on the way to it. A refusal is printed. Files and
+-- report were `files` and `report` before it, and are `files'` and `report'` after it. Promises nothing if contents aren't visible to the proof.
 abbrev pub ComesToMerge : {F P : Type 0} → Ghosts F → writing.Ghosts F → ReportGhosts P → F → F → P → P → Result Status CommandEnd → MergeWords → Type 0
 ComesToMerge r f p files files' report report' result words =
     IfVisible (f.names files) (λ world. Fulfils r f p files files' report report' result (merge_verdict world words))

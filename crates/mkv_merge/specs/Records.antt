@@ -41,6 +41,6 @@ pub record CanBeReadAgain (words : MergeWords) (sources : List Source) : Type 0 
   pub records : HaveRecords sources
   pub short : AreShort words sources
 
--- The outputs can be read again if the merge ended by itself and wasn't refused.
+-- The outputs of the merge `words` can be read again, if it ended with a status and wasn't refused. `found` has its sources or its refusal.
 abbrev pub EndsReadable : MergeWords → Result (List Source) Refusal → Result Status CommandEnd → Type 0
 EndsReadable words found result = IfOk result (λ _. IfOk found (CanBeReadAgain words))

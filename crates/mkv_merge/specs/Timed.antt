@@ -8,49 +8,49 @@ use Rattle.merge_plan.specs.Records.{is_appended}
 use Rattle.mkv_merge.specs.Texts.{given_listing, with_listings}
 use Rattle.mkv_merge.specs.declared.texts.SharedTimes.{SharedTimes}
 
--- the timestamps that a file lists for a track, with the number of the input and the ID of the track
+-- the timestamps that a timestamp file lists: number of the input, counted from 0, ID of the track, and timestamps
 pub record Listed : Type 0 where
   pub input : ℕ
   pub id : ℕ
   pub times : Listing
 
--- the timestamps that the code shares, without their owner
+-- the timestamps `s` that output tracks share in the code, as a plain value
 abbrev pub listed_of : SharedTimes → Listed
 listed_of s = record { input = s.input; id = s.id; times = s.times.value }
 
--- the timestamps for the track `pair.0` of the input number `input`
+-- the timestamps `pair.1` for the track with the ID `pair.0` of the input number `input`, counted from 0
 abbrev pub given_listed : ℕ → ℕ × Listing → Listed
 given_listed input pair = record { input = input; id = pair.0; times = pair.1 }
 
--- the timestamps that one timestamp file lists, if it was read
+-- the timestamps that the timestamp file `f` lists, if it was read
 abbrev pub listed_by : TimesFile → List Listed
 listed_by f = map (given_listed f.named.input) (given_listing f.named.id f.given)
 
--- the timestamps that several timestamp files list
+-- the timestamps that the timestamp files `files` list, if they were read
 abbrev pub listed_in : List TimesFile → List Listed
 listed_in files = flat_map listed_by files
 
--- the timestamps `l` with the ID of their track, if they are for the input number `input`
+-- the timestamps `l` with the ID of their track, if they are for the input number `input`, counted from 0
 abbrev pub at_input : ℕ → Listed → List (ℕ × Listing)
 at_input input l = if l.input == input then (l.id, l.times) ∷ [] else []
 
--- the shared timestamps for the input number `input`, each with the ID of its track
+-- the timestamps in `shared` that are for the input number `input`, counted from 0, each with the ID of its track
 abbrev pub shared_at : ℕ → List SharedTimes → List (ℕ × Listing)
 shared_at input shared = flat_map (λ (s : SharedTimes). at_input input (listed_of s)) shared
 
--- the timestamps that are shared for an input, or none if it is appended: then it keeps its own
+-- the timestamps in `shared` that are for `i`, the input number `input`, counted from 0; an appended input gets none and keeps its own
 abbrev pub shared_for : ℕ → List SharedTimes → InputRead → List (ℕ × Listing)
 shared_for input shared i = if is_appended i then [] else shared_at input shared
 
--- the inputs from the number `input` on, with the shared timestamps
+-- the inputs from the number `input`, counted from 0, onwards, each with the timestamps in `shared` that are for it
 abbrev pub shared_from : List SharedTimes → ℕ → List InputRead → List InputRead
 shared_from shared input [] = []
 shared_from shared input (i ∷ is) = with_listings (shared_at input shared) i ∷ shared_from shared (suc input) is
 
--- the input without timestamps of a file
+-- the input `i` without timestamps of timestamp files
 abbrev pub untimed : Input → Input
 untimed i = record i { times = [] }
 
--- `new` and `inputs` differ only in their timestamps.
+-- The inputs `new` are `inputs`, except for the timestamps of timestamp files.
 abbrev pub IsSameBut : List Input → List Input → Type 0
 IsSameBut inputs new = map untimed new ≡ map untimed inputs

@@ -12,7 +12,8 @@ use merge_inputs::Input;
 use mkv_io::List;
 use std::alloc::{AllocError, Global};
 
-/// Returns `inputs` with `chapters` in the first one, and without Chapters in the others.
+/// Returns `inputs` with the Chapters `chapters` in the first input, and without Chapters in all others: a merge has
+/// one Chapters Element. `with_file` calls it for a chapter file that was read.
 fn first_with(
     alloc: Global,
     chapters: Option<Tree>,
@@ -29,7 +30,8 @@ fn first_with(
     Ok(list)
 }
 
-/// Returns `inputs` with the Chapters of `file` instead of their own, or without any Chapters in WebM. Fails if
+/// Applies the chapter file `file` of the command line to the read inputs: its Chapters replace the ones of all
+/// `inputs`. With `webm` the inputs have no Chapters then. Without a chapter file they stay as they are. Fails if
 /// `file` is refused.
 pub fn with_file(
     alloc: Global,

@@ -22,14 +22,16 @@ use remuxer::remux;
 use requests::MergeWords;
 use std::alloc::Global;
 
-/// Result of a merge that prints nothing.
+/// Result of `merge_files`, a merge that prints nothing: a summary of the outputs that were written, or the reason why
+/// nothing was merged.
 #[derive(Drop)]
 pub enum Merged {
     Written(Summary),
     Refused(Refusal),
 }
 
-/// Merges the live files `ids`, the inputs of the command line `words`.
+/// Reads, plans and writes the merge of the open files `ids`, which are the inputs of the command line `words`, in its
+/// order. No chapter file or timestamp file is applied.
 fn join_opened<F: Files>(
     alloc: Global,
     words: &MergeWords,
@@ -52,7 +54,8 @@ fn join_opened<F: Files>(
     remuxed(remux(alloc, prepared.plan, files))
 }
 
-/// Merges the files that `words` names, unless an output could have the name of a file that is read.
+/// Opens the inputs that `words` names, merges them and closes them again. Refuses the merge first if an output could
+/// have the name of a file that is read.
 fn join_named<F: Files>(
     alloc: Global,
     words: &MergeWords,
@@ -74,7 +77,8 @@ fn join_named<F: Files>(
     ended
 }
 
-/// Merges the files that `words` names, and prints nothing. Opens no journal and no text file.
+/// Merges the files that `words` names, and prints nothing, for a caller with its own messages (`generate`). Opens no
+/// journal, chapter file or timestamp file.
 pub fn merge_files<F: Files>(
     alloc: Global,
     words: &MergeWords,

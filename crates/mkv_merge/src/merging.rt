@@ -25,8 +25,9 @@ use mkv_lines::{CommandEnd, Status};
 use requests::MergeWords;
 use std::alloc::Global;
 
-/// Merges the live files `ids`, the inputs of `words`, with the text files `texts`. Refuses the merge for a missing
-/// text file, for a pending edit of an input or of an unsplit output, or as `prepare` does.
+/// Merges the open files `ids`, the inputs of `words`, with the chapter file and timestamp files that `texts` has.
+/// Refuses the merge for a missing text file, for a pending edit of an input or of an unsplit output, or as `prepare`
+/// does.
 fn merge_opened<F: Files, P: Report>(
     alloc: Global,
     words: &MergeWords,
@@ -49,7 +50,8 @@ fn merge_opened<F: Files, P: Report>(
     written(write(alloc, words, prepared, ids, files, report))
 }
 
-/// Merges the files that `words` names, unless an output could have the name of a file that is read.
+/// Reads the text files and opens the inputs that `words` names, merges them, and closes the inputs again. Refuses the
+/// merge first if an output could have the name of a file that is read. Doesn't print the refusal.
 fn merge_named<F: Files, P: Report>(
     alloc: Global,
     words: &MergeWords,

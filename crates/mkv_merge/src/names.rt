@@ -14,7 +14,7 @@ use sidecar_edit::sidecar_name;
 use splitter::is_part_name;
 use std::alloc::{AllocError, Global};
 
-/// Appends the names of `files` to `names`.
+/// Appends the names of the inputs `files` to `names`, for the list of names that no output may have.
 fn add_names(files: &[FileWords], names: &mut List<Text>) -> Result<(), AllocError>
     ensures { OnOk result (names.new ≡ names.old ++ file_names files.now) }
 {
@@ -24,7 +24,8 @@ fn add_names(files: &[FileWords], names: &mut List<Text>) -> Result<(), AllocErr
     Ok(())
 }
 
-/// Appends the name of the chapter file to `names`, if there is one.
+/// Appends the name of the chapter file to `names`, if the command line gives one, for the list of names that no output
+/// may have.
 fn add_chapters(chapters: &Option<Text>, names: &mut List<Text>) -> Result<(), AllocError>
     ensures { OnOk result (names.new ≡ names.old ++ option_to_list chapters.now) }
 {
@@ -34,7 +35,7 @@ fn add_chapters(chapters: &Option<Text>, names: &mut List<Text>) -> Result<(), A
     }
 }
 
-/// Appends the names of the timestamp files `times` to `names`.
+/// Appends the names of the timestamp files `times` to `names`, for the list of names that no output may have.
 fn add_times(times: &[TimesName], names: &mut List<Text>) -> Result<(), AllocError>
     ensures { OnOk result (names.new ≡ names.old ++ times_names times.now) }
 {
@@ -44,7 +45,7 @@ fn add_times(times: &[TimesName], names: &mut List<Text>) -> Result<(), AllocErr
     Ok(())
 }
 
-/// Appends the names of the journals of `files` to `names`.
+/// Appends the names of the journals of the inputs `files` to `names`, for the list of names that no output may have.
 fn add_sidecars(
     alloc: Global,
     files: &[FileWords],
@@ -58,7 +59,8 @@ fn add_sidecars(
     Ok(())
 }
 
-/// Appends the names of the journals of the timestamp files `times` to `names`.
+/// Appends the names of the journals of the timestamp files `times` to `names`, for the list of names that no output
+/// may have.
 fn add_times_sidecars(
     alloc: Global,
     times: &[TimesName],
@@ -72,8 +74,8 @@ fn add_times_sidecars(
     Ok(())
 }
 
-/// Returns the names that no output of a merge may have. They are the names of its inputs, its chapter file, its
-/// timestamp files, and the journals of its inputs and timestamp files.
+/// Returns the names that no output of the merge `words` may have. They are the names of inputs, chapter file and
+/// timestamp files, then the journals of inputs and of timestamp files.
 fn read_names(alloc: Global, words: &MergeWords) -> Result<List<Text>, AllocError>
     ensures { IfOk result (λ names. names ≡ read_names words.now) }
 {
@@ -88,14 +90,14 @@ fn read_names(alloc: Global, words: &MergeWords) -> Result<List<Text>, AllocErro
     Ok(names)
 }
 
-/// Checks whether `name` could be the name of a part of the output.
+/// Checks whether the output is split and `name` could be the name of one of its parts, whatever the part's number.
 fn is_part(words: &MergeWords, name: &str) -> bool
     ensures { result ≡ is_part words.now name.now }
 {
     words.split.is_some() && is_part_name(words.output.as_str(), name)
 }
 
-/// Returns the first of `names` that equals the output's name.
+/// Returns the first of `names` that equals the output's name on the command line `words`.
 fn output_among<'a>(words: &MergeWords, names: &'a [Text]) -> Option<&'a Text>
     ensures { option_copied result ≡ find (is_output words.now) names.now }
 {
@@ -103,15 +105,16 @@ fn output_among<'a>(words: &MergeWords, names: &'a [Text]) -> Option<&'a Text>
     names.iter().find(|name| name.as_str() == output)
 }
 
-/// Returns the first of `names` that could be the name of a part.
+/// Returns the first of `names` that could be the name of a part of the output, if it is split.
 fn part_among<'a>(words: &MergeWords, names: &'a [Text]) -> Option<&'a Text>
     ensures { option_copied result ≡ find (is_part words.now) names.now }
 {
     names.iter().find(|name| is_part(words, name.as_str()))
 }
 
-/// Returns the first name of a file that is read which an output could have. The output's own name comes first, also
-/// if the output is split; then the names of parts.
+/// Returns the name of a file that is read and that an output could overwrite, if there is one; the merge is refused
+/// then. A name that equals the output's own is found first, also if the output is split; then one that a part could
+/// have.
 pub fn first_written(alloc: Global, words: &MergeWords) -> Result<Option<Text>, AllocError>
     ensures { IfOk result (λ name. name ≡ first_written words.now) }
 {

@@ -18,8 +18,8 @@ use requests::MergeWords;
 use sidecar_edit::is_pending;
 use std::alloc::Global;
 
-/// Returns the refusal of a merge because of a pending edit: the first input that has one, in the order of `words`.
-/// After the inputs follows an existing file with the output's name, unless the output is split.
+/// Returns the refusal of a merge because of a pending edit, if there is one. The inputs are checked in the order of
+/// `words`, then an existing file with the output's name, unless the output is split. Looks only into journals.
 fn pending_of<F: Files>(
     alloc: Global,
     words: &MergeWords,
@@ -39,8 +39,8 @@ fn pending_of<F: Files>(
     Ok(None)
 }
 
-/// Returns the refusal of a merge before its inputs are read: a missing chapter file or timestamp file, or a pending
-/// edit. All inputs exist.
+/// Returns the refusal of a merge whose inputs exist but weren't read yet, if there is one. The causes are a missing
+/// chapter file, a missing timestamp file, and a pending edit, in this order.
 pub fn begun_refusal<F: Files>(
     alloc: Global,
     words: &MergeWords,

@@ -22,7 +22,7 @@ use remux_plan::MergePlan;
 use requests::{FileWords, MergeWords};
 use std::alloc::Global;
 
-/// Inputs and plan of a merge.
+/// Inputs and plan of a merge, ready to be written by `write`.
 #[derive(Drop)]
 pub struct Prepared {
     /// Inputs, in the order of the command line.
@@ -30,7 +30,9 @@ pub struct Prepared {
     pub plan: MergePlan,
 }
 
-/// Reads the input number `input` up to its blocks.
+/// Reads Info, Tracks and the other records of the input number `input`, counted from 0, but none of its blocks. `file`
+/// is its open file, and `held` the size of the records of the inputs before it, in bytes. A refusal names the input by
+/// its number.
 fn read_one<R: Reads>(
     alloc: Global,
     words: &FileWords,
@@ -56,7 +58,7 @@ fn read_one<R: Reads>(
     }
 }
 
-/// Returns the total size of Info, Tracks, Chapters and Tags of an input, in bytes.
+/// Returns the total size of Info, Tracks, Chapters and Tags of an input, in bytes. A SubRip text has none of them.
 fn held_by(blocks: &Blocks) -> u64
     ensures { result ≡ held_in blocks.now }
 {
@@ -66,7 +68,8 @@ fn held_by(blocks: &Blocks) -> u64
     }
 }
 
-/// Reads all inputs up to their blocks, in the order of `words`.
+/// Reads the records of all inputs, but none of their blocks, in the order of `words`; `files` are their open files.
+/// The sizes of Info, Tracks, Chapters and Tags are added up, since they are limited for all inputs together.
 fn read_inputs<R: Reads>(
     alloc: Global,
     words: &MergeWords,
@@ -90,7 +93,9 @@ fn read_inputs<R: Reads>(
     Ok(inputs)
 }
 
-/// Reads the live files, applies the text files and plans the merge. Fails if one of them is refused.
+/// Reads the open files `files`, the inputs of `words`, applies the text files `texts`, computes the append offsets and
+/// plans the merge. Fails if an input, a text file, an appended track or the plan is refused, in this order. Writes
+/// nothing.
 pub fn prepare<R: Reads>(
     alloc: Global,
     words: &MergeWords,

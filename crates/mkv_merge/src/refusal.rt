@@ -42,14 +42,15 @@ pub enum Refusal {
     Plan(PlanRefusal),
 }
 
-/// End of a merge without its outputs: refused or stopped.
+/// End of a merge that wrote no complete set of outputs: it was refused, or it stopped because memory ran out or a call
+/// failed.
 #[derive(Debug, Drop)]
 pub enum MergeEnd {
     Refused(Refusal),
     Stopped(CommandEnd),
 }
 
-/// Returns the end of a merge that prints, by the end of its writing.
+/// Converts the result `ended` of `write`, which prints messages: an early end is a stop, never a refusal.
 pub fn written(ended: Result<Status, CommandEnd>) -> Result<Status, MergeEnd>
     ensures { result ≡ as_written ended }
 {
@@ -59,7 +60,7 @@ pub fn written(ended: Result<Status, CommandEnd>) -> Result<Status, MergeEnd>
     }
 }
 
-/// Returns the end of a merge that prints nothing, by the end of its writing.
+/// Converts the result `ended` of `remux`, which prints nothing: an early end is a stop, never a refusal.
 pub fn remuxed(ended: Result<Summary, RemuxEnd>) -> Result<Summary, MergeEnd>
     ensures { result ≡ as_remuxed ended }
 {

@@ -21,7 +21,8 @@ use remux_plan::{InputDamage, MoreDamage, Summary};
 use requests::{FileWords, MergeWords};
 use std::alloc::Global;
 
-/// Returns the name of the input number `input` of `words`, counted from 0, or an empty text if there is none.
+/// Returns the name of the input number `input` of the command line `words`, counted from 0, or an empty text if there
+/// is none.
 fn name_of(words: &MergeWords, input: usize) -> &str
     ensures { result.now ≡ name_of words.now input }
 {
@@ -31,7 +32,7 @@ fn name_of(words: &MergeWords, input: usize) -> &str
     }
 }
 
-/// Returns the line that reports why the text file `name` is refused.
+/// Returns the message that reports why the chapter file or timestamp file `name` is refused.
 fn text_line<'a>(name: &'a str, why: &TextRefusal) -> Line<'a>
     ensures { text_of result ≡ text_line name.now why.now }
 {
@@ -41,7 +42,7 @@ fn text_line<'a>(name: &'a str, why: &TextRefusal) -> Line<'a>
     }
 }
 
-/// Returns the line that reports why the input `name` is refused.
+/// Returns the message that reports why the input `name` is refused.
 fn input_line<'a>(name: &'a str, why: &InputRefusal) -> Line<'a>
     ensures { text_of result ≡ input_line name.now why.now }
 {
@@ -54,7 +55,7 @@ fn input_line<'a>(name: &'a str, why: &InputRefusal) -> Line<'a>
     }
 }
 
-/// Returns the line that reports why a plan is refused; `name` is the name of the output.
+/// Returns the message that reports why the merge can't be planned; `name` is the name of the output.
 fn plan_line<'a>(name: &'a str, why: &'a PlanRefusal) -> Line<'a>
     ensures { text_of result ≡ plan_line name.now why.now }
 {
@@ -68,7 +69,7 @@ fn plan_line<'a>(name: &'a str, why: &'a PlanRefusal) -> Line<'a>
     }
 }
 
-/// Returns the name of the chapter file.
+/// Returns the name of the chapter file on the command line `words`, or an empty text if there is none.
 fn chapters_name(words: &MergeWords) -> &str
     ensures { result.now ≡ chapters_name words.now }
 {
@@ -78,7 +79,7 @@ fn chapters_name(words: &MergeWords) -> &str
     }
 }
 
-/// Returns the line that reports the refusal `why`.
+/// Returns the message that reports the refusal `why`, with the names of files from the command line `words`.
 fn line_of<'a>(words: &'a MergeWords, why: &'a Refusal) -> Line<'a>
     ensures { text_of result ≡ line_of words.now why.now }
 {
@@ -111,7 +112,7 @@ fn line_of<'a>(words: &'a MergeWords, why: &'a Refusal) -> Line<'a>
     }
 }
 
-/// Prints the line that reports the refusal `why` of a merge, and returns the status of a refusal.
+/// Prints the message that reports the refusal `why` of a merge, and returns the status of a refusal.
 pub fn refuse<P: Report>(
     alloc: Global,
     words: &MergeWords,
@@ -125,7 +126,8 @@ pub fn refuse<P: Report>(
     mkv_lines::refuse(alloc, &line_of(words, why), report)
 }
 
-/// Warns of each track that `file` names and that the file doesn't have; the file has `count` tracks.
+/// Warns of each track number in the options of `file` that the input doesn't have. Track numbers count from 0, and
+/// `count` is the number of its tracks.
 fn say_absent_of<P: Report>(
     alloc: Global,
     file: &FileWords,
@@ -146,7 +148,8 @@ fn say_absent_of<P: Report>(
     Ok(())
 }
 
-/// Warns of the absent tracks of all inputs, in the order of `words`.
+/// Warns of the tracks that options name and that inputs don't have, in the order of `words`. `inputs` are the inputs
+/// as they were read.
 pub fn say_absent<P: Report>(
     alloc: Global,
     words: &MergeWords,
@@ -163,7 +166,8 @@ pub fn say_absent<P: Report>(
     Ok(())
 }
 
-/// Checks whether `file` names a track that the file doesn't have; the file has `count` tracks.
+/// Checks whether an option of `file` names a track number, counted from 0, that isn't below `count`, the number of
+/// tracks of this input. Such a merge ends with the status of warnings.
 fn has_absent_of(file: &FileWords, count: usize) -> bool
     ensures { result ≡ is_some_of (absent_of file.now count) }
 {
@@ -173,7 +177,8 @@ fn has_absent_of(file: &FileWords, count: usize) -> bool
         .any(|number| *number >= count as u64)
 }
 
-/// Checks whether some input lacks a track that `words` names.
+/// Checks whether an option of `words` names a track that its input doesn't have; such a merge ends with the status of
+/// warnings.
 pub fn has_absent(words: &MergeWords, inputs: &[Input]) -> bool
     requires { length inputs.now ≡ length words.now.files }
     ensures { result ≡ has_absent words.now (reads_in inputs.now) }
@@ -186,7 +191,8 @@ pub fn has_absent(words: &MergeWords, inputs: &[Input]) -> bool
     false
 }
 
-/// Warns of the damaged places of an input that are listed one by one.
+/// Prints a warning for each damaged place in `damages` that is in the input number `input`, counted from 0; `name` is
+/// its name. `damages` has the places of all inputs that are reported one by one.
 fn warn_of<P: Report>(
     alloc: Global,
     name: &str,
@@ -207,7 +213,8 @@ fn warn_of<P: Report>(
     Ok(())
 }
 
-/// Prints the number of the other damaged places of an input.
+/// Prints a warning with the number of damaged places of an input that aren't reported one by one, if there are any.
+/// The input has the number `input`, counted from 0, and the name `name`.
 fn warn_more<P: Report>(
     alloc: Global,
     name: &str,
@@ -228,7 +235,8 @@ fn warn_more<P: Report>(
     Ok(())
 }
 
-/// Warns of the damage of the inputs, in the order of `words`.
+/// Prints the warnings about damaged places that were met while the outputs were written, input by input, in the order
+/// of `words`.
 pub fn warn<P: Report>(
     alloc: Global,
     words: &MergeWords,
@@ -246,14 +254,15 @@ pub fn warn<P: Report>(
     Ok(())
 }
 
-/// Checks whether segment identifiers are given, but not one for each of `outputs` outputs.
+/// Checks whether `words` gives segment identifiers (`--segment-uid`), but not exactly one for each of the `outputs`
+/// outputs. Such a merge ends with the status of warnings.
 pub fn has_other_count(words: &MergeWords, outputs: usize) -> bool
     ensures { result ≡ has_other_count words.now outputs }
 {
     !words.uuids.is_empty() && words.uuids.len() != outputs
 }
 
-/// Warns if segment identifiers are given, but not one for each of `outputs` outputs.
+/// Prints a warning if `words` gives segment identifiers, but not exactly one for each of the `outputs` outputs.
 pub fn say_uuids<P: Report>(
     alloc: Global,
     words: &MergeWords,

@@ -16,7 +16,7 @@ use mkv_io::List;
 use std::alloc::{AllocError, Global};
 use std::rc::Rc;
 
-/// Returns the refusal for `file` if it is missing.
+/// Returns the refusal of the merge if the timestamp file `file` doesn't exist.
 fn missing_by(file: &TimesFile) -> Result<Option<Refusal>, AllocError>
     ensures { IfOk result (λ why. why ≡ missing_by file.now) }
 {
@@ -29,7 +29,7 @@ fn missing_by(file: &TimesFile) -> Result<Option<Refusal>, AllocError>
     }
 }
 
-/// Returns the first of `files` that is missing.
+/// Returns the first of the timestamp files `files` that doesn't exist.
 fn first_missing(files: &[TimesFile]) -> Option<&TimesFile>
     ensures { option_copied result ≡ first_refusing missing_by files.now }
 {
@@ -38,7 +38,8 @@ fn first_missing(files: &[TimesFile]) -> Option<&TimesFile>
         .find(|file| matches!(&file.given, TimesGiven::Missing))
 }
 
-/// Returns the refusal for the first missing timestamp file.
+/// Returns the refusal of the merge because of the first of the timestamp files `files` that doesn't exist, if there is
+/// one.
 fn missing_times(files: &[TimesFile]) -> Result<Option<Refusal>, AllocError>
     ensures { IfOk result (λ why. why ≡ missing_times files.now) }
 {
@@ -48,7 +49,8 @@ fn missing_times(files: &[TimesFile]) -> Result<Option<Refusal>, AllocError>
     }
 }
 
-/// Returns the refusal for the chapter file if it is missing, or else for the first missing timestamp file.
+/// Returns the refusal of the merge because of a text file that doesn't exist, if there is one. The chapter file is
+/// checked first, then the timestamp files.
 pub fn missing_text(texts: &TextFiles) -> Result<Option<Refusal>, AllocError>
     ensures { IfOk result (λ why. why ≡ missing_text texts.now) }
 {
@@ -58,7 +60,8 @@ pub fn missing_text(texts: &TextFiles) -> Result<Option<Refusal>, AllocError>
     }
 }
 
-/// Returns the refusal for `file` if it is refused.
+/// Returns the refusal of the merge if the content of the timestamp file `file` is refused: it is too large or has an
+/// invalid line.
 fn refusal_by(file: &TimesFile) -> Result<Option<Refusal>, AllocError>
     ensures { IfOk result (λ why. why ≡ refusal_by file.now) }
 {
@@ -71,7 +74,7 @@ fn refusal_by(file: &TimesFile) -> Result<Option<Refusal>, AllocError>
     }
 }
 
-/// Returns the first of `files` that is refused.
+/// Returns the first of the timestamp files `files` whose content is refused.
 fn first_refused(files: &[TimesFile]) -> Option<&TimesFile>
     ensures { option_copied result ≡ first_refusing refusal_by files.now }
 {
@@ -80,7 +83,8 @@ fn first_refused(files: &[TimesFile]) -> Option<&TimesFile>
         .find(|file| matches!(&file.given, TimesGiven::Refused(_)))
 }
 
-/// Returns the refusal for the first timestamp file that is refused.
+/// Returns the refusal of the merge because of the first of the timestamp files `files` whose content is refused, if
+/// there is one.
 fn times_refusal(files: &[TimesFile]) -> Result<Option<Refusal>, AllocError>
     ensures { IfOk result (λ why. why ≡ times_refusal files.now) }
 {
@@ -90,7 +94,7 @@ fn times_refusal(files: &[TimesFile]) -> Result<Option<Refusal>, AllocError>
     }
 }
 
-/// Timestamps of a file for a track of an input.
+/// Timestamps of one timestamp file, which all output tracks made from one track of an input share.
 #[derive(Drop)]
 struct SharedTimes {
     /// Number of the input, from 0 in the order of the command line.
@@ -99,7 +103,7 @@ struct SharedTimes {
     times: Rc<Times>,
 }
 
-/// Appends the timestamps that `file` lists to `list`, if it lists any.
+/// Appends the timestamps of `file` to `list`, with the input and track that they are for, if the file was read.
 fn share(alloc: Global, file: TimesFile, list: &mut List<SharedTimes>) -> Result<(), AllocError>
     ensures { OnOk result (map listed_of list.new ≡ map listed_of list.old ++ listed_by file) }
 {
@@ -117,7 +121,8 @@ fn share(alloc: Global, file: TimesFile, list: &mut List<SharedTimes>) -> Result
     }
 }
 
-/// Returns the timestamps that `files` list, so that output tracks can share them.
+/// Returns the timestamps of all timestamp files `files`, each with the input and track that it is for. Output tracks
+/// share them instead of copying them.
 fn shared(alloc: Global, files: List<TimesFile>) -> Result<List<SharedTimes>, AllocError>
     ensures { IfOk result (λ list. map listed_of list ≡ listed_in files) }
 {
@@ -128,7 +133,8 @@ fn shared(alloc: Global, files: List<TimesFile>) -> Result<List<SharedTimes>, Al
     Ok(list)
 }
 
-/// Appends the timestamps of `each` to `times`, if they are for the input number `input`.
+/// Appends the timestamps `each` to `times`, the ones of the input number `input`, if they are for that input. Inputs
+/// count from 0.
 fn add_at(input: usize, each: &SharedTimes, times: &mut List<TrackTimes>) -> Result<(), AllocError>
     ensures { OnOk result (listings_in times.new ≡ listings_in times.old ++ at_input input (listed_of each.now)) }
 {
@@ -142,7 +148,8 @@ fn add_at(input: usize, each: &SharedTimes, times: &mut List<TrackTimes>) -> Res
     })
 }
 
-/// Returns the timestamps that are shared for the input number `input`.
+/// Selects the timestamps in `shared` that are for the input number `input`, counted from 0, each with the ID of its
+/// track.
 fn times_at(
     alloc: Global,
     input: usize,
@@ -157,7 +164,8 @@ fn times_at(
     Ok(times)
 }
 
-/// Returns the timestamps that are shared for an input, or none if it is appended: then it keeps its own.
+/// Selects the timestamps in `shared` that are for `input`, the input number `number`, counted from 0. An appended
+/// input gets none: it keeps its own timestamps.
 fn times_for(
     alloc: Global,
     number: usize,
@@ -173,7 +181,7 @@ fn times_for(
     }
 }
 
-/// Returns the inputs with the shared timestamps.
+/// Returns `inputs`, each with the timestamps in `shared` that are for it. Nothing else of an input changes.
 fn timed(
     alloc: Global,
     shared: &[SharedTimes],
@@ -190,7 +198,8 @@ fn timed(
     Ok(list)
 }
 
-/// Returns `inputs` with the timestamps of `files`. Fails if a timestamp file is refused.
+/// Applies the timestamp files `files` of the command line: returns `inputs` with their timestamps. Fails if a
+/// timestamp file is refused.
 pub fn with_times(
     alloc: Global,
     files: List<TimesFile>,

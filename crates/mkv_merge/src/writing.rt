@@ -21,7 +21,7 @@ use remuxer::remux;
 use requests::MergeWords;
 use std::alloc::Global;
 
-/// Prints the line of each completed output.
+/// Prints a message for each completed output, with its name and number of blocks.
 fn say_wrote<P: Report>(
     alloc: Global,
     outputs: &[Written],
@@ -37,7 +37,7 @@ fn say_wrote<P: Report>(
     Ok(())
 }
 
-/// Prints the line of each output, and warns of the damage of the inputs.
+/// Prints a message for each completed output in `summary`, then the warnings about the damage of the inputs.
 fn tell_outputs<P: Report>(
     alloc: Global,
     words: &MergeWords,
@@ -52,8 +52,9 @@ fn tell_outputs<P: Report>(
     Ok(())
 }
 
-/// Prints the lines of the outputs and the warnings, the last of which compares the numbers of identifiers and
-/// outputs.
+/// Prints all messages after the outputs were written. They are one for each output, warnings of damage, and a warning
+/// if the number of segment identifiers isn't the number of outputs. Returns the status, which is `Warned` after a
+/// warning or if a selected track is `absent`.
 fn tell<P: Report>(
     alloc: Global,
     words: &MergeWords,
@@ -76,7 +77,8 @@ fn tell<P: Report>(
     }
 }
 
-/// Writes the prepared outputs and prints their messages.
+/// Warns of absent tracks, writes the outputs that `prepared` plans, and prints the messages about them. `ids` are the
+/// open inputs of `words`.
 pub fn write<F: Files, P: Report>(
     alloc: Global,
     words: &MergeWords,
