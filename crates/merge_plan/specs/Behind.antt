@@ -1,4 +1,4 @@
--- Facts of an input that is appended to the last of some inputs, as the code knows them on the way. Places defines the beginnings of inputs.
+-- Append offsets while they are found, input after input. `Places` defines them for a whole merge.
 use Rattle.std.specs.Prelude.{◌≡◌, ℕ, ◌+◌, ◌-◌, List, length, Option, None, Some, slice_get, ◌*◌}
 use Rattle.std.specs.List.{All}
 use Rattle.std.specs.Option.{option_map, option_map_or}
@@ -15,44 +15,46 @@ use Rattle.mkv_io.specs.Bounds.{ReadsUpTo}
 use Rattle.mkv_io.specs.Sources.{live_files}
 use Rattle.mkv_io.specs.declared.reads.Reads.{Ghosts}
 
--- The input ends at `time`, if the content of its file is visible to the proof.
+-- `time` is the end in nanoseconds of the input `i` in the output, if the content of its file is visible to the proof.
 abbrev pub EndsAt : LiveFiles → Input → ℕ → Type 0
 EndsAt f i time = IsToldInput f i → time ≡ end_of (source_in f i)
 
--- the last of the inputs, if there is one
+-- the last of the inputs `inputs`, if there is one
 abbrev pub last_in : List Input → Option Input
 last_in inputs = slice_get inputs (length inputs - 1)
 
--- the end of the last input, or 0 if there is none
+-- the end in nanoseconds of the last of `inputs` in the output, or 0 if there is none. An input that is appended to it begins then.
 abbrev pub end_behind : LiveFiles → List Input → ℕ
 end_behind f inputs = option_map_or (λ (i : Input). end_of (source_in f i)) (last_in inputs) 0
 
--- the greatest possible end of the last input, in nanoseconds
+-- an upper bound for the end in nanoseconds of the last of `inputs` in the output, or 0 if there is none
 abbrev pub most_behind : List Input → ℕ
 most_behind inputs = option_map_or (λ (i : Input). append_offset (read_in i) + MAX_END) (last_in inputs) 0
 
--- the number of bytes walked over to find the end of a file: `size` bytes, or none for a text, whose entries have the end
+-- the number of bytes that are walked over to find the end of an input: its `size`, or none for a text
 abbrev pub walked_in : Blocks → ℕ → ℕ
 walked_in (Clusters outline scale) size = size
 walked_in (Entries entries) size = 0
 
--- the number of bytes walked over to find the end of an input's file; none for a text
+-- the number of bytes that are walked over to find the end of the input `i`: its length, or none for a text
 abbrev pub walked_of : LiveFiles → Input → ℕ
 walked_of f i = walked_in i.blocks (f.size i.file.n)
 
--- the number of bytes of the last input's file that are walked over
+-- the number of bytes of the last of `inputs` that are walked over to find its end, or 0 if there is none
 abbrev pub size_behind : LiveFiles → List Input → ℕ
 size_behind f inputs = option_map_or (walked_of f) (last_in inputs) 0
 
--- the number of bytes that are walked over for an input with this shift: `before` for an appended one
+-- the number of bytes that are walked over to find an append offset: `before`, the previous input's, or none if the input isn't appended
 abbrev pub walked_for : Option ℕ → ℕ → ℕ
 walked_for None before = 0
 walked_for (Some time) before = before
 
--- For an appended input, the file of the last input before it is read at most twice; for another input nothing is read.
+-- From `old` to `new` the file of the last of the inputs `before` is read at most twice to find an append offset. Nothing is read if the input has no
+-- `shift` and so isn't appended.
 abbrev pub ReadsToPlace : {S : Type 0} → Ghosts S → S → S → List Input → Option ℕ → Type 0
 ReadsToPlace r old new before shift = ReadsUpTo r old new (2 * walked_for shift (size_behind (live_files r old) before))
 
--- An input with this shift has the append offset `later` after the inputs `before`, if the contents of their files are visible to the proof.
+-- `later` is the append offset of an input after the inputs `before`, if the contents of their files are visible to the proof. An input without
+-- `shift` isn't appended and has none.
 abbrev pub IsBehind : LiveFiles → List Input → Option ℕ → Option ℕ → Type 0
 IsBehind f before shift later = All (IsToldInput f) before → later ≡ option_map (λ _. end_behind f before) shift

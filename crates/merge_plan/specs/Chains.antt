@@ -1,27 +1,29 @@
--- Chains: each of some things may be appended to the previous one, and continues its output tracks. It is this project's.
+-- Chains of inputs: an input may be appended to the previous one, and then continues its output tracks. The definitions fit any list with such a
+-- test. They are this project's.
 use Rattle.std.specs.Prelude.{ℕ, ◌+◌, Bool, if◌then◌else◌, List, [], ◌∷◌, ◌++◌, map, flat_map}
 use Rattle.std.specs.List.{slice_get, take_while}
 use Rattle.std.specs.Option.{option_to_list}
 
--- ---- rows, one for each thing: its items for the output tracks, in their order
+-- ---- rows: for each input a list of items, one for each of its tracks
 
--- the items of the rows at index `place`, row after row
+-- the items at index `place`, counted from 0, of all `rows` that have one there
 abbrev pub at_place : {A : Type 0} → ℕ → List (List A) → List A
 at_place place rows = flat_map (λ row. option_to_list (slice_get row place)) rows
 
--- each item of a row, from index `place` on, with the items of the next rows at its index
+-- for each item of a row, whose first has the index `place`, a list of it and the items there in the next rows, `rows`
 abbrev pub columns_from : {A : Type 0} → ℕ → List A → List (List A) → List (List A)
 columns_from place [] rows = []
 columns_from place (x ∷ row) rows = (x ∷ at_place place rows) ∷ columns_from (place + 1) row rows
 
 -- ---- output tracks
 
--- the output tracks that a thing begins, before other things. The things that are appended to it continue them. A thing that is appended itself
--- begins none.
+-- the output tracks that the input `x` begins, before the inputs `xs`, each as its list of items. The inputs that are appended to `x` continue them.
+-- If `x` is appended itself, it begins none. `row` gives the items of an input.
 abbrev pub lanes_begun : {A B : Type 0} → (A → Bool) → (A → List B) → A → List A → List (List B)
 lanes_begun appended row x xs = if appended x then [] else columns_from 0 (row x) (map row (take_while appended xs))
 
--- the output tracks of things, in sequence
+-- the output tracks of a list of inputs, each as its list of items, in the order of the tracks that begin them. `appended` tests an input, and `row`
+-- gives its items.
 abbrev pub lanes_by : {A B : Type 0} → (A → Bool) → (A → List B) → List A → List (List B)
 lanes_by appended row [] = []
 lanes_by appended row (x ∷ xs) = lanes_begun appended row x xs ++ lanes_by appended row xs

@@ -7,14 +7,14 @@ use Rattle.output_records.specs.Chapters.{chapter_numbers, edition_numbers}
 use Rattle.merge_inputs.specs.Input.{InputRead}
 use Rattle.merge_plan.specs.Records.{records_of, tracks_taken, uids_of}
 
--- The identifiers of an output's tracks, editions, chapters and attached files.
+-- The identifiers in an output: TrackUIDs, EditionUIDs, ChapterUIDs and FileUIDs.
 pub record Identifiers : Type 0 where
   pub tracks : List ℕ
   pub editions : List ℕ
   pub chapters : List ℕ
   pub files : List ℕ
 
--- the identifiers of a merge of inputs
+-- the identifiers in the output of a merge of the inputs `reads`
 abbrev pub identifiers_of : List InputRead → Identifiers
 identifiers_of reads = record {
   tracks = uids_of (tracks_taken reads);
@@ -23,7 +23,7 @@ identifiers_of reads = record {
   files = file_numbers (records_of reads);
 }
 
--- The TrackUIDs and other identifiers `ids` have 64 bits.
+-- Each identifier in `ids` is below 2^64, and so can be stored.
 pub record Have64Bits (ids : Identifiers) : Type 0 where
   pub tracks : All (λ n. n < 2 ^ 64) ids.tracks
   pub editions : All (λ n. n < 2 ^ 64) ids.editions

@@ -1,7 +1,7 @@
--- Borrowed things.
+-- Values that references point to.
 use Rattle.std.specs.Prelude.{List, map}
 use denote.Ref.{Bor}
 
--- the values that references point to
+-- the values that the references `refs` point to, as a list of the code has references to tracks
 abbrev pub lent : {A : Type 0} → List (Bor A) → List A
 lent refs = map (λ r. r.now) refs

@@ -1,22 +1,22 @@
--- The beginnings of appended inputs. They are this project's.
+-- The append offsets of appended inputs. They are this project's.
 use Rattle.std.specs.Prelude.{ℕ, ◌+◌, List, [], ◌∷◌}
 use Rattle.std.specs.Option.{option_map}
 use Rattle.merge_model.specs.Ends.{file_end}
 use Rattle.merge_plan.specs.Plan.{Source, given_of, append_offset}
 
--- the end of a source in the output: the end of its blocks, including its append offset
+-- the end of the source `s` in the output, in nanoseconds: the end of its blocks, including its append offset
 abbrev pub end_of : Source → ℕ
 end_of s = append_offset s.1 + file_end (given_of s)
 
--- a source that begins at `time`, if it is appended to another
+-- the source `s` with the append offset `time`, in nanoseconds, if it is appended to another; otherwise unchanged
 abbrev pub begun_at : ℕ → Source → Source
 begun_at time s = (s.0, record s.1 { shift = option_map (λ _. time) s.1.shift })
 
--- the sources, each appended one beginning at the end of the previous one, and the first at `time`
+-- the sources, each appended one beginning at the end of the previous one. `time` is the end of the source before the list, in nanoseconds.
 abbrev pub in_place_from : ℕ → List Source → List Source
 in_place_from time [] = []
 in_place_from time (s ∷ ss) = begun_at time s ∷ in_place_from (end_of (begun_at time s)) ss
 
--- the sources as placed in the output: each appended one begins at the end of the previous one
+-- the sources as they are placed in the output: each appended one has the end of the previous one as its append offset
 abbrev pub in_place : List Source → List Source
 in_place sources = in_place_from 0 sources

@@ -9,7 +9,7 @@ use merge_inputs::{Input, TakenTrack};
 use mkv_schema::ids::TRACK_ENTRY;
 use track_records::differs;
 
-/// Appended input whose tracks can't continue the output tracks of the input before it.
+/// Appended input whose tracks can't continue the output tracks of the input before it; the merge is refused.
 #[derive(Clone, Copy, Debug, PartialEq, Eq)]
 pub struct AppendDiffers {
     /// Index of the input, counted from 0.
@@ -19,8 +19,8 @@ pub struct AppendDiffers {
     pub id: u32,
 }
 
-// Returns the ID of the first Element of a track in `taken` that differs from its output track. Both lists have the
-// same length.
+// Compares the selected tracks of an appended input, `taken`, with the tracks that began the output tracks, `lanes`.
+// Returns the ID of the first Element that differs. Both lists have the same length.
 fn first_differing(lanes: &[TakenTrack], taken: &[TakenTrack]) -> Option<u32>
     requires { length lanes.now ≡ length taken.now }
     ensures { result ≡ first_differing lanes.now taken.now }
@@ -33,8 +33,8 @@ fn first_differing(lanes: &[TakenTrack], taken: &[TakenTrack]) -> Option<u32>
     None
 }
 
-// Returns the ID of the first Element of a track in `taken` that differs from its output track, or TrackEntry if the
-// lengths differ.
+// Compares the selected tracks of an appended input, `taken`, with the tracks that began the output tracks, `lanes`.
+// Returns the ID of the first Element that differs, or TrackEntry if the lengths differ.
 fn differing(lanes: &[TakenTrack], taken: &[TakenTrack]) -> Option<u32>
     ensures { result ≡ differing lanes.now taken.now }
 {
@@ -45,7 +45,8 @@ fn differing(lanes: &[TakenTrack], taken: &[TakenTrack]) -> Option<u32>
     }
 }
 
-// Returns the ID of the Element that differs from the tracks that began the output tracks, if `input` is appended.
+// Returns the ID of the first Element that keeps `input` from being appended. `before` has the tracks that began the
+// output tracks; an input that isn't appended is never compared.
 fn difference_at(before: &[TakenTrack], input: &Input) -> Option<u32>
     ensures { result ≡ difference_at before.now (read_in input.now) }
 {
@@ -56,7 +57,8 @@ fn difference_at(before: &[TakenTrack], input: &Input) -> Option<u32>
     }
 }
 
-// Returns the tracks that began the output tracks of `input`.
+// Returns the tracks that the next input is compared with, if it is appended: the ones that began the output tracks. An
+// appended `input` leaves `before` as it is.
 fn lane_tracks<'a>(before: &'a [TakenTrack], input: &'a Input) -> &'a [TakenTrack]
     ensures { result.now ≡ lane_tracks before.now (read_in input.now) }
 {

@@ -26,7 +26,7 @@ pub(crate) fn tracks_begun(input: &Input) -> &[TakenTrack]
     }
 }
 
-/// Returns the tracks that begin output tracks, input after input.
+/// Returns the tracks that begin output tracks, input after input. The output tracks are numbered from 1 in this order.
 pub(crate) fn tracks_taken(alloc: Global, inputs: &[Input]) -> Result<Vec<&TakenTrack>, AllocError>
     ensures { IfOk result (λ taken. lent taken.items ≡ tracks_taken (map read_in inputs.now)) }
 {
@@ -39,7 +39,7 @@ pub(crate) fn tracks_taken(alloc: Global, inputs: &[Input]) -> Result<Vec<&Taken
     Ok(taken)
 }
 
-/// Returns the TrackUIDs of the output tracks.
+/// Returns the TrackUIDs of the output tracks that the tracks `taken` begin: their own, or another if one occurs again.
 pub(crate) fn uids_of(alloc: Global, taken: &[&TakenTrack]) -> Result<List<u64>, AllocError>
     ensures { IfOk result (λ uids. uids ≡ uids_of (lent taken.now)) }
 {
@@ -47,7 +47,8 @@ pub(crate) fn uids_of(alloc: Global, taken: &[&TakenTrack]) -> Result<List<u64>,
     renumber(alloc, uids.as_slice())
 }
 
-/// Makes the output's entry of a track, with this number and this TrackUID.
+/// Builds the output's TrackEntry of the selected track `taken`, with the TrackNumber `number`, the TrackUID `uid` and
+/// the changes that the options ask for.
 fn entry_of(alloc: Global, number: u64, uid: u64, taken: &TakenTrack) -> Result<Tree, AllocError>
     requires { IsTaken taken.now }
     ensures exact { IfOk result (λ entry. entry ≡ entry_of number uid taken.now) }
@@ -66,7 +67,7 @@ fn entry_of(alloc: Global, number: u64, uid: u64, taken: &TakenTrack) -> Result<
     written(alloc, &taken.track, &change)
 }
 
-/// Makes the output's entries of tracks with these TrackUIDs, numbered from 1.
+/// Builds the output's TrackEntries of the selected tracks `taken`, with the TrackUIDs `uids` and TrackNumbers from 1.
 pub(crate) fn entries_of(
     alloc: Global,
     taken: &[&TakenTrack],

@@ -26,7 +26,8 @@ pub(crate) struct OutputRecords {
     pub(crate) tags: Option<Tree>,
 }
 
-/// Makes the records of the output for `inputs` with the selected tracks `taken`.
+/// Builds the Tracks, attached files, Chapters and Tags of the output. The tracks `taken` of `inputs` begin the output
+/// tracks.
 pub(crate) fn output_of(
     alloc: Global,
     taken: &[&TakenTrack],

@@ -20,7 +20,8 @@ use merge_inputs::Input;
 use mkv_io::{List, ReadEnd, Reads};
 use std::alloc::Global;
 
-/// Returns the input's end in nanoseconds, including its append offset. Its file is walked over, unless it is a text.
+/// Returns the end of `input` in the output, in nanoseconds, including its append offset. Its file is walked over,
+/// unless it is a text. It is the append offset of the next input, if that is appended.
 fn end_of<R: Reads>(alloc: Global, input: &Input, src: &mut R) -> Result<u64, ReadEnd>
     requires input { IsInput (live_files R.Reads src.old) input.now }
     requires place { HasPlace input.now }
@@ -35,7 +36,8 @@ fn end_of<R: Reads>(alloc: Global, input: &Input, src: &mut R) -> Result<u64, Re
     Ok(input.shift.unwrap_or(0) + found.end)
 }
 
-/// Returns the append offset of an input with this shift after the inputs `before`: the end of the last of them.
+/// Returns the append offset, in nanoseconds, of an input after the inputs `before`: the end of the last of them, or 0
+/// if there is none. An input that isn't appended has no `shift`, and gets no offset.
 fn shift_behind<R: Reads>(
     alloc: Global,
     before: &[Input],
@@ -59,8 +61,8 @@ fn shift_behind<R: Reads>(
     }
 }
 
-/// Sets each appended input to the end of the previous input. Only the file of the previous input is walked over,
-/// unless it is a text.
+/// Returns `inputs` with the append offset of each appended one: the end of the previous input, in nanoseconds. Files
+/// are read for this only before an appended input, and not if they are texts.
 pub fn assign_append_offsets<R: Reads>(
     alloc: Global,
     inputs: List<Input>,

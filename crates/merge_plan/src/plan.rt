@@ -24,7 +24,7 @@ use requests::MergeWords;
 use splitter::split_size;
 use std::alloc::{AllocError, Global};
 
-/// Returns the CodecID of the first track that WebM doesn't allow.
+/// Returns the CodecID of the first of the tracks `taken` that WebM doesn't allow. The message of the refusal names it.
 fn other_codec<'a>(taken: &[&'a TakenTrack]) -> Option<&'a Text>
     ensures { option_copied result ≡ other_codec (lent taken.now) }
 {
@@ -36,7 +36,8 @@ fn other_codec<'a>(taken: &[&'a TakenTrack]) -> Option<&'a Text>
     None
 }
 
-/// Returns the refusal of `taken` as output tracks.
+/// Returns the refusal if the tracks `taken` can't begin the output tracks: there are none, or too many, or a codec
+/// that WebM doesn't allow. `webm` is true if the output is WebM.
 fn lanes_refusal(webm: bool, taken: &[&TakenTrack]) -> Result<Option<PlanRefusal>, AllocError>
     ensures { IfOk result (λ refusal. refusal ≡ lanes_refusal webm (lent taken.now)) }
 {
@@ -56,7 +57,8 @@ fn lanes_refusal(webm: bool, taken: &[&TakenTrack]) -> Result<Option<PlanRefusal
     Ok(None)
 }
 
-/// Makes the records of the output, or returns its refusal.
+/// Builds the records of the output, or returns the first refusal. The causes are the selected tracks, and a record
+/// that would be too large to be read again.
 fn records_for(
     alloc: Global,
     words: &MergeWords,
@@ -78,7 +80,7 @@ fn records_for(
     }
 }
 
-/// Returns the identifiers of the outputs that the options give.
+/// Returns a copy of the segment identifiers in `words`, for the plan.
 fn uuids_of(alloc: Global, words: &MergeWords) -> Result<List<u128>, AllocError>
     ensures { IfOk result (λ uuids. uuids ≡ words.now.uuids) }
 {
@@ -86,9 +88,9 @@ fn uuids_of(alloc: Global, words: &MergeWords) -> Result<List<u128>, AllocError>
     Ok(List::from_vec(uuids))
 }
 
-/// Returns the plan of the output for `words` and `inputs`, or the first refusal. A merge is refused if no track or
-/// more than 64 tracks are selected, or if WebM doesn't allow a codec. It is also refused if Tracks, Chapters or Tags
-/// would be too large to be read again.
+/// Plans the output for the options `words` and the read `inputs`, or returns the first refusal. A merge is refused if
+/// no track or more than 64 tracks are selected, or if WebM doesn't allow a codec. It is also refused if Tracks,
+/// Chapters or Tags would be too large to be read again. Reads no file.
 pub fn plan_of(alloc: Global, words: &MergeWords, inputs: &[Input]) -> Result<MergePlan, PlanEnd>
     requires tracks { All HasTaken inputs.now }
     requires records { All HasRecords inputs.now }

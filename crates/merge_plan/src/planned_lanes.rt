@@ -24,7 +24,8 @@ use std::alloc::{AllocError, Global};
 use std::rc::Rc;
 use track_records::usable;
 
-/// Returns the default rule for cue points: keyframes of video and subtitle tracks get one, other blocks don't.
+/// Returns the default rule for cue points of a track of the TrackType `kind`: keyframes of video and subtitle tracks
+/// get one, other blocks don't.
 fn default_rule(kind: u64) -> CueRule
     ensures { result ≡ default_rule kind }
 {
@@ -34,7 +35,8 @@ fn default_rule(kind: u64) -> CueRule
     }
 }
 
-/// Returns the rule for the blocks of a track that get a cue point.
+/// Returns the rule for cue points of the output track that `taken` begins: the one of the option `--cues`, or else the
+/// default.
 fn rule_of(taken: &TakenTrack) -> CueRule
     ensures { result ≡ rule_of taken.now }
 {
@@ -46,7 +48,8 @@ fn rule_of(taken: &TakenTrack) -> CueRule
     }
 }
 
-/// Returns the bytes that header stripping removed from the start of each frame.
+/// Returns the bytes that header stripping removed from the start of each frame of the track `taken`. They are put back
+/// in the output. RFC 9559, section 5.1.4 (Tracks), ContentEncodings.
 fn prefix_of(alloc: Global, taken: &TakenTrack) -> Result<Bytes, AllocError>
     requires { IsTaken taken.now }
     ensures exact { IfOk result (λ prefix. prefix ≡ prefix_of taken.now.track.entry) }
@@ -60,14 +63,15 @@ fn prefix_of(alloc: Global, taken: &TakenTrack) -> Result<Bytes, AllocError>
     Ok(prefix)
 }
 
-/// Returns the append offset of an input, in nanoseconds.
+/// Returns the append offset of an input, in nanoseconds, or 0 if it isn't appended.
 fn append_offset(input: &Input) -> u64
     ensures { result ≡ append_offset (read_in input.now) }
 {
     input.shift.unwrap_or(0)
 }
 
-/// Returns the timestamps of a track's frames, if a timestamp file lists them.
+/// Returns the timestamps of the frames of the track `taken` of `input`, if a timestamp file lists them. They are
+/// shared.
 fn times_of(input: &Input, taken: &TakenTrack) -> Result<Option<Rc<Times>>, AllocError>
     ensures { IfOk result (λ times. option_map (λ shared. shared.value) times ≡ times_listed input.now taken.now) }
 {
@@ -79,8 +83,8 @@ fn times_of(input: &Input, taken: &TakenTrack) -> Result<Option<Rc<Times>>, Allo
     Ok(None)
 }
 
-/// Makes the link of a track of an input whose file has this outline and `scale` nanoseconds in a tick. With `past_damage`
-/// the files after it are read even if damage ends its reading.
+/// Builds the link of an output track to the track `taken` of `input`, whose file has the outline `outline` and `scale`
+/// nanoseconds in a tick. With `past_damage` the links after it are read even if damage ends its reading.
 fn track_of(
     alloc: Global,
     input: &Input,
@@ -106,7 +110,7 @@ fn track_of(
     })
 }
 
-/// Returns a copy of the entries of a text.
+/// Returns a copy of the subtitles `entries` of a text, since each link has its own.
 fn copies(alloc: Global, entries: &[Entry]) -> Result<List<Entry>, AllocError>
     ensures { IfOk result (λ copies. copies ≡ entries.now) }
 {
@@ -121,7 +125,8 @@ fn copies(alloc: Global, entries: &[Entry]) -> Result<List<Entry>, AllocError>
     Ok(copies)
 }
 
-/// Makes the link of a track of an input that is a text with these entries.
+/// Builds the link of an output track to `taken`, the only track of an input that is a text with the subtitles
+/// `entries`.
 fn text_of(
     alloc: Global,
     input: &Input,
@@ -137,8 +142,8 @@ fn text_of(
     })
 }
 
-/// Makes the link of the track `taken` of an input, which is a file with Clusters or a text. With `past_damage` the files
-/// after it are read even if damage ends its reading.
+/// Builds the link of an output track to the track `taken` of `input`, which is a file with Clusters or a text. With
+/// `past_damage` the links after it are read even if damage ends its reading.
 fn link_of(
     alloc: Global,
     input: &Input,
@@ -160,7 +165,7 @@ fn link_of(
     }
 }
 
-/// Makes the links of the selected tracks of an input, for a survey of its file.
+/// Builds links to the selected tracks of `input`, for a survey that finds the end of the input.
 pub fn links_of(alloc: Global, input: &Input) -> Result<List<Link>, AllocError>
     requires { HasTaken input.now }
     ensures { IfOk result (AreLinksOf input.now) }
@@ -172,7 +177,8 @@ pub fn links_of(alloc: Global, input: &Input) -> Result<List<Link>, AllocError>
     Ok(links)
 }
 
-/// Returns the first of `inputs`, as far as they are appended to the input before them.
+/// Returns the first of `inputs`, as long as each is appended to the input before it. They continue the output tracks
+/// of the input before `inputs`.
 fn appended(inputs: &[Input]) -> &[Input]
     ensures { result.now ≡ take_while goes_on inputs.now }
 {
@@ -184,8 +190,9 @@ fn appended(inputs: &[Input]) -> &[Input]
     inputs
 }
 
-/// Adds track `place` of input `number` to `lane`, if the input has one there. With `past_damage` the files after it are
-/// read even if damage ends its reading.
+/// Appends to the output track `lane` the link to the track at index `place` among the selected tracks of `input`, if
+/// there is one. The input's `number` counts from 0. With `past_damage` the links after it are read even if damage ends
+/// its reading.
 fn go_on(
     alloc: Global,
     place: usize,
@@ -205,9 +212,9 @@ fn go_on(
     Ok(())
 }
 
-/// Makes the output track that a track of the input number `number`, counted from 0, begins. The track at `place` of
-/// each input in `behind`, the ones appended to it, continues it, with `past_damage` even after damage. `drives` is true if
-/// its keyframes allow a cut.
+/// Builds the output track that the track `taken` begins. It is at index `place` among the selected tracks of the input
+/// number `number`, counted from 0. The track at this index of each input in `behind`, the ones appended to it,
+/// continues it. With `past_damage` it does so even after damage. `drives` is true if its keyframes allow a cut.
 fn lane_of(
     alloc: Global,
     number: usize,
@@ -240,8 +247,8 @@ fn lane_of(
     Ok(lane)
 }
 
-/// Makes the output tracks of `inputs`, in sequence; `videos` holds for the video tracks. With `past_damage` damage doesn't
-/// end an output track.
+/// Builds the output tracks of a merge of `inputs`. For each selected track of an input that isn't appended, `videos`
+/// is true if it is a video track. With `past_damage` damage doesn't end an output track.
 pub(crate) fn lanes_of(
     alloc: Global,
     inputs: &[Input],

@@ -14,7 +14,7 @@ use output_model::Attachment;
 use output_records::InputRecords;
 use std::alloc::{AllocError, Global};
 
-// Returns a copy of attached files, without their data.
+// Returns a copy of the attached files `files`, without their data, which stay in the inputs.
 fn copies(alloc: Global, files: &[Attachment]) -> Result<List<Attachment>, AllocError>
     ensures { IfOk result (λ copies. copies ≡ files.now) }
 {
@@ -31,7 +31,7 @@ fn copies(alloc: Global, files: &[Attachment]) -> Result<List<Attachment>, Alloc
     Ok(copies)
 }
 
-// Returns a copy of a record, if there is one.
+// Returns a copy of Chapters or Tags, if present.
 fn copy_of(alloc: Global, tree: &Option<Tree>) -> Result<Option<Tree>, AllocError>
     ensures { IfOk result (λ copy. copy ≡ tree.now) }
 {
@@ -41,7 +41,8 @@ fn copy_of(alloc: Global, tree: &Option<Tree>) -> Result<Option<Tree>, AllocErro
     }
 }
 
-/// Returns the data of an input besides its tracks and blocks, if its output tracks have the TrackUIDs `numbers`.
+/// Returns the records of `input` that are merged into the output's: attached files, Chapters and Tags. Its output
+/// tracks have the TrackUIDs `numbers`.
 fn records_in(alloc: Global, numbers: &[u64], input: &Input) -> Result<InputRecords, AllocError>
     requires { HasRecords input.now }
     ensures exact { IfOk result (λ records. records ≡ records_in numbers.now (kept_in input.now)) }
@@ -64,22 +65,22 @@ fn records_in(alloc: Global, numbers: &[u64], input: &Input) -> Result<InputReco
     })
 }
 
-// Returns the first `count` of the numbers, or all if there are fewer.
+// Returns the first `count` of the TrackUIDs `numbers`, or all if there are fewer.
 fn first(numbers: &[u64], count: usize) -> &[u64]
     ensures { result.now ≡ take count numbers.now }
 {
     &numbers[..count.min(numbers.len())]
 }
 
-// Returns the numbers after the first `count`.
+// Returns the TrackUIDs in `numbers` after the first `count`.
 fn behind(numbers: &[u64], count: usize) -> &[u64]
     ensures { result.now ≡ drop count numbers.now }
 {
     &numbers[count.min(numbers.len())..]
 }
 
-// Returns the TrackUIDs of an input's output tracks: for an appended input the previous input's, and for another the
-// first ones in `left`.
+// Returns the TrackUIDs of the output tracks of `input`, in order to redirect its Chapters and Tags to them. For an
+// appended input they are the previous input's, `before`, and for another the first ones in `left`.
 fn uids_at<'a>(before: &'a [u64], left: &'a [u64], input: &Input) -> &'a [u64]
     ensures { result.now ≡ uids_at before.now left.now (read_in input.now) }
 {
@@ -90,7 +91,7 @@ fn uids_at<'a>(before: &'a [u64], left: &'a [u64], input: &Input) -> &'a [u64]
     }
 }
 
-// Returns the TrackUIDs that are left after this input.
+// Returns the TrackUIDs in `left` that are for the inputs after `input`.
 fn uids_behind<'a>(left: &'a [u64], input: &Input) -> &'a [u64]
     ensures { result.now ≡ uids_behind left.now (read_in input.now) }
 {
@@ -101,7 +102,8 @@ fn uids_behind<'a>(left: &'a [u64], input: &Input) -> &'a [u64]
     }
 }
 
-/// Returns the data of inputs besides their tracks and blocks, if the output tracks have the TrackUIDs `numbers`.
+/// Returns the records of all inputs that are merged into the output's, besides tracks and blocks. The output tracks
+/// have the TrackUIDs `numbers`, in their order.
 pub(crate) fn records_of(
     alloc: Global,
     numbers: &[u64],

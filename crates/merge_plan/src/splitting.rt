@@ -17,7 +17,7 @@ use requests::MergeWords;
 use splitter::{SplitSpec, split_spec};
 use std::alloc::{AllocError, Global};
 
-/// Returns the starts of the output's chapters, if it has any.
+/// Returns the starts of the output's top-level chapters, in nanoseconds, for cuts at chapters.
 fn starts_in(alloc: Global, chapters: &Option<Tree>) -> Result<List<u64>, AllocError>
     requires { IfSome chapters.now (IsRead CHAPTERS) }
     ensures { IfOk result (λ starts. starts ≡ starts_in chapters.now) }
@@ -28,7 +28,8 @@ fn starts_in(alloc: Global, chapters: &Option<Tree>) -> Result<List<u64>, AllocE
     }
 }
 
-/// Returns the rule for splitting an output with these Chapters.
+/// Returns the rule for cutting the output of `words` into parts, if it has the Chapters `chapters`. Times are in
+/// nanoseconds.
 pub(crate) fn split_of(
     alloc: Global,
     words: &MergeWords,
@@ -41,14 +42,14 @@ pub(crate) fn split_of(
     split_spec(alloc, &words.split, starts.as_slice())
 }
 
-/// Checks whether a copied track is a video track.
+/// Checks whether a selected track is a video track. Keyframes of video tracks decide about the places of cuts.
 fn is_video(taken: &TakenTrack) -> bool
     ensures { result ≡ is_video taken.now }
 {
     taken.track.kind == VIDEO_TRACK
 }
 
-/// Returns for each track whether it is video.
+/// Returns for each of the tracks `taken` whether it is a video track.
 pub(crate) fn videos_of(alloc: Global, taken: &[&TakenTrack]) -> Result<List<bool>, AllocError>
     ensures { IfOk result (λ videos. videos ≡ map is_video (lent taken.now)) }
 {

@@ -7,7 +7,7 @@ ghost use Rattle.merge_plan.specs.Records.{first_title, title_of};
 use merge_inputs::Input;
 use requests::MergeWords;
 
-/// Returns the first title of an input that isn't empty.
+/// Returns the title of the first input that has one, or an empty text.
 fn first_title(inputs: &[Input]) -> &str
     ensures { result.now ≡ first_title (map read_in inputs.now) }
 {
@@ -19,8 +19,8 @@ fn first_title(inputs: &[Input]) -> &str
     ""
 }
 
-/// Returns the title in the options, or else the first title of an input. An empty title in the options means that
-/// there is none.
+/// Returns the output's title: the one in the options `words`, or else the first title of an input. An empty title in
+/// the options means that there is none.
 pub(crate) fn title_of<'a>(words: &'a MergeWords, inputs: &'a [Input]) -> &'a str
     ensures { result.now ≡ title_of words.now (map read_in inputs.now) }
 {
