@@ -40,15 +40,15 @@ use Rattle.merge_inputs.specs.declared.input.InputEnd.TheVariants as input_end
 use Rattle.merge_inputs.specs.declared.input.InputRefusal.{InputRefusal}
 use Rattle.merge_inputs.specs.declared.input.InputRefusal.TheVariants.{Damaged, Text}
 
--- the source of an input's blocks: the Clusters of a Segment with its nanoseconds per tick, or the entries of a text
+-- the source of an input's blocks: the Clusters of the Segment with this header, with their nanoseconds per tick, or the subtitles of a text
 pub data BlocksRead : Type 0 where
   Clusters : Header → ℕ → BlocksRead
   Entries : List Entry → BlocksRead
 
--- the result of reading an input of a merge. `held` is the number of bytes of its Info, Tracks, Chapters and Tags, which a limit counts. `count`
--- is the number of its tracks, and `taken` the ones that are copied. `attachments`, `chapters` and `tags` are the ones that are kept, and `keep`
--- is the choice of Tags. `shift` is the append offset in nanoseconds, 0 until it is known, or None if the input isn't appended. `times` has the
--- frame times of timestamp files, by track number.
+-- an input of a merge as it is read, before its blocks. `held` is the number of bytes of its Info, Tracks, Chapters and Tags, which count for a
+-- limit. `count` is the number of its tracks, and `taken` the selected ones. `attachments`, `chapters` and `tags` are the kept ones, and `keep` the
+-- choice of Tags. `shift` is the append offset in nanoseconds: 0 until it is known, None if the input isn't appended. `times` has the timestamps of
+-- timestamp files, by track ID.
 pub record InputRead : Type 0 where
   pub blocks : BlocksRead
   pub title : List ℕ
@@ -64,21 +64,21 @@ pub record InputRead : Type 0 where
 
 -- ---- reading a content
 
--- the continuation with a value that was found; damage refuses the input
+-- the result of `more` with a value that was found; damage instead of it refuses the input
 abbrev pub found_then : {A B : Type 0} → Result A Damage → (A → Result B InputRefusal) → Result B InputRefusal
 found_then (Ok x) more = more x
 found_then (Err d) more = Err (Damaged d)
 
--- the input that was read, or its refusal, if there is one
+-- `input`, or its refusal, if there is one
 abbrev pub input_or_refusal : Option InputRefusal → InputRead → Result InputRead InputRefusal
 input_or_refusal None input = Ok input
 input_or_refusal (Some why) input = Err why
 
--- the refusal of an input with valid records: the first copied track that can't be used
+-- the refusal of an input with valid records because of the first of the selected tracks `taken` whose frames can't be used
 abbrev pub refusal_of : List TakenTrack → Option InputRefusal
 refusal_of taken = option_map Damaged (first_unusable taken)
 
--- the input of a file with the outline `o` and the records `r`
+-- the input for a file with the outline `o` and the records `r`. Its options are `words`, and `webm` is true if the output is WebM.
 abbrev pub input_with : FileWords → Bool → Outlined → FileRecords → InputRead
 input_with words webm o r = record {
   blocks = Clusters o.segment (scale_of_info r.info);
@@ -94,14 +94,15 @@ input_with words webm o r = record {
   times = [];
 }
 
--- the input of a file with Clusters, or the first refusal of its outline (after `held` bytes of earlier inputs), records or copied tracks
+-- the input for a file with Clusters and the content `bytes`, or its refusal because of outline, records or selected tracks. The inputs before it
+-- have `held` bytes of limited Elements, and `webm` is true if the output is WebM.
 abbrev pub file_read : FileWords → Bool → ℕ → List ℕ → Result InputRead InputRefusal
 file_read words webm held bytes =
     found_then (outline_of held bytes) (λ (o : Outlined).
     found_then (file_records bytes o.segment) (λ (r : FileRecords).
     input_or_refusal (refusal_of (taken_from words 0 r.tracks)) (input_with words webm o r)))
 
--- the input of a text with the entries `entries`: one track, and nothing else
+-- the input for a text with the subtitles `entries`: one track, and no other records
 abbrev pub text_with : FileWords → List Entry → InputRead
 text_with words entries = record {
   blocks = Entries entries;
@@ -117,42 +118,42 @@ text_with words entries = record {
   times = [];
 }
 
--- the input of a text, given its entries; a refused text refuses the input
+-- the input that `more` makes of the subtitles of a text; a refused text refuses the input
 abbrev pub text_then : Result (List Entry) TextRefusal → (List Entry → InputRead) → Result InputRead InputRefusal
 text_then (Ok entries) more = Ok (more entries)
 text_then (Err why) more = Err (Text why)
 
--- the input of a SubRip file with the content `bytes`, or its refusal
+-- the input for a SubRip text with the content `bytes`, or its refusal; `words` has its options
 abbrev pub text_read : FileWords → List ℕ → Result InputRead InputRefusal
 text_read words bytes = text_then (srt_text bytes) (text_with words)
 
--- the input with the content `bytes`, or its refusal: a text, or a file with Clusters. `words` has its name and options, `webm` is true if the
--- output is WebM, and earlier inputs have `held` bytes of limited Elements.
+-- the input with the content `bytes`, or its refusal: a SubRip text, or a file with Clusters. `words` has its name and options, and `webm` is true if
+-- the output is WebM. The inputs before it have `held` bytes of limited Elements.
 abbrev pub input_of : FileWords → Bool → ℕ → List ℕ → Result InputRead InputRefusal
 input_of words webm held bytes = if is_srt words.name bytes then text_read words bytes else file_read words webm held bytes
 
 -- ---- an input that was read
 
--- the source of an opened input's blocks, without the data that the code keeps of the file
+-- the source of an opened input's blocks as the definitions have it, without the data that the code keeps of the file
 abbrev pub blocks_in : Blocks → BlocksRead
 blocks_in (held_by.Clusters outline scale) = Clusters outline.value.segment scale
 blocks_in (held_by.Entries entries) = Entries entries
 
--- the number of bytes of an input's Info, Tracks, Chapters and Tags, by the source of its blocks
+-- the number of bytes of an input's Info, Tracks, Chapters and Tags, given the source of its blocks; 0 for a text
 abbrev pub held_in : Blocks → ℕ
 held_in (held_by.Clusters outline scale) = outline.value.held
 held_in (held_by.Entries entries) = 0
 
--- the length of the file in its outline; 0 for a text
+-- the length in bytes of an input's file as its outline has it, given the source of its blocks; 0 for a text
 abbrev pub total_in : Blocks → ℕ
 total_in (held_by.Clusters outline scale) = outline.value.total
 total_in (held_by.Entries entries) = 0
 
--- the frame times from timestamp files, by track ID
+-- the timestamps of timestamp files as the definitions have them, by track ID
 abbrev pub listings_in : List TrackTimes → List (ℕ × Listing)
 listings_in times = map (λ (t : TrackTimes). (t.id, t.times.value)) times
 
--- an opened input, as the definitions have it
+-- the opened input `i` as the definitions have it, without the data that the code keeps of its file
 abbrev pub read_in : Input → InputRead
 read_in i = record {
   blocks = blocks_in i.blocks;
@@ -168,44 +169,45 @@ read_in i = record {
   times = listings_in i.times;
 }
 
--- the events of an input whose file has the content `bytes`; none for a text
+-- the blocks and damage in a file with the content `bytes`, given the source of an input's blocks; none for a text
 abbrev pub events_by : BlocksRead → List ℕ → List Event
 events_by (Clusters segment scale) bytes = events_of (with_limits scale) bytes segment
 events_by (Entries entries) bytes = []
 
--- the blocks and damage of the input `i`, whose file has the content `bytes`
+-- the blocks and damage in the file of the input `i`, whose content is `bytes`
 abbrev pub events_in : InputRead → List ℕ → List Event
 events_in i bytes = events_by i.blocks bytes
 
--- The events with the scale `scale` are the file's own.
+-- The blocks and damage that are read with the input's nanoseconds per tick are the ones of the format's definition. `bytes` is the content of its
+-- file.
 abbrev pub AreOwnEvents : Blocks → List ℕ → Type 0
 AreOwnEvents (held_by.Clusters outline scale) bytes = events_by (Clusters outline.value.segment scale) bytes ≡ file_events true bytes outline.value.segment
 AreOwnEvents (held_by.Entries entries) bytes = ⊤
 
--- A reader's result is right for `found`: the same input or refusal, unless a read failed or memory ran out.
+-- The reader's result is as the definitions expect, where `found` is the input or its refusal. A read may fail, and memory may run out.
 abbrev pub ReadsInput : Result InputRead InputRefusal → Result Input InputEnd → Type 0
 ReadsInput found (Ok i) = found ≡ Ok (read_in i)
 ReadsInput found (Err (input_end.Refused why)) = found ≡ Err why
 ReadsInput found (Err input_end.ReadFault) = ⊤
 ReadsInput found (Err input_end.Memory) = ⊤
 
--- The input `i` was read from the file `id`, and its append offset isn't known yet.
+-- The input `i` was read from the file `id`, and its append offset isn't known yet. `words` has its options.
 pub record IsReadOf (id : FileId) (words : FileWords) (i : Input) : Type 0 where
   pub file : i.file ≡ id
   pub unmoved : i.shift ≡ unmoved words
 
--- The file has the length in its outline, and a tick has at least one nanosecond.
+-- The outline `outline` is of a file with `octets` bytes, and a tick has `nanoseconds` nanoseconds, at least one.
 pub record AreClusters (octets : ℕ) (outline : FileOutline) (nanoseconds : ℕ) : Type 0 where
   pub size : octets ≡ outline.total
   pub scale : 1 ≤ nanoseconds
 
--- The blocks are in a file of `size` bytes, or the entries are within the limits of a text.
+-- The source of an input's blocks fits its file of `size` bytes: its outline has this size. Subtitles are within the limits of a text.
 abbrev pub CanBeGiven : ℕ → Blocks → Type 0
 CanBeGiven size (held_by.Clusters outline scale) = AreClusters size outline.value scale
 CanBeGiven size (held_by.Entries entries) = AreWithin MAX_SRT_LEN entries
 
--- The input `i` is valid: its file is live, its blocks can be taken, and its tracks can be used. The data of its attached files are in it, and
--- its Chapters and Tags can be read again.
+-- The opened input `i` is valid. Its file is live, its blocks can be read, and its selected tracks can be copied. The data of its attached files are
+-- in it, and its Chapters and Tags were read.
 pub record IsInput (files : LiveFiles) (i : Input) : Type 0 where
   pub live : files.live i.file.n ≡ true
   pub blocks : CanBeGiven (files.size i.file.n) i.blocks

@@ -1,4 +1,4 @@
-//! Input of a merge, or the failure to read it
+//! Input of a merge before its blocks, and the causes of a failure to read it
 
 ghost use Rattle.std.specs.Prelude.{◌≡◌};
 ghost use Rattle.merge_inputs.specs.declared.input.InputEnd.TheVariants as input_end;
@@ -14,16 +14,16 @@ use record_changes::TagKeep;
 use std::alloc::{AllocError, AllocFailed};
 use std::rc::Rc;
 
-/// Source of an input's blocks
+/// Source of an input's blocks: the Clusters of a file, or the subtitles of a SubRip text
 #[derive(Drop)]
 pub enum Blocks {
     /// Clusters of a file with the outline `outline`, with `scale` nanoseconds per tick
     Clusters { outline: Rc<Outline>, scale: u64 },
-    /// Entries of a text, sorted by start
+    /// Subtitles of a SubRip text, sorted by start
     Entries { entries: List<Entry> },
 }
 
-/// Live file of a merge, and the facts that were read before its blocks
+/// Open file that is an input of a merge, with the data that were read before its blocks
 #[derive(Drop)]
 pub struct Input {
     pub file: FileId,
@@ -57,21 +57,21 @@ pub struct TrackTimes {
     pub times: Rc<Times>,
 }
 
-/// Refusal of an input
+/// Reason to refuse an input and with it the merge
 #[derive(Clone, Copy, Debug, PartialEq, Eq)]
 pub enum InputRefusal {
-    /// Damaged file, passed limit, or copied track that can't be used
+    /// Damaged file, exceeded limit, or selected track whose frames can't be used
     Damaged(Damage),
-    /// Refused text
+    /// Text that is too large or has an invalid line
     Text(TextRefusal),
 }
 
-/// Failure to read an input
+/// End of reading an input without a result
 #[derive(Clone, Copy, Debug, PartialEq, Eq)]
 pub enum InputEnd {
-    /// Refused input
+    /// Refusal
     Refused(InputRefusal),
-    /// Failed read
+    /// Failed read of the file
     ReadFault,
     /// Out of memory
     Memory,

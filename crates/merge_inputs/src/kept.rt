@@ -13,21 +13,22 @@ use record_changes::without_statistics;
 use requests::FileWords;
 use std::alloc::{AllocError, Global};
 
-/// Returns the attached files if they are kept.
+/// Returns the attached files `files` of an input if `is_kept`, and none otherwise.
 pub fn kept_files(alloc: Global, is_kept: bool, files: List<Attachment>) -> List<Attachment>
     ensures { result ≡ kept_list is_kept files }
 {
     if is_kept { files } else { List::new(alloc) }
 }
 
-/// Returns a Chapters or Tags if it is kept.
+/// Returns `tree`, the Chapters or Tags of an input, if `is_kept`, and none otherwise.
 pub fn kept_tree(is_kept: bool, tree: Option<Tree>) -> Option<Tree>
     ensures { result ≡ kept_one is_kept tree }
 {
     if is_kept { tree } else { None }
 }
 
-/// Returns the Tags of a file if some are kept, without statistics if the command line leaves these out.
+/// Returns the Tags `tags` of an input if its options `words` keep some, without statistics if the options leave these
+/// out.
 pub fn kept_tags(
     alloc: Global,
     words: &FileWords,

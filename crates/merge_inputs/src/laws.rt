@@ -2,7 +2,7 @@
 
 ghost use Rattle.merge_inputs.specs.Laws.{InputsStay};
 
-/// An input stays valid while its file is unchanged, whatever happens to others.
+/// Law: an input stays valid while its own file is unchanged, whatever happens to other files.
 pub fn inputs_stay()
     ensures { InputsStay }
 {}

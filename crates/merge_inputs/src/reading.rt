@@ -22,9 +22,9 @@ use requests::FileWords;
 use std::alloc::Global;
 use std::rc::Rc;
 
-/// Reads a live file before its Clusters, or returns the first refusal: its outline, its records, and then the chosen
-/// tracks. Earlier inputs hold `held` bytes of Info, Tracks, Chapters and Tags. For WebM output, attached files and
-/// chapters are left out.
+/// Reads the open file `file` before its Clusters, or returns the first refusal because of its outline, its records or
+/// the tracks that `words` selects. The inputs before it hold `held` bytes of Info, Tracks, Chapters and Tags, which
+/// count for a limit. With `webm` attached files and Chapters are left out.
 fn read_file<R: Reads>(
     alloc: Global,
     words: &FileWords,
@@ -75,7 +75,7 @@ fn read_file<R: Reads>(
     })
 }
 
-/// Reads a live text: its entries, and its only track if the command line chooses it.
+/// Reads the open SubRip text `file`: its subtitles, and its only track if `words` selects it.
 fn read_text<R: Reads>(
     alloc: Global,
     words: &FileWords,
@@ -109,7 +109,8 @@ fn read_text<R: Reads>(
     })
 }
 
-/// Checks whether a live file is read as SubRip. It reads the first bytes only if the name ends in `.srt`.
+/// Checks whether the open file `file` is read as SubRip: its name ends in `.srt`, and it doesn't begin as an EBML
+/// file. Reads at most 4 bytes.
 fn is_text<R: Reads>(words: &FileWords, src: &mut R, file: FileId) -> Result<bool, Failed>
     requires { IsLive R.Reads src.old file }
     ensures exact { IfTold R.Reads src.old file (λ bytes. IfOk result (λ is. is ≡ is_srt words.now.name bytes)) }
@@ -126,9 +127,9 @@ fn is_text<R: Reads>(words: &FileWords, src: &mut R, file: FileId) -> Result<boo
     Ok(!begins_ebml(&octets[..known]))
 }
 
-/// Reads a live file before its blocks, or returns the refusal: the entries of a SubRip file, or the elements before
-/// the Clusters of another. Earlier inputs hold `held` bytes of Info, Tracks, Chapters and Tags. For WebM output,
-/// attached files and chapters are left out.
+/// Reads the open file `file` before its blocks, or returns the refusal. A SubRip text has subtitles, another file the
+/// Elements before its Clusters. The inputs before it hold `held` bytes of Info, Tracks, Chapters and Tags, which count
+/// for a limit. With `webm` attached files and Chapters are left out.
 pub fn read_input<R: Reads>(
     alloc: Global,
     words: &FileWords,

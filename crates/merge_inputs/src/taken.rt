@@ -12,10 +12,10 @@ use requests::{CueWord, FileWords, FlagWords};
 use std::alloc::{AllocError, Global};
 use track_records::{FlagChange, Track, usable};
 
-/// Copied track, with its options
+/// Selected track of an input, with the options for it; an absent option keeps the track's own value
 #[derive(Drop)]
 pub struct TakenTrack {
-    /// Place in Tracks, counted from 0
+    /// Index in Tracks, counted from 0
     pub id: u64,
     pub track: Track,
     pub name: Option<Text>,
@@ -24,12 +24,13 @@ pub struct TakenTrack {
     pub flag_default: Option<bool>,
     pub flag_forced: Option<bool>,
     pub flags: FlagChange,
-    /// Delay in nanoseconds
+    /// Delay in nanoseconds, 0 by default
     pub delay: i64,
     pub cues: Option<CueWord>,
 }
 
-/// Returns the copied tracks in their order. The ID of a track is its place in Tracks, counted from 0.
+/// Returns the tracks of an input that its options `words` select, in the file's order, with the options for each. The
+/// ID of a track is its index in `tracks`, counted from 0.
 pub fn taken_of(
     alloc: Global,
     words: &FileWords,
@@ -47,7 +48,7 @@ pub fn taken_of(
     Ok(taken)
 }
 
-/// Returns a copied track with the options for its ID.
+/// Returns the selected track `track`, whose ID is `id`, with the options for it in `words`.
 fn taken_track(
     alloc: Global,
     words: &FileWords,
@@ -70,7 +71,8 @@ fn taken_track(
     })
 }
 
-/// Returns the first value of each flag for an ID.
+/// Returns the flags that the options `words` give to the track with the ID `id`. An option that is given more than
+/// once counts the first time.
 fn flags_for(id: u64, words: &FlagWords) -> FlagChange
     ensures { result ≡ flags_for id words.now }
 {
@@ -84,7 +86,8 @@ fn flags_for(id: u64, words: &FlagWords) -> FlagChange
     }
 }
 
-/// Returns the first value for an ID.
+/// Returns the value that the option with the values `list` gives to the track with the ID `id`. If there are several,
+/// the first counts.
 fn value_for<T>(id: u64, list: &[(u64, T)]) -> Option<&T>
     ensures { option_copied result ≡ value_for id list.now }
 {
@@ -96,7 +99,8 @@ fn value_for<T>(id: u64, list: &[(u64, T)]) -> Option<&T>
     None
 }
 
-/// Returns a copy of the first text for an ID.
+/// Returns a copy of the text that the option with the values `list` gives to the track with the ID `id`. If there are
+/// several, the first counts.
 fn text_for(alloc: Global, id: u64, list: &[(u64, Text)]) -> Result<Option<Text>, AllocError>
     ensures { IfOk result (λ text. text ≡ value_for id list.now) }
 {
@@ -106,7 +110,8 @@ fn text_for(alloc: Global, id: u64, list: &[(u64, Text)]) -> Result<Option<Text>
     }
 }
 
-/// Returns the first damage that keeps the frames of a copied track from being used.
+/// Returns the damage that makes the frames of one of the selected tracks unusable, if there is one: an encoding that
+/// can't be undone.
 pub fn first_unusable(taken: &[TakenTrack]) -> Option<Damage>
     requires { All (λ t. IsEntry t.track.entry) taken.now }
     ensures { result ≡ first_unusable taken.now }

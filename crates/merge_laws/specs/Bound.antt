@@ -6,12 +6,12 @@ use Rattle.requests.specs.Sound.{IsSoundMerge}
 use Rattle.mkv_merge.specs.Bound.{contents_length, lane_count, most_read}
 use Rattle.mkv_merge.specs.Merge.{sources_of}
 
--- the most bytes that a merge may read if the files are `world`, by the lengths of its inputs. They count 16 times for each output track and 48
--- times besides, and an input counts as often as the command line names it. 1 MiB and the bytes of the text files are added.
+-- the most bytes that a merge may read if the files are `world`, by the sum of the lengths of its inputs. The sum counts 16 times for each output
+-- track and 48 times besides. An input counts as often as `words` names it. The text files and 1 MiB are added.
 abbrev pub most_by_length : (List ℕ → Option (List ℕ)) → MergeWords → ℕ
 most_by_length world words =
     16 * (lane_count (sources_of world words) + 3) * contents_length world words.files + 1048576 + text_octets world words.chapters words.files
 
--- A merge whose command line keeps its limits may read at most `most_by_length` bytes, also if it is refused.
+-- A merge of a command line that keeps its limits reads at most `most_by_length` bytes, also if it is refused.
 abbrev pub ReadsAreBounded : Type 0
 ReadsAreBounded = (world : List ℕ → Option (List ℕ)) (words : MergeWords) → IsSoundMerge words → most_read world words ≤ most_by_length world words

@@ -15,49 +15,49 @@ use Rattle.merge_laws.specs.Merge.{HoldsOutput, lanes_selected}
 use Rattle.requests.specs.Texts.{AreTexts}
 use Rattle.merge_laws.specs.Sources.{AreSources, HoldsOctets}
 
--- The sources of a merge consist of bytes, and their tracks can be written.
+-- If all files consist of bytes, the sources of a merge do, and their tracks can be written.
 abbrev pub SourcesAreRead : Type 0
 SourcesAreRead =
     (world : List ℕ → Option (List ℕ)) (words : MergeWords) (sources : List Source) → HoldsOctets world → IsSoundMerge words → AreTexts words
     → sources_of world words ≡ Ok sources → AreSources words sources
 
--- The blocks that are selected from the sources can be written.
+-- The blocks of the selected tracks of `sources` can be written.
 abbrev pub SelectedBlocksAreSound : Type 0
 SelectedBlocksAreSound =
     (words : MergeWords) (sources : List Source) → IsSoundMerge words → AreSources words sources → All (All IsSoundBlock) (lanes_selected words sources)
 
--- The document of each output can be written if its records can, and if it has at most 2^48 bytes.
+-- The document of each output can be written if its records can, and if the output has at most 2^48 bytes.
 abbrev pub MergedDocumentsAreSound : Type 0
 MergedDocumentsAreSound =
     (words : MergeWords) (sources : List Source) → IsSoundMerge words → AreTexts words → AreSources words sources → HaveRecords sources
     → All (λ (o : PlannedOutput). length (layout o.document) ≤ LONGEST_FILE → IsSoundDocument o.document) (outputs_of words sources)
 
--- The bytes of each output hold it, if they are at most 2^48.
+-- The content of each output holds the output, if it has at most 2^48 bytes.
 abbrev pub LayoutsHoldOutputs : Type 0
 LayoutsHoldOutputs =
     (words : MergeWords) (sources : List Source) → IsSoundMerge words → AreTexts words → AreSources words sources → HaveRecords sources
     → All (λ (o : PlannedOutput). length (layout o.document) ≤ LONGEST_FILE → HoldsOutput words o (layout o.document)) (outputs_of words sources)
 
--- the name of an output with its blocks
+-- the name of the output `o`, and its blocks
 abbrev pub name_and_blocks : PlannedOutput → List ℕ × List OutputBlock
 name_and_blocks o = (o.name, o.blocks)
 
--- A merge that isn't split has one output, whose blocks are the unchanged merged list.
+-- A merge that isn't split has one output, whose blocks are the merged list of all output tracks.
 abbrev pub WholeMergesAreOne : Type 0
 WholeMergesAreOne =
     (words : MergeWords) (sources : List Source) → words.split ≡ None
     → map name_and_blocks (outputs_of words sources) ≡ (words.output, blocks_of words sources) ∷ []
 
--- Damage doesn't end the reading of the files after the source `g`.
+-- Damage doesn't end the reading of the links after the link `g`.
 abbrev pub NeverStops : Given → Type 0
 NeverStops g = g.stops ≡ false
 
--- If no source stops, the option to go on after damage changes nothing.
+-- If damage ends the reading of no link, the option `--append-damaged` changes nothing.
 abbrev pub UndamagedLanesStay : Type 0
 UndamagedLanesStay =
     (words : MergeWords) (sources : List Source) → All (All NeverStops) (lanes_given sources) → lanes_taken words sources ≡ lanes_given sources
 
--- With the option to go on after damage, all blocks of all links of each output track are selected.
+-- With the option `--append-damaged` all blocks of all links of each output track are selected.
 abbrev pub DamagedLanesGoOn : Type 0
 DamagedLanesGoOn =
     (words : MergeWords) (sources : List Source) → words.append_damaged ≡ true

@@ -35,71 +35,72 @@ use Rattle.merge_laws.specs.Sources.{HoldsOctets}
 
 -- ---- selected blocks, and blocks that are read
 
--- the selected blocks, one output track after another: the blocks of each selected track outside any damage. Each has its own timestamp or the
--- timestamp file's, with its delay, in ticks of the output. The bytes that header stripping removed are before each frame again.
+-- for each output track of the merge of `sources` its blocks: all blocks of the selected tracks outside any damage. Each has its own timestamp or the
+-- timestamp file's, with its delay, in ticks of the output. The bytes that header stripping removed are back before each frame.
 abbrev pub lanes_selected : MergeWords → List Source → List (List OutputBlock)
 lanes_selected words sources = map (lane_blocks words.scale) (lanes_taken words sources)
 
--- the events in the content `bytes` of an output, read without a reader's limits, in the Segment of the output's document
+-- the blocks and damage in the content `bytes` of the output `o`, read without a reader's limits as the Segment of the output's document
 abbrev pub events_read : PlannedOutput → List ℕ → List Event
 events_read o bytes = file_events false bytes (header_of_segment o.document)
 
--- a block without its offset
+-- the block `b` without its offset in the file
 abbrev pub without_place : Block → Block
 without_place b = record b { offset = 0 }
 
--- the blocks in the content of an output, without their offsets
+-- the blocks in the content `bytes` of the output `o`, without their offsets
 abbrev pub blocks_held : PlannedOutput → List ℕ → List Block
 blocks_held o bytes = map without_place (blocks_found (events_read o bytes))
 
--- The entry has no ContentEncodings, so the frames of its track are stored unchanged.
+-- The TrackEntry has no ContentEncodings, so the frames of its track are stored unchanged.
 abbrev pub HasNoEncodings : Node → Type 0
 HasNoEncodings entry = first_child CONTENT_ENCODINGS entry ≡ None
 
 -- ---- the merge
 
--- The content `bytes` holds the output `o`. Read by the format's definition, without a reader's limits, it is the output's document: undamaged,
--- with its scale, records, Seeks, and cue points, each at its block. The frames of its tracks are stored unchanged. Its blocks are the output's,
--- each once and in order. They keep their frames, laces and flags; timestamps, durations and references have the nanoseconds of their ticks.
+-- The content `bytes` holds the output `o` of the merge `words`. It is read by the format's definition, without a reader's limits. It is the output's
+-- document: undamaged, with its scale, records, Seeks and cue points, each at its block. The frames of its tracks are stored unchanged. Its blocks
+-- are the output's, each once and in order. They keep their frames, laces and flags; timestamps, durations and references have the nanoseconds of
+-- their ticks.
 pub record HoldsOutput (words : MergeWords) (o : PlannedOutput) (bytes : List ℕ) : Type 0 where
   pub document : IsReadAs o.document bytes
   pub plain : All HasNoEncodings (entries_of o.document.front.tracks)
   pub blocks : blocks_held o bytes ≡ map (block_in_place words.scale 0) o.blocks
 
--- If the merge isn't split, the content has the selected blocks of each output track.
+-- If the merge isn't split, the content `bytes` of its output `o` has the selected blocks of each output track.
 abbrev pub HoldsLanes : MergeWords → List Source → PlannedOutput → List ℕ → Type 0
 HoldsLanes words sources o bytes =
     words.split ≡ None → lanes_read words.scale 1 (length (lanes_given sources)) (events_read o bytes) ≡ lanes_selected words sources
 
 -- ---- parts
 
--- the blocks of a section in its part; their ticks count from the section's start
+-- the blocks of the section `x` as they are in its part: their ticks count from the section's start
 abbrev pub blocks_in_part : Section → List OutputBlock
 blocks_in_part x = map (in_part x.start) x.blocks
 
--- The lists `blocks` are the blocks of parts of the merged list. The list is divided into sections with cuts between them and nowhere else; the
--- parts are the written sections, in order.
+-- The lists `blocks` are the blocks of the parts that the merged list is cut into by the rule `s`. It is divided into sections, with cuts between
+-- them and nowhere else. The parts are the written sections, in order.
 pub record ArePartsOf (s : Split) (merged : List OutputBlock) (blocks : List (List OutputBlock)) : Type 0 where
   pub sections : List Section
   pub are : AreSections s merged sections
   pub written : blocks ≡ map blocks_in_part (filter (is_written s) sections)
 
--- Parts that end at a load keep the limit. Each part except the last reaches it. In each part the load before each block at which a cut is
--- possible is below it, also before the last such block.
+-- Parts that are cut at a number of bytes keep the limit `limit`. Each part except the last reaches it. In each part it isn't reached before a block
+-- that allows a cut.
 pub record KeepsLimit (s : Split) (blocks : List OutputBlock) (limit : ℕ) : Type 0 where
   pub full : AllButLast (IsFull limit) (parts s blocks)
   pub small : All (IsSmall s limit) (parts s blocks)
 
 -- ---- the whole
 
--- an output as it is written: its name, and the bytes of its document
+-- the output `o` as it is written: its name, and the bytes of its document
 abbrev pub laid_out : PlannedOutput → Output
 laid_out o = record { name = o.name; content = layout o.document }
 
--- A merge was written, if the files were `world`. Its outputs have exactly the bytes of their documents, and every other name keeps its content.
--- The records of the sources can be read again, and identifiers have 64 bits. Each output has at most 2^48 bytes, and its document is valid. Each
--- output holds its blocks and document; one that isn't split holds all output tracks. Together the outputs are the parts of the merged list, and
--- parts that end at a load keep its limit.
+-- The merge `words` of the files `world` was written, and the files are `new` after it. Its outputs have exactly the bytes of their documents, and
+-- every other name keeps its content. The records of the sources can be read again, and identifiers have 64 bits. Each output has at most 2^48 bytes,
+-- and its document is valid. Each output holds its blocks and document; one that isn't split holds all output tracks. Together the outputs are the
+-- parts of the merged list, and parts that are cut at a number of bytes keep its limit.
 pub record IsMerged (world : List ℕ → Option (List ℕ)) (words : MergeWords) (new : Names) : Type 0 where
   pub sources : List Source
   pub taken : sources_of world words ≡ Ok sources
@@ -114,12 +115,13 @@ pub record IsMerged (world : List ℕ → Option (List ℕ)) (words : MergeWords
 
 -- ---- a run
 
--- The merge of the command line `words` was written, if the names were visible to the proof and all contents are bytes.
+-- If the command line `words` is a merge, it was written: the files were `old` before it and are `new` after it. This holds if `old` is visible to
+-- the proof and all contents are bytes.
 abbrev pub HasMerged : Names → List (List ℕ) → Names → Type 0
 HasMerged old words new =
     IfVisible old (λ world. HoldsOctets world → (merge : MergeWords) → command words ≡ Ok (Merge merge) → IsMerged world merge new)
 
--- `HasMerged` holds if a run ended well, with a warning or without.
+-- `HasMerged` holds between the files `old` and `new`, if the run of the command line `words` ended without an error; a warning is allowed.
 abbrev pub MergesWell : Names → List (List ℕ) → Names → Status → Type 0
 MergesWell old words new Done = HasMerged old words new
 MergesWell old words new Warned = HasMerged old words new

@@ -15,18 +15,18 @@ use Rattle.merge_plan.specs.Front.{reads_of}
 use Rattle.merge_plan.specs.Plan.{Source, append_offset}
 use Rattle.merge_plan.specs.Refusal.{plan_refusal}
 
--- The contents of all files are bytes.
+-- All contents of the files `world` are lists of bytes.
 abbrev pub HoldsOctets : (List ℕ → Option (List ℕ)) → Type 0
 HoldsOctets world = (name bytes : List ℕ) → world name ≡ Some bytes → AreOctets bytes
 
 -- ---- results of reading
 
--- a TrackType whose tracks a merge can select
+-- A merge can select tracks of the TrackType `type`: video, audio or subtitles.
 abbrev pub is_taken_type : ℕ → Bool
 is_taken_type type = type == VIDEO_TRACK || type == AUDIO_TRACK || type == SUBTITLE_TRACK
 
--- The entry of the selected track `t` can be written. A merge can select its type, its identifier has 64 bits, and the given name and language
--- are text.
+-- The TrackEntry of the selected track `t` can be written. Its TrackType is one that a merge can select, its TrackUID has 64 bits, and name and
+-- language in the options are UTF-8.
 pub record IsReadTrack (t : TakenTrack) : Type 0 where
   pub taken : IsTaken t
   pub kind : is_taken_type t.track.kind ≡ true
@@ -35,13 +35,13 @@ pub record IsReadTrack (t : TakenTrack) : Type 0 where
   pub language : IfSome t.language IsUtf8
   pub language_tag : IfSome t.language_tag IsUtf8
 
--- Each entry of a text ends within 10,000 hours and is at most as long as a text may be.
+-- Each subtitle of a text ends within 10,000 hours, and is at most as long as a text may be.
 abbrev pub HasEntriesWithin : BlocksRead → Type 0
 HasEntriesWithin (Clusters segment scale) = ⊤
 HasEntriesWithin (Entries entries) = All (IsEntryWithin MAX_SRT_LEN) entries
 
--- The source `s` consists of bytes, and its title is a text without a zero byte. The entries of a SubRip text are within their limits. Its tracks
--- can be written, and its append offset is at most a link's limit.
+-- The source `s` can be written. Its content consists of bytes, and its title is UTF-8 without a zero byte. The subtitles of a text are within their
+-- limits. Its tracks can be written, and its append offset is within the limit of a link.
 pub record IsReadSource (s : Source) : Type 0 where
   pub octets : AreOctets s.0
   pub entries : HasEntriesWithin s.1.blocks
@@ -50,7 +50,7 @@ pub record IsReadSource (s : Source) : Type 0 where
   pub tracks : All IsReadTrack s.1.taken
   pub place : append_offset s.1 ≤ MAX_SHIFT
 
--- Each source of a merge is valid, and nothing refuses them together.
+-- Each of the sources `sources` can be written, and nothing refuses the merge `words` of them.
 pub record AreSources (words : MergeWords) (sources : List Source) : Type 0 where
   pub each : All IsReadSource sources
   pub unrefused : plan_refusal words (reads_of sources) ≡ None

@@ -7,38 +7,38 @@
 ghost use Rattle.merge_laws.specs.Bound.{ReadsAreBounded};
 ghost use Rattle.merge_laws.specs.Laws.{DamagedLanesGoOn, LayoutsHoldOutputs, MergedDocumentsAreSound, SelectedBlocksAreSound, SourcesAreRead, UndamagedLanesStay, WholeMergesAreOne};
 
-/// Law: the sources of a merge, as they are read, consist of bytes, and their tracks can be written.
+/// Law: the contents of a merge's sources are bytes, and their tracks can be written.
 pub fn sources_are_read()
     ensures { SourcesAreRead }
 {}
 
-/// The blocks that a merge selects can be written.
+/// Law: the blocks of the selected tracks can be written.
 pub fn selected_blocks_are_sound()
     ensures { SelectedBlocksAreSound }
 {}
 
-/// The document of each output of a merge can be written and read back.
+/// Law: the document of each output of a merge can be written and read again.
 pub fn merged_documents_are_sound()
     ensures { MergedDocumentsAreSound }
 {}
 
-/// A merge that isn't split has one output.
+/// Law: a merge that isn't split has one output.
 pub fn whole_merges_are_one()
     ensures { WholeMergesAreOne }
 {}
 
-/// Law: the bytes of each output of a merge, read by the definitions, have the tracks, blocks and records that the
-/// merge gives it. They must be at most 2^48.
+/// Law: the bytes of each output of a merge, read by the format's definition, have the tracks, blocks and records that
+/// the merge gives it. The output must have at most 2^48 bytes.
 pub fn layouts_hold_outputs()
     ensures { LayoutsHoldOutputs }
 {}
 
-/// Law: if damage ends the reading of no file, the option to go on after damage changes nothing.
+/// Law: if damage ends the reading of no input, the option `--append-damaged` changes nothing.
 pub fn undamaged_lanes_stay()
     ensures { UndamagedLanesStay }
 {}
 
-/// Law: with the option to go on after damage, an output track has all blocks of all its files.
+/// Law: with the option `--append-damaged` an output track has all blocks of all inputs that it continues with.
 pub fn damaged_lanes_go_on()
     ensures { DamagedLanesGoOn }
 {}
