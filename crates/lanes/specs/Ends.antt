@@ -14,52 +14,55 @@ use Rattle.merge_model.specs.declared.link.TrackLink.{TrackLink}
 
 -- ---- one block
 
--- the duration of a block of `frames` frames in nanoseconds: its own, or else the track's default for each frame, or 0
+-- the duration in nanoseconds of a block of `frames` frames: its own `duration`, or else the track's `default_duration` for each frame, or 0
 abbrev pub lasting_for : Option ℕ → Option ℕ → ℕ → ℕ
 lasting_for duration default_duration frames = unwrap_or duration (frames * unwrap_or default_duration 0)
 
--- the end of the block `b` in the track `t`, after `k` frames of the track, or 0 if it isn't the track's
+-- the end in nanoseconds of the block `b` for the link `t`, without append offset, or 0 if it isn't the track's or is dropped. `k` frames of the
+-- track precede it.
 abbrev pub track_end : TrackLink → ℕ → Block → ℕ
 track_end t k b = if b.track == t.number then block_end (placing_of t) (at_time t k b) else 0
 
--- the end of the block `b` in a link, after `k` frames of its track; 0 for a text, which has no such block
+-- the end in nanoseconds of the block `b` for a link, without append offset; 0 for a text, which has no such block. `k` frames of its track precede
+-- it.
 abbrev pub link_end : Block → ℕ → Link → ℕ
 link_end b k (Track t) = track_end t k b
 link_end b k (Entries e) = 0
 
--- the greatest of 0 and the ends of the block `b` in all links, after the given numbers of frames
+-- the greatest end in nanoseconds of the block `b` for any of the links, or 0. For each link the second argument has the number of frames that
+-- precede the block.
 abbrev pub ends_of : Block → List ℕ → List Link → ℕ
 ends_of b [] links = 0
 ends_of b (k ∷ counts) [] = 0
 ends_of b (k ∷ counts) (link ∷ links) = max (link_end b k link) (ends_of b counts links)
 
--- the greatest of 0 and the ends of a text's entries
+-- the greatest end in nanoseconds of the subtitles of the text `e`, without append offset, or 0
 abbrev pub text_end : TextLink → ℕ
 text_end e = last_end (text_with e []).placing (map entry_block e.entries)
 
 -- ---- all blocks
 
--- the blocks and damaged places of a link, if its file has the events `events`
+-- the blocks and damaged places of a link, if the events of its file are `events`
 abbrev pub given_by : List Event → Link → Given
 given_by events (Track t) = track_with t events
 given_by events (Entries e) = text_with e e.entries
 
--- the end of a file with the events `events`
+-- the end in nanoseconds of a file with the events `events` and the given links, without append offset
 abbrev pub end_of : List Event → List Link → ℕ
 end_of events links = file_end (map (given_by events) links)
 
--- the end of a file with only the texts
+-- the greatest end in nanoseconds of the subtitles of the links that are texts, without append offset, or 0
 abbrev pub texts_end : List Link → ℕ
 texts_end links = end_of [] links
 
 -- ---- limits
 
--- The delay and default duration of the track `t` are within their limits.
+-- The delay, append offset and default duration of the link `t` are within their limits.
 pub record IsTimedTrack (t : TrackLink) : Type 0 where
   pub moves : CanMove t.delay t.shift
   pub default : IfSome t.default_duration (λ d. d < 2 ^ 48)
 
--- The times of a link are within their limits, so that the end of its file can be computed.
+-- The times of a link are within their limits, so that its end can be computed.
 abbrev pub IsTimed : Link → Type 0
 IsTimed (Track t) = IsTimedTrack t
 IsTimed (Entries e) = IsSmallText e

@@ -7,20 +7,20 @@ use Rattle.merge_model.specs.declared.link.Link.{Link}
 use Rattle.merge_model.specs.declared.link.Link.TheVariants.{Track, Entries}
 use Rattle.merge_model.specs.declared.link.TrackLink.{TrackLink}
 
--- a block by its head and frame count, with empty frames
+-- the buffered block `b` by its head and its number of frames; the frames are empty, since a survey doesn't read them
 abbrev pub by_head : Buffered → Block
 by_head b = block_with b.head (replicate b.frames []) [] []
 
--- the number of the track's frames in a block
+-- the number of frames of the track `t` in the block `b`; 0 if it is another track's
 abbrev pub frames_of : TrackLink → Block → ℕ
 frames_of t b = if b.track == t.number then length b.frames else 0
 
--- the number of the link's frames in a block; 0 for a text
+-- the number of frames that the block `b` adds to a link's track; 0 for another track's block or a text
 abbrev pub link_frames : Block → Link → ℕ
 link_frames b (Track t) = frames_of t b
 link_frames b (Entries e) = 0
 
--- the frame counts of the links after one more block
+-- the numbers of frames of the links' tracks, in the second argument, after the block `b` was counted
 abbrev pub counted_for : Block → List ℕ → List Link → List ℕ
 counted_for b [] links = []
 counted_for b (n ∷ counts) [] = n ∷ counts

@@ -3,7 +3,7 @@ use Rattle.std.specs.Prelude.{◌≡◌}
 use Rattle.mkv_io.specs.LiveFiles.{LiveFiles}
 use Rattle.lanes.specs.Lane.{IsEnded, IsReady, IsTold, KeepsLane, LaneSeen, due, files_length, left, told_in_all}
 
--- The output track `l` is the same among `new` as among `old`. It can be advanced, and the same blocks, damaged places and bytes are left.
+-- The output track `l` is the same among the files `new` as among `old`. It can be advanced, and the same blocks, damaged places and bytes are left.
 pub record StandsAmong (old new : LiveFiles) (l : LaneSeen) : Type 0 where
   pub ready : IsReady new l
   pub told : IsTold old l → IsTold new l
@@ -12,10 +12,10 @@ pub record StandsAmong (old new : LiveFiles) (l : LaneSeen) : Type 0 where
   pub due : due new l ≡ due old l
   pub length : files_length new l ≡ files_length old l
 
--- Writes to files other than its links' don't affect an output track.
+-- Writes that changed the files from `old` to `new`, but not the ones of its links, don't affect an output track.
 abbrev pub AreUnaffectedByWrites : Type 0
 AreUnaffectedByWrites = (old new : LiveFiles) (l : LaneSeen) → KeepsLane old new l → IsReady old l → StandsAmong old new l
 
--- An output track that has ended has reached all damaged places that are reported at the end.
+-- An output track that has ended has met all damaged places that are reported at the end.
 abbrev pub EndedHaveToldAll : Type 0
 EndedHaveToldAll = (f : LiveFiles) (l : LaneSeen) → IsReady f l → IsEnded l → told_in_all f l ≡ l.walk.told.items

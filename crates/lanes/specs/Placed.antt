@@ -11,26 +11,26 @@ use Rattle.merge_model.specs.declared.link.TrackLink.{TrackLink}
 use Rattle.merge_model.specs.declared.link.TextLink.{TextLink}
 use Rattle.lanes.specs.declared.place.Placed.{Placed}
 
--- the block `b` with its time in the track `t`, after `k` frames of the track
+-- the block `b` with its time for the link `t`: its own or a timestamp file's. `k` frames of the track precede it.
 abbrev pub at_time : TrackLink → ℕ → Block → Block
 at_time t k b = record b { time = time_for (listing_of t) k b.time }
 
--- the block `b` of a track's file, placed in the output, or nothing if it is dropped
+-- the block `b` of a file as the link `t` places it in the output, or nothing if it is dropped. `k` frames of the track precede it.
 abbrev pub track_placed : ℕ → TrackLink → ℕ → Block → List OutputBlock
 track_placed scale t k b = if b.track == t.number then placed scale (placing_of t) (at_time t k b) else []
 
--- the visible parts of a placed block
+-- the buffered block `b` that the link `t` has placed as `p`, as plain values
 abbrev pub track_lent : TrackLink → Buffered → Placed → Lent
 track_lent t b p = record { head = p.head; prefix = t.prefix; body = b.body; sizes = b.sizes; references = p.references.items; kept = b.kept }
 
--- an entry of a text, placed in the output, or nothing if it is dropped
+-- the subtitle `e` as the text `t` places it in the output, or nothing if it is dropped
 abbrev pub entry_placed : ℕ → TextLink → Entry → List OutputBlock
 entry_placed scale t e = placed scale (text_with t []).placing (entry_block e)
 
--- the visible parts of a placed entry with the text `text`: one frame
+-- the subtitle with the text `text` that was placed as `p`, as plain values: one frame
 abbrev pub text_lent : List ℕ → Placed → Lent
 text_lent text p = record { head = p.head; prefix = []; body = text; sizes = p.one_size; references = p.references.items; kept = [] }
 
--- the visible parts of the placement `p` before any block
+-- no block, as plain values, for an output track that hasn't placed one
 abbrev pub nothing_lent : Placed → Lent
 nothing_lent p = record { head = p.head; prefix = []; body = []; sizes = []; references = p.references.items; kept = [] }

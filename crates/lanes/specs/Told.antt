@@ -5,35 +5,35 @@ use Rattle.mkv_io.specs.declared.damage.Damage.{Damage}
 use Rattle.cluster_reader.specs.ToldDamages.{ToldDamages, with_damage}
 use Rattle.lanes.specs.declared.damages.LinkDamage.{LinkDamage}
 
--- the report `t` with damaged places added
+-- the report `t` of damaged places with more of them added
 abbrev pub with_damages : ToldDamages → List Damage → ToldDamages
 with_damages t [] = t
 with_damages t (d ∷ ds) = with_damages (with_damage t d) ds
 
--- the reports of several links with their damaged places added
+-- the reports of several links, each with the damaged places added that the second list has for it
 abbrev pub with_all : List ToldDamages → List (List Damage) → List ToldDamages
 with_all [] ds = []
 with_all (t ∷ ts) [] = t ∷ ts
 with_all (t ∷ ts) (d ∷ ds) = with_damages t d ∷ with_all ts ds
 
--- a damaged place of the link with the number `number`
+-- the damaged place `d` in the file of the link with the number `number`, counted from 0
 abbrev pub of_link : ℕ → Damage → LinkDamage
 of_link number d = record { link = number; damage = d }
 
--- the damaged places that are reported one by one, link after link, with link numbers from `number` on
+-- the damaged places that are reported one by one, link after link; the first report is of the link with the number `number`
 abbrev pub damages_from : ℕ → List ToldDamages → List LinkDamage
 damages_from number [] = []
 damages_from number (t ∷ ts) = map (of_link number) t.first ++ damages_from (suc number) ts
 
--- the damaged places of all links that are reported one by one, with link numbers from 0
+-- the damaged places of all links of an output track that are reported one by one; links are numbered from 0
 abbrev pub link_damages : List ToldDamages → List LinkDamage
 link_damages ts = damages_from 0 ts
 
--- the number of damaged places beyond those that are reported each, or 0 if there is no report
+-- the number of damaged places in a report after the first hundred, or 0 if there is no report
 abbrev pub more_in : Option ToldDamages → ℕ
 more_in None = 0
 more_in (Some t) = t.more
 
--- the number of the link's other damaged places; 0 if there is no such link
+-- the number of damaged places of the link with the number `number`, counted from 0, after its first hundred
 abbrev pub more_of : List ToldDamages → ℕ → ℕ
 more_of ts number = more_in (slice_get ts number)

@@ -1,4 +1,4 @@
--- The effect of one turn on a walk.
+-- The effect of one turn of the walk of an output track.
 use Rattle.std.specs.Prelude.{◌≡◌, ℕ, ◌+◌, ◌<◌, ◌≤◌, ⊤, List, [], ◌∷◌, Option, Some, None, Result, Ok, Err}
 use Rattle.std.specs.List.{All}
 use Rattle.mkv_io.specs.declared.outside.ReadEnd.{ReadEnd}
@@ -15,55 +15,58 @@ use Rattle.lanes.specs.declared.lane.LaneStep.{LaneStep}
 use Rattle.lanes.specs.declared.lane.LaneStep.TheVariants.{Block, End}
 use Rattle.lanes.specs.declared.walk.Walk.{Walk}
 
--- The first of the blocks is taken, all of them are left, or there are none.
+-- A turn has changed the blocks that are left from `old` to `new`. It placed the first of them, as `lent`, or none, or there are none left.
 abbrev pub GivesFirst : List Ordered → List Ordered → Lent → Result (Option LaneStep) ReadEnd → Type 0
 GivesFirst old new lent (Ok None) = new ≡ old
 GivesFirst old new lent (Ok (Some Block)) = old ≡ lent_ordered lent ∷ new
 GivesFirst old new lent (Ok (Some End)) = (old ≡ []) × (new ≡ [])
 GivesFirst old new lent (Err end) = new ≡ old
 
--- A turn takes the first block that was left or none, and the damaged places that are reported at the end are the same.
+-- A turn has changed the walk over `links` from `old` to `new`. It placed the first block that was left, or none, and the damaged places that are
+-- reported at the end are the same.
 pub record Turns (f : LiveFiles) (scale : ℕ) (links : List Link) (old new : Walk) (result : Result (Option LaneStep) ReadEnd) : Type 0 where
   pub blocks : GivesFirst (left f scale links old) (left f scale links new) (lent_in links new) result
   pub damages : told_in_all f links new ≡ told_in_all f links old
 
--- A turn is right if the files of the links are visible to the proof.
+-- A turn has changed the walk over `links` from `old` to `new` as `Turns` requires, if their files are visible to the proof.
 abbrev pub TurnsIfTold : LiveFiles → ℕ → List Link → Walk → Walk → Result (Option LaneStep) ReadEnd → Type 0
 TurnsIfTold f scale links old new result = All (IsToldLink f) links → Turns f scale links old new result
 
--- The last block can be written, and its order number is the greatest tick.
+-- The last block of the walk `w` over `links` can be written, in an output of `scale` nanoseconds per tick. Its order number is the greatest tick up
+-- to now.
 pub record LendsBlock (scale : ℕ) (links : List Link) (w : Walk) : Type 0 where
   pub lent : IsLent (lent_in links w)
   pub ticks : HasFewTicks scale w.placed
   pub order : w.placed.head.order ≡ w.greatest
 
--- By the result of a turn, its block can be written if there is one.
+-- A turn with this result has left the walk `w`. If it placed a block, the block can be written.
 abbrev pub LendsFor : ℕ → List Link → Walk → Option LaneStep → Type 0
 LendsFor scale links w None = ⊤
 LendsFor scale links w (Some Block) = LendsBlock scale links w
 LendsFor scale links w (Some End) = ⊤
 
--- No more turns are left than before, and all links were left.
+-- The walk over `links` has ended. It has no more turns left in `new` than it had in `old`.
 pub record Ends (links : List Link) (old new : Walk) : Type 0 where
   pub on : way links new ≤ way links old
   pub ended : IsEnded links new
 
--- Fewer turns are left, or all links were left.
+-- A turn with this result has changed the walk over `links` from `old` to `new`: fewer turns are left, or all links were left.
 abbrev pub GoesOn : List Link → Walk → Walk → Option LaneStep → Type 0
 GoesOn links old new None = way links new < way links old
 GoesOn links old new (Some Block) = way links new < way links old
 GoesOn links old new (Some End) = Ends links old new
 
--- A turn moves forwards, and its block can be written.
+-- A turn has changed the walk over `links` from `old` to `new`: it moved forwards, and its block, if there is one, can be written.
 pub record Moves (scale : ℕ) (links : List Link) (old new : Walk) (turn : Option LaneStep) : Type 0 where
   pub on : GoesOn links old new turn
   pub lends : LendsFor scale links new turn
 
--- The bytes that a call reads aren't due any more. A failed call may read the length of the files once more.
+-- A call that changed the walk over `links` from `old` to `new` has raised the number of bytes read from `before` to `now`. They aren't due any more.
+-- A failed call may read the files' length once more.
 abbrev pub Pays : {T : Type 0} → LiveFiles → List Link → Walk → Walk → ℕ → ℕ → Result T ReadEnd → Type 0
 Pays f links old new before now (Ok answer) = now + due f links new ≤ before + due f links old
 Pays f links old new before now (Err end) = now + due f links new ≤ before + due f links old + files_length f links
 
--- The bytes that a call reads through its source aren't due any more, as `Pays`.
+-- A call has read only bytes that were due, as `Pays` requires. It changed the source from `src` to `src'`, and the walk from `old` to `new`.
 abbrev pub PaysFor : {S T : Type 0} → Ghosts S → S → S → List Link → Walk → Walk → Result T ReadEnd → Type 0
 PaysFor r src src' links old new result = Pays (live_files r src) links old new (r.octets_read src) (r.octets_read src') result

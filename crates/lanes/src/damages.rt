@@ -1,4 +1,4 @@
-//! Damaged places that an output track has reached, by link
+//! Damaged places that an output track has met up to now, by link
 
 ghost use Rattle.std.specs.Prelude.{◌≡◌};
 ghost use Rattle.std.specs.List.{slice_get};
@@ -7,7 +7,7 @@ ghost use Rattle.lanes.specs.Told.{link_damages, more_of};
 use cluster_reader::Damages;
 use mkv_io::Damage;
 
-/// Damaged place in a link's file
+/// Damaged place in the file of a link
 #[derive(Clone, Copy, Debug, PartialEq, Eq)]
 pub struct LinkDamage {
     /// Number of the link in its output track, counted from 0
@@ -15,7 +15,8 @@ pub struct LinkDamage {
     pub damage: Damage,
 }
 
-/// Returns the reported damaged place with the number `k`, counted from 0, link after link.
+/// Returns the damaged place with the number `k`, counted from 0, among the ones in `told` that are reported one by
+/// one. They are counted link after link; `told` has an item for each link of an output track.
 pub fn damage_at(told: &[Damages], k: usize) -> Option<LinkDamage>
     ensures { result ≡ slice_get (link_damages told.now) k }
 {
@@ -33,7 +34,8 @@ pub fn damage_at(told: &[Damages], k: usize) -> Option<LinkDamage>
     None
 }
 
-/// Returns the number of damaged places of the link that aren't reported one by one.
+/// Returns the number of damaged places of the link with the number `link`, counted from 0, that aren't reported one by
+/// one. `told` has an item for each link of an output track.
 pub fn more_of(told: &[Damages], link: usize) -> u64
     ensures { result ≡ more_of told.now link }
 {

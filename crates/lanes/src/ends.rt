@@ -16,7 +16,8 @@ use cluster_reader::Cursor;
 use merge_model::{Link, TextLink, TrackLink};
 use mkv_io::Entry;
 
-/// Returns the duration of a block in nanoseconds: its own, or the frames' default durations, or 0.
+/// Returns the duration of a block of `frames` frames, in nanoseconds: its own `duration`, or else the track's
+/// `default_duration` for each frame, or else 0.
 fn lasting(duration: Option<u64>, default_duration: Option<u64>, frames: u16) -> u64
     requires duration { IfSome duration (λ d. d < TOO_LARGE_TIME) }
     requires default { IfSome default_duration (λ d. d < 2 ^ 48) }
@@ -33,8 +34,9 @@ fn lasting(duration: Option<u64>, default_duration: Option<u64>, frames: u16) ->
     }
 }
 
-/// Returns the end of the cursor's block in a track, before its append offset. `before` is the number of the track's
-/// previous frames. The end is 0 if the block isn't the track's or is dropped.
+/// Returns the end in nanoseconds of the block at `cursor` in the output track that `track` feeds, with the delay and
+/// without the append offset. `before` frames of the track precede it. The end is 0 if the block isn't the track's or
+/// is dropped.
 fn track_end(track: &TrackLink, before: u64, cursor: &Cursor) -> u64
     requires { IsTimedTrack track.now }
     ensures exact { result ≡ track_end track.now before (by_head cursor.now.block) }
@@ -51,7 +53,8 @@ fn track_end(track: &TrackLink, before: u64, cursor: &Cursor) -> u64
     t + lasting(block.duration, track.default_duration, cursor.frames())
 }
 
-/// Returns the end of the cursor's block in a link, before its append offset; 0 for a text.
+/// Returns the end in nanoseconds of the block at `cursor` for one link, without the append offset. `before` frames of
+/// the link's track precede it. The end is 0 for a text, which has no such block.
 fn link_end(link: &Link, before: u64, cursor: &Cursor) -> u64
     requires { IsTimed link.now }
     ensures exact { result ≡ link_end (by_head cursor.now.block) before link.now }
@@ -63,7 +66,8 @@ fn link_end(link: &Link, before: u64, cursor: &Cursor) -> u64
     }
 }
 
-/// Returns the number of frames of the link's track in the cursor's block; 0 for a text.
+/// Returns the number of frames that the block at `cursor` adds to the track of `link`; 0 for another track's block or
+/// a text.
 fn link_frames(link: &Link, cursor: &Cursor) -> u64
     ensures exact { result ≡ link_frames (by_head cursor.now.block) link.now }
     ensures few { result ≤ 256 }
@@ -74,8 +78,8 @@ fn link_frames(link: &Link, cursor: &Cursor) -> u64
     }
 }
 
-/// Returns the greatest of `end` and the ends of the cursor's block in all links. `before` has the number of previous
-/// frames of each link's track.
+/// Returns the greatest of `end` and the ends of the block at `cursor` for all links, in nanoseconds. For each link,
+/// `before` has the number of frames of its track that precede the block.
 pub fn greatest_end(links: &[Link], before: &[u64], cursor: &Cursor, end: u64) -> u64
     requires links { All IsTimed links.now }
     requires each { length before.now ≡ length links.now }
@@ -90,7 +94,8 @@ pub fn greatest_end(links: &[Link], before: &[u64], cursor: &Cursor, end: u64) -
     end
 }
 
-/// Adds the frames of the cursor's block to the count of each link's track.
+/// Adds the frames of the block at `cursor` to `counts`, which has the number of frames met up to now for each link's
+/// track.
 pub fn count_frames(links: &[Link], cursor: &Cursor, counts: &mut [u64])
     requires each { length counts.old ≡ length links.now }
     requires room { All (λ n. n < 2 ^ 63) counts.old }
@@ -102,7 +107,8 @@ pub fn count_frames(links: &[Link], cursor: &Cursor, counts: &mut [u64])
     }
 }
 
-/// Returns the end of a text's entry, before its append offset; 0 if it is dropped.
+/// Returns the end in nanoseconds of the subtitle `entry`, with the delay and without the append offset; 0 if it is
+/// dropped.
 fn entry_end(text: &TextLink, entry: &Entry) -> u64
     requires moves { CanMove text.now.delay text.now.shift }
     requires small { IsSmallEntry entry.now }
@@ -115,7 +121,7 @@ fn entry_end(text: &TextLink, entry: &Entry) -> u64
     }
 }
 
-/// Returns the greatest of `end` and the ends of a text's entries.
+/// Returns the greatest of `end` and the ends of the subtitles of `text`, in nanoseconds.
 fn text_end(text: &TextLink, end: u64) -> u64
     requires moves { CanMove text.now.delay text.now.shift }
     requires small { All IsSmallEntry text.now.entries }
@@ -130,7 +136,7 @@ fn text_end(text: &TextLink, end: u64) -> u64
     end
 }
 
-/// Returns the greatest of 0 and the ends of all texts.
+/// Returns the greatest end of the subtitles in those links that are texts, in nanoseconds, or 0 if there is none.
 pub fn texts_end(links: &[Link]) -> u64
     requires { All IsTimed links.now }
     ensures exact { result ≡ texts_end links.now }

@@ -1,4 +1,4 @@
-//! Walk over a whole file
+//! Survey of a file: a walk over all its blocks, to find its end before another file is appended to it
 
 ghost use Rattle.std.specs.Prelude.{◌≡◌, ◌*◌, ◌≤◌, IfOk, length, replicate};
 ghost use Rattle.std.specs.List.{All};
@@ -20,8 +20,8 @@ use merge_model::{Link, TrackLink};
 use mkv_io::{List, ReadEnd, Reads};
 use std::alloc::Global;
 
-/// Reads all that `cursor` has left, and counts the frames of each link's track. It only needs the heads of the
-/// blocks.
+/// Reads the heads of all blocks that are left of the file at `cursor`, and returns the greatest end for the links.
+/// `counts` has the number of frames met up to now for each link's track.
 fn walk<R: Reads>(
     cursor: &mut Cursor,
     links: &[Link],
@@ -53,7 +53,7 @@ fn walk<R: Reads>(
     }
 }
 
-/// Returns the first link to a track of a file, if any.
+/// Returns the first link to a track of a file. A survey reads its file, since all links are of the same one.
 fn first_track(links: &[Link]) -> Option<&TrackLink>
     ensures { option_copied result ≡ first_track links.now }
 {
@@ -65,8 +65,8 @@ fn first_track(links: &[Link]) -> Option<&TrackLink>
     None
 }
 
-/// Returns the end of a file over all links that take its blocks, and whether it can be read to its end. It reads the
-/// heads of the file's blocks.
+/// Returns the end of the file of `links` in nanoseconds, without its append offset, and whether damage ends its
+/// reading. Each link is for a track of that file, or the only text. Reads the heads of its blocks; for a text nothing.
 pub fn survey<R: Reads>(alloc: Global, src: &mut R, links: &List<Link>) -> Result<Survey, ReadEnd>
     requires open { All (IsOpenLink (live_files R.Reads src.old)) links.now }
     requires timed { All IsTimed links.now }

@@ -23,16 +23,16 @@ use output_model::OutHead;
 use std::alloc::{AllocError, Global};
 use std::marker::Model;
 
-/// Result of advancing an output track
+/// Result of `Lane::advance`
 #[derive(Clone, Copy, Debug, PartialEq, Eq)]
 pub enum LaneStep {
-    /// Block, available until the output track is advanced again
+    /// A block was read, and is available until the output track is advanced again
     Block,
-    /// End: all blocks were returned
+    /// All blocks were returned
     End,
 }
 
-// Returns the text of the entry before `next`, or of the first one.
+// Returns the text of the subtitle that a walk has placed last, if `next` is the index of the next one, counted from 0.
 fn text_before(text: &TextLink, next: usize) -> &[u8]
     ensures exact { result.now ≡ text_of (slice_get text.now.entries (next - 1)) }
     ensures most { All IsSmallEntry text.now.entries → length result.now ≤ MAX_BLOCK_LEN }
@@ -43,9 +43,9 @@ fn text_before(text: &TextLink, next: usize) -> &[u8]
     }
 }
 
-/// Block of an output track: its head, the prefix of each frame, and the frames' bytes in sequence with their sizes.
-/// The references are in ticks relative to it, and `kept` has the bytes of its group's kept children. An entry of a
-/// text has no prefix and no kept children.
+/// Borrowed block of an output track, as it goes into a Cluster. It has the head, the prefix of each frame, and the
+/// frames' bytes in sequence with their sizes in bytes. The references are in ticks relative to it, and `kept` has the
+/// bytes of its group's kept children. A subtitle of a text has no prefix and no kept children.
 #[derive(Clone, Copy)]
 pub struct LaneBlock<'a> {
     pub head: &'a OutHead,
@@ -56,7 +56,7 @@ pub struct LaneBlock<'a> {
     pub kept: &'a [u8],
 }
 
-/// Blocks of one output track in sequence
+/// Output track of a merge: returns its blocks one by one, as they are placed in the output
 #[derive(Drop)]
 pub struct Lane {
     alloc: Global,
@@ -80,8 +80,8 @@ impl Model for Lane {
 }
 
 impl Lane {
-    /// Returns an output track with the links in `spec`, for an output with `scale` nanoseconds per tick. It
-    /// allocates memory for the damaged places, and reads nothing.
+    /// Returns an output track with the links in `spec`, before its first block. The output has `scale` nanoseconds per
+    /// tick. Allocates memory for the damaged places, and reads nothing.
     pub fn start(alloc: Global, spec: LaneSpec, scale: u64) -> Result<Lane, AllocError>
         requires scale { 1 ≤ scale }
         requires most { length spec.links ≤ MAX_LINKS }
@@ -100,8 +100,8 @@ impl Lane {
         })
     }
 
-    /// Reads the next block. Returns `End` after the last one, at each call. After an error the same block is due,
-    /// and damaged places that were reached stay reported.
+    /// Reads the next block, which `lent` then returns. Returns `End` after the last one, at each call. After an error
+    /// the same block is due, and damaged places that were met stay reported.
     pub fn advance<R: Reads>(&mut self, src: &mut R) -> Result<LaneStep, ReadEnd>
         requires { IsReady (live_files R.Reads src.old) self.old }
         ensures gives { GivesIfTold (live_files R.Reads src.old) self.old self.new result }
@@ -131,37 +131,38 @@ impl Lane {
         }
     }
 
-    /// Returns the reached damaged place with the number `k`, counted from 0. Only the first hundred of each link
-    /// count, link after link.
+    /// Returns the damaged place with the number `k`, counted from 0, among the ones that were met up to now. Only the
+    /// first hundred of each link count, link after link.
     pub fn damage(&self, k: usize) -> Option<LinkDamage>
         ensures { result ≡ slice_get (link_damages self.now.walk.told.items) k }
     {
         damage_at(self.walk.told.as_slice(), k)
     }
 
-    /// Returns the number of the link's other damaged places that were reached. Links are counted from 0.
+    /// Returns the number of damaged places of the link with the number `link`, counted from 0, after its first
+    /// hundred.
     pub fn more(&self, link: usize) -> u64
         ensures { result ≡ more_of self.now.walk.told.items link }
     {
         more_of(self.walk.told.as_slice(), link)
     }
 
-    /// Returns the damaged places of the link that were reached, counted from 0: the first hundred, and the number of
-    /// others.
+    /// Returns the damaged places that were met up to now in the file of the link `link`, counted from 0. They are the
+    /// first hundred, and the number of others.
     pub fn damages(&self, link: usize) -> Option<&Damages>
         ensures { option_copied result ≡ slice_get self.now.walk.told.items link }
     {
         self.walk.told.get(link)
     }
 
-    /// Returns the head of the block.
+    /// Returns the head of the last block, with its order number for the merge.
     pub fn head(&self) -> &OutHead
         ensures { result.now ≡ (lent self.now).head }
     {
         &self.walk.placed.head
     }
 
-    /// Returns the last block, with the head that it has in the output.
+    /// Returns the last block, with the head and the references that it has in the output.
     pub fn lent(&self) -> LaneBlock<'_>
         ensures exact { as_lent result ≡ lent self.now }
         ensures few { HasFew result }

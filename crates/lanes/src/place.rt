@@ -23,19 +23,19 @@ use merge_model::{TextLink, TrackLink};
 use mkv_io::Entry;
 use output_model::OutHead;
 
-/// Parts of the last block that an output track keeps, other than the bytes of its frames
+/// Parts of the last block of an output track, as placed in the output, except for the bytes of its frames
 #[derive(Drop)]
 pub struct Placed {
-    /// Head of the block
+    /// Head of the block, with times in ticks of the output
     pub head: OutHead,
     /// Ticks from the block to the blocks that it references
     pub references: ArrayVec<i64, 64>,
-    /// Size of its only frame, if it is an entry of a text
+    /// Size of its only frame in bytes, if it is a subtitle of a text
     pub one_size: [u32; 1],
 }
 
 impl Placed {
-    /// Returns the placement before the first block.
+    /// Returns the parts of no block, for an output track before its first one.
     pub fn nothing() -> Placed {
         let head = OutHead {
             tick: 0,
@@ -55,7 +55,8 @@ impl Placed {
     }
 }
 
-// Writes the references of a block at the time `t`, in ticks instead of nanoseconds, to `into`.
+// Writes the `references` of a block at `t` nanoseconds of the output to `into`: the distances in nanoseconds become
+// ticks of `scale` nanoseconds.
 fn put_references(scale: u64, t: u64, references: &[i64], into: &mut ArrayVec<i64, 64>)
     requires scale { 1 ≤ scale }
     requires early { t < most_time }
@@ -70,7 +71,8 @@ fn put_references(scale: u64, t: u64, references: &[i64], into: &mut ArrayVec<i6
     }
 }
 
-// Returns the duration in ticks of a block at the time `t`, if it has a duration.
+// Returns the duration in ticks of `scale` nanoseconds of a block at `t` nanoseconds of the output, if it has a
+// `duration` in nanoseconds.
 fn duration_ticks(scale: u64, t: u64, duration: Option<u64>) -> Option<u64>
     requires scale { 1 ≤ scale }
     requires early { t < most_time }
@@ -84,7 +86,7 @@ fn duration_ticks(scale: u64, t: u64, duration: Option<u64>) -> Option<u64>
     }
 }
 
-// Returns the lacing for the output: a single frame has none.
+// Returns the lacing of a block in the output: `lace`, or none for a single frame. `sizes` has the sizes of its frames.
 #[tactic(auto, using(crate::proofs::PlaceLemmas::laces))]
 fn lace_for(sizes: &[u32], lace: Lace) -> Lace
     ensures { (body : AList ℕ) → result ≡ lace_for (frames_cut sizes.now body) lace }
@@ -92,8 +94,9 @@ fn lace_for(sizes: &[u32], lace: Lace) -> Lace
     if sizes.len() == 1 { Lace::None } else { lace }
 }
 
-/// Places the cursor's block in the output, after `before` frames of the track and blocks up to the tick `greatest`.
-/// Returns false if it is dropped: it is another track's, or before the start of the output.
+/// Places the block at `cursor` in the output, and writes its parts to `placed`. `before` frames of the track precede
+/// it, and `greatest` is the greatest tick of the output track up to now. Returns false if the block is dropped: it is
+/// another track's, or before time 0.
 #[tactic(auto, using(crate::proofs::TickLemmas::few))]
 pub fn place_block(
     track: &TrackLink,
@@ -136,8 +139,8 @@ pub fn place_block(
     true
 }
 
-/// Places an entry of a text in the output, after blocks up to the tick `greatest`. Returns false if it is dropped:
-/// it is before the start of the output.
+/// Places the subtitle `entry` in the output, and writes its parts to `placed`. `greatest` is the greatest tick of the
+/// output track up to now. Returns false if the subtitle is dropped: it is before time 0.
 #[tactic(auto, using(crate::proofs::TickLemmas::few))]
 pub fn place_entry(
     text: &TextLink,

@@ -1,4 +1,4 @@
-//! Times of an output's blocks, in nanoseconds and ticks
+//! Times of an output's blocks, in nanoseconds and in ticks of `scale` nanoseconds
 
 ghost use Rattle.std.specs.Prelude.{◌≡◌, ◌+◌, ◌+ℤ◌, ◌*◌, ◌<◌, ◌≤◌, ◌^◌, nat_abs, IfSome};
 ghost use Rattle.block_reader.specs.Time.{IsSmallTime};
@@ -6,7 +6,7 @@ ghost use Rattle.merge_model.specs.Ticks.{since_start, tick_of, ticks_for, ticks
 ghost use Rattle.merge_model.specs.declared.limits.TheConstants.{MAX_SHIFT, TOO_LARGE_DELAY};
 ghost use Rattle.lanes.specs.Times.{output_time, most_time, ticks_back};
 
-/// Returns a time with its delay, or nothing if it is before the start.
+/// Returns `time` with `delay`, both in nanoseconds, or nothing if that is before time 0.
 pub fn delayed(time: i64, delay: i64) -> Option<u64>
     requires time { IsSmallTime time }
     requires delay { nat_abs delay < TOO_LARGE_DELAY }
@@ -20,7 +20,8 @@ pub fn delayed(time: i64, delay: i64) -> Option<u64>
     Some(delayed as u64)
 }
 
-/// Returns the time of a block in the output, or nothing if it is before the start.
+/// Returns the time in the output of a block at `time` in its file, or nothing if it is before time 0. `delay` comes
+/// from the options, and `shift` is the append offset; all are in nanoseconds.
 pub fn output_time(time: i64, delay: i64, shift: u64) -> Option<u64>
     requires time { IsSmallTime time }
     requires delay { nat_abs delay < TOO_LARGE_DELAY }
@@ -31,7 +32,8 @@ pub fn output_time(time: i64, delay: i64, shift: u64) -> Option<u64>
     Some(delayed(time, delay)? + shift)
 }
 
-/// Returns the tick nearest to the time `t`.
+/// Returns the tick nearest to the time `t`, if a tick has `scale` nanoseconds. If two ticks are equally near, it is
+/// the later.
 pub fn tick_of(scale: u64, t: u64) -> u64
     requires { 1 ≤ scale }
     ensures { result ≡ tick_of scale t }
@@ -45,7 +47,8 @@ pub fn tick_of(scale: u64, t: u64) -> u64
     }
 }
 
-/// Returns `duration` nanoseconds from the time `t` on, in ticks.
+/// Returns the duration in ticks of `duration` nanoseconds from the time `t`, in nanoseconds: the distance of the ticks
+/// nearest to start and end.
 #[tactic(auto, using(crate::proofs::TickLemmas::small))]
 pub fn ticks_for(scale: u64, t: u64, duration: u64) -> u64
     requires scale { 1 ≤ scale }
@@ -56,7 +59,8 @@ pub fn ticks_for(scale: u64, t: u64, duration: u64) -> u64
     tick_of(scale, t + duration) - tick_of(scale, t)
 }
 
-// Returns `size` nanoseconds backwards from the time `t`, in ticks.
+// Returns the distance in ticks from the time `t` to the time `size` nanoseconds before it, between the ticks nearest
+// to both. That time may be before time 0.
 #[tactic(auto, using(crate::proofs::TickLemmas::small))]
 fn ticks_back(scale: u64, t: u64, size: u64) -> u64
     requires { 1 ≤ scale }
@@ -74,7 +78,8 @@ fn ticks_back(scale: u64, t: u64, size: u64) -> u64
     back as u64
 }
 
-/// Returns `away` nanoseconds from the time `t`, forwards or backwards, in ticks.
+/// Returns the distance in ticks from the time `t` to the time `away` nanoseconds after it, or before it if `away` is
+/// negative. It is the distance of the ticks nearest to both.
 pub fn ticks_to(scale: u64, t: u64, away: i64) -> i64
     requires scale { 1 ≤ scale }
     requires early { t < most_time }

@@ -1,4 +1,4 @@
-//! One turn of a walk: the next event of a link
+//! One turn of the walk of an output track: the next event of its current link
 
 ghost use Rattle.std.specs.Prelude.{◌≡◌, ◌≤◌, ◌&&◌, not, Some, Ok, None, IfOk};
 ghost use Rattle.std.specs.List.{All, slice_get};
@@ -19,14 +19,15 @@ use merge_model::{Link, TextLink, TrackLink};
 use mkv_io::{ReadEnd, Reads};
 use std::alloc::Global;
 
-// Checks whether damage ended the reading of the track's file and of the files after it.
+// Checks whether damage ended the reading of the track's file, and with it the output track.
 fn stopped(track: &TrackLink, cursor: &Cursor) -> bool
     ensures { result ≡ (not track.now.goes_on && cursor.now.stopped) }
 {
     !track.goes_on && cursor.stopped()
 }
 
-// Takes one turn in the file of a track. Returns `None` if no block was placed.
+// Takes one turn in the file of the link `track`: opens it, or reads its next event. Returns `None` if no block was
+// placed.
 fn turn_track<R: Reads>(
     alloc: Global,
     links: &[Link],
@@ -81,7 +82,8 @@ fn turn_track<R: Reads>(
     }
 }
 
-// Takes one turn in a text. Returns `None` if no entry was placed.
+// Takes one turn in the text of the link `text`: places its next subtitle, or leaves it. Returns `None` if no subtitle
+// was placed.
 fn turn_text(links: &[Link], text: &TextLink, scale: u64, walk: &mut Walk) -> Option<LaneStep>
     requires here { slice_get links.now walk.old.at ≡ Some (AText text.now) }
     requires scale { 1 ≤ scale }
@@ -105,7 +107,8 @@ fn turn_text(links: &[Link], text: &TextLink, scale: u64, walk: &mut Walk) -> Op
     }
 }
 
-/// Takes one turn of a walk over `links`. Returns `None` if no block was placed and the walk hasn't ended.
+/// Takes one turn of the walk of an output track over `links`. Returns `None` if no block was placed and the walk
+/// hasn't ended; `Lane::advance` then takes another.
 pub fn take_turn<R: Reads>(
     alloc: Global,
     links: &[Link],

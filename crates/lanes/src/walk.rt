@@ -1,4 +1,4 @@
-//! Walk over the links of an output track
+//! Walk of an output track over its links
 
 ghost use Rattle.std.specs.Prelude.{◌≡◌, ◌<◌, IfOk};
 ghost use Rattle.lanes.specs.Begun.{Begins};
@@ -8,29 +8,29 @@ use crate::place::Placed;
 use cluster_reader::{Cursor, Damages};
 use std::alloc::{AllocError, Global};
 
-/// Place of an output track in its links, and the parts of its last block
+/// State of an output track: its current link, the place in it, and the parts of its last block
 #[derive(Drop)]
 pub struct Walk {
-    /// Number of the current link, counted from 0
+    /// Number of the current link, counted from 0; the number of links at the end
     pub at: usize,
-    /// Cursor in its file, after the file was opened
+    /// Cursor in the file of the current link, once the file was opened
     pub cursor: Option<Cursor>,
-    /// Number of its next entry, if it is a text
+    /// Index of the next subtitle, counted from 0, if the current link is a text
     pub next: usize,
-    /// Number of its track's previous frames, if it is a track
+    /// Number of frames of the track that were met, if the current link is a track
     pub frames: u64,
-    /// Damage ended the reading of its file, and the files after it aren't read
+    /// Damage ended the reading of the current file, so that the links after it aren't read
     pub stopped: bool,
-    /// Damaged places that were reached, by link
+    /// Damaged places that were met, one item for each link
     pub told: Vec<Damages>,
-    /// Greatest tick up to now
+    /// Greatest tick of the blocks up to now
     pub greatest: u64,
-    /// Last block
+    /// Last block that was placed
     pub placed: Placed,
 }
 
 impl Walk {
-    /// Returns the walk over `count` links before its start. It allocates memory for the damaged places.
+    /// Returns the walk over `count` links at its start. Allocates memory for the damaged places.
     pub fn start(alloc: Global, count: usize) -> Result<Walk, AllocError>
         ensures { IfOk result (Begins count) }
     {
@@ -50,7 +50,7 @@ impl Walk {
         })
     }
 
-    /// Leaves the current link: goes to the next one, or after all `count` links if damage ended the reading.
+    /// Leaves the current link: goes to the next one, or past all `count` links if damage ended the reading.
     pub fn leave(&mut self, count: usize)
         requires { self.old.at < count }
         ensures { self.new ≡ behind_link count self.old }
