@@ -1,4 +1,4 @@
--- The blocks of an output track's links, by the contents of their files.
+-- The sources of output tracks by the contents of their files.
 use Rattle.std.specs.Prelude.{◌≡◌, ◌<◌, ◌≤◌, ◌^◌, ⊤, ℕ, ℤ, nat_abs, true, List, [], length, map, Option, Some}
 use Rattle.std.specs.List.{All}
 use Rattle.std.specs.Option.{option_map, unwrap_or}
@@ -21,91 +21,91 @@ use Rattle.merge_model.specs.declared.link.TextLink.{TextLink}
 
 -- ---- the blocks of a link
 
--- the bytes of a live file, if they are visible to the proof
+-- the content of the live file number `file` among `f`, or no bytes if it isn't visible to the proof
 abbrev pub octets_in : LiveFiles → ℕ → List ℕ
 octets_in f file = unwrap_or (f.content file) []
 
--- the part of a link that decides where its blocks are in the output: delay, append offset, default duration and prefix of frames
+-- the placing of the blocks of the link `t` in the output: delay, append offset, default duration and prefix of frames
 abbrev pub placing_of : TrackLink → Placing
 placing_of t = record { delay = t.delay; shift = t.shift; default_duration = t.default_duration; prefix = t.prefix }
 
--- the timestamp file of the link's frames, if there is one
+-- the timestamp file for the link `t`, if there is one
 abbrev pub listing_of : TrackLink → Option Listing
 listing_of t = option_map (λ times. times.value) t.times
 
--- the source with timestamps from a file, if there is one; `k` frames of the track precede it
+-- the source `g`, with timestamps from the file `times` instead of its own, if there is one; `k` frames of the track precede its blocks
 abbrev pub timed_given : Option Listing → ℕ → Given → Given
 timed_given times k g = record g { blocks = timed times k g.blocks }
 
--- the source of the link `t`, if its file has the events `events`
+-- the source that the link `t` is, if the events of its file are `events`
 abbrev pub track_with : TrackLink → List Event → Given
 track_with t events = going_on t.goes_on (timed_given (listing_of t) 0 (track_given (placing_of t) t.number events))
 
--- the blocks and damage of the file of the track `t`
+-- the blocks and damage of the file of the link `t`, by the contents of the files `f`
 abbrev pub track_events : LiveFiles → TrackLink → List Event
 track_events f t = events_of (with_limits t.scale) (octets_in f t.file.n) t.outline.value.segment
 
--- the source of the link `e`, if the entries `entries` are left
+-- the source that the link `e` is, if the subtitles `entries` are left of its text
 abbrev pub text_with : TextLink → List Entry → Given
 text_with e entries = text_given e.delay e.shift entries
 
--- the blocks and damaged places that a link gives to its output track
+-- the source that a link is, by the contents of the files `f`: its blocks and the damage of its file
 abbrev pub given_in : LiveFiles → Link → Given
 given_in f (Track t) = track_with t (track_events f t)
 given_in f (Entries e) = text_with e e.entries
 
--- the blocks of output tracks with these links, in an output of `scale` nanoseconds per tick
+-- the blocks of output tracks with the links `specs`, in an output with `scale` nanoseconds per tick, by the contents of the files `f`
 abbrev pub lanes_over : LiveFiles → ℕ → List (List Link) → List (List OutputBlock)
 lanes_over f scale specs = map (λ links. lane_blocks scale (map (given_in f) links)) specs
 
 -- ---- the files
 
--- The file of the track is live, and has the length of its outline.
+-- The file of the link `t` is live among `f`, and has the length of its outline. A tick of it has at least one nanosecond.
 pub record IsOpenTrack (f : LiveFiles) (t : TrackLink) : Type 0 where
   pub live : f.live t.file.n ≡ true
   pub size : f.size t.file.n ≡ t.outline.value.total
   pub scale : 1 ≤ t.scale
 
--- The file of a link is live and has the length of its outline; a text needs no file.
+-- The file of the link is live among `f`, and has the length of its outline; a text needs no file.
 abbrev pub IsOpenLink : LiveFiles → Link → Type 0
 IsOpenLink f (Track t) = IsOpenTrack f t
 IsOpenLink f (Entries e) = ⊤
 
--- The content of the track's file is visible to the proof.
+-- The content of the link's file among `f` is visible to the proof; a text needs no file.
 abbrev pub IsToldLink : LiveFiles → Link → Type 0
 IsToldLink f (Track t) = f.content t.file.n ≡ Some (octets_in f t.file.n)
 IsToldLink f (Entries e) = ⊤
 
--- The file of a link has the same length and content in `new` as in `old`.
+-- The link's file has the same length and content in `new` as in `old`; a text needs no file.
 abbrev pub KeepsLink : LiveFiles → LiveFiles → Link → Type 0
 KeepsLink old new (Track t) = IsSameFile old new t.file.n
 KeepsLink old new (Entries e) = ⊤
 
 -- ---- limits
 
--- The delay and the append offset keep their limits.
+-- The delay `delay` and the append offset `shift`, both in nanoseconds, are within their limits.
 pub record CanMove (delay : ℤ) (shift : ℕ) : Type 0 where
   pub near : nat_abs delay < TOO_LARGE_DELAY
   pub within : shift ≤ MAX_SHIFT
 
--- The entry's timestamps aren't too large, and it has at most 16 MiB of text.
+-- The start and the duration of the subtitle `e` are below 2^56 nanoseconds, and its text has at most 16 MiB.
 pub record IsSmallEntry (e : Entry) : Type 0 where
   pub start : e.start < TOO_LARGE_TIME
   pub duration : e.duration < TOO_LARGE_TIME
   pub text : length e.text ≤ 2 ^ 24
 
--- The delay, the append offset and the prefix of the track `t` are within their limits.
+-- The delay, the append offset and the prefix of the link `t` are within their limits.
 pub record IsSmallTrack (t : TrackLink) : Type 0 where
   pub moves : CanMove t.delay t.shift
   pub prefix : length t.prefix ≤ MAX_PREFIX_LEN
 
--- The text has at most 2^24 entries, and each is small.
+-- The text `e` has at most 2^24 subtitles, each within its limits. Its delay and append offset are within theirs.
 pub record IsSmallText (e : TextLink) : Type 0 where
   pub moves : CanMove e.delay e.shift
   pub few : length e.entries ≤ 2 ^ 24
   pub entries : All IsSmallEntry e.entries
 
--- The link keeps the limits of the blocks of an output track.
+-- The parts of the link are within the limits of an output track's sources.
 abbrev pub IsSmallLink : Link → Type 0
 IsSmallLink (Track t) = IsSmallTrack t
 IsSmallLink (Entries e) = IsSmallText e

@@ -1,4 +1,4 @@
--- Sources of output tracks, and the place of their blocks in the output: RFC 9559, sections 10 (Cluster Blocks), 10.3 (Block Lacing) and 11
+-- Sources of output tracks, and the placing of their blocks in the output: RFC 9559, sections 10 (Cluster Blocks), 10.3 (Block Lacing) and 11
 -- (Timestamps).
 use Rattle.std.specs.Prelude.{ℕ, ◌+◌, ◌==◌, ℤ, pos, ◌+ℤ◌, Bool, true, false, not, ◌&&◌, List, [], ◌∷◌, ◌++◌, map, filter, flat_map, Option, Some, None, is_some}
 use Rattle.std.specs.Option.{option_map}
@@ -13,23 +13,23 @@ use Rattle.merge_model.specs.Ticks.{since_start, tick_of, ticks_for, ticks_to}
 
 -- ---- a link
 
--- the place of an input's blocks in the output. It has the delay of their timestamps, the append offset, the duration of a frame without one, and
--- the bytes before each frame. Times are in nanoseconds.
+-- the placing of a source's blocks in the output. It has the delay of their timestamps, the append offset, the default duration of a frame, and the
+-- bytes before each frame. Times are in nanoseconds.
 pub record Placing : Type 0 where
   pub delay : ℤ
   pub shift : ℕ
   pub default_duration : Option ℕ
   pub prefix : List ℕ
 
--- a source. It has the blocks of a track in the order of the file, the damage of the file, whether the damage ends the reading of the files after
--- it, and the place of the blocks.
+-- a source of an output track. It has the blocks of a track in the order of the file, and the damage of the file. `stops` is true if the damage ends
+-- the reading of the sources after it.
 pub record Given : Type 0 where
   pub blocks : List Block
   pub damages : List Damage
   pub stops : Bool
   pub placing : Placing
 
--- the source with the track number `number` of a file with these events
+-- the source for the track with the TrackNumber `number` in a file with the events `events`; `p` is the placing
 abbrev pub track_given : Placing → ℕ → List Event → Given
 track_given p number events = record {
   blocks = filter (λ (b : Block). b.track == number) (blocks_of events);
@@ -38,11 +38,11 @@ track_given p number events = record {
   placing = p;
 }
 
--- the source `g`; if `goes_on`, damage doesn't end the reading of the files after it
+-- the source `g`; if `goes_on`, damage in it doesn't end the reading of the sources after it
 abbrev pub going_on : Bool → Given → Given
 going_on goes_on g = record g { stops = not goes_on && g.stops }
 
--- the entry of a text as a block: a group of one frame, which lasts as long as the entry is shown
+-- the subtitle `e` of a text as a block: a group of one frame, with the duration of the subtitle
 abbrev pub entry_block : Entry → Block
 entry_block e = record {
   track = 0;
@@ -59,7 +59,7 @@ entry_block e = record {
   offset = 0;
 }
 
--- the source of the entries of a text with this delay and append offset
+-- the source for the subtitles `entries` of a text, with this delay and append offset in nanoseconds
 abbrev pub text_given : ℤ → ℕ → List Entry → Given
 text_given delay shift entries = record {
   blocks = map entry_block entries;
@@ -70,13 +70,13 @@ text_given delay shift entries = record {
 
 -- ---- a block in the output
 
--- the lacing of a written block: none for a single frame, and otherwise the kind that it had
+-- the lacing of a written block with these frames: none for a single frame, and otherwise the input's, `kind`
 abbrev pub lace_for : List (List ℕ) → Lace → Lace
 lace_for [] kind = kind
 lace_for (frame ∷ []) kind = lace.None
 lace_for (frame ∷ other ∷ frames) kind = kind
 
--- the block at `t` nanoseconds of the output, with `prefix` before each frame; its output track isn't known yet
+-- the block `b` at `t` nanoseconds of an output with `scale` nanoseconds per tick, with `prefix` before each frame. Its output track isn't known yet.
 abbrev pub output_block : ℕ → List ℕ → ℕ → Block → OutputBlock
 output_block scale prefix t b = record {
   lane = 0;
@@ -92,19 +92,19 @@ output_block scale prefix t b = record {
   kept = b.kept;
 }
 
--- the timestamp of a block with the delay, or None if that is before the start
+-- the timestamp of the block `b` with the delay in `p`, in nanoseconds, or None if it is before time 0
 abbrev pub delayed : Placing → Block → Option ℕ
 delayed p b = since_start (b.time +ℤ p.delay)
 
--- the block with this timestamp after the delay; a block without one is dropped
+-- the block `b` as it is in the output, given its timestamp with the delay in nanoseconds; without one it is dropped
 abbrev pub placed_at : ℕ → Placing → Block → Option ℕ → List OutputBlock
 placed_at scale p b None = []
 placed_at scale p b (Some t) = output_block scale p.prefix (t + p.shift) b ∷ []
 
--- the block of the output that a block becomes, or nothing
+-- the block `b` of a source with the placing `p`, as it is in an output of `scale` nanoseconds per tick. A block before time 0 is dropped.
 abbrev pub placed : ℕ → Placing → Block → List OutputBlock
 placed scale p b = placed_at scale p b (delayed p b)
 
--- the blocks of a source, in an output of `scale` nanoseconds per tick
+-- the blocks of the source `g` as they are in an output of `scale` nanoseconds per tick, without the dropped ones
 abbrev pub given_blocks : ℕ → Given → List OutputBlock
 given_blocks scale g = flat_map (placed scale g.placing) g.blocks

@@ -1,8 +1,8 @@
 #![tactic(auto)]
 
-//! The result of a merge for its inputs: the blocks of each output track, their timestamps in ticks, and the order of
-//! all blocks. The end of a file is defined too, for appended files. The definitions, which higher crates use, are in
-//! `specs/`.
+//! The result of a merge by its inputs: the blocks of each output track, their timestamps in ticks, and the order of
+//! all blocks. It also has the end of a file, which gives the append offset of the next one. The definitions, which
+//! higher crates use, are in `specs/`.
 
 mod limits;
 mod link;

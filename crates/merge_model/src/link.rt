@@ -1,57 +1,57 @@
-//! Sources of an output track.
+//! Sources of the blocks of an output track.
 
 use element_reader::Outline;
 use ext_times::Times;
 use mkv_io::{Bytes, Entry, FileId, List};
 use std::rc::Rc;
 
-/// Sources of an output track: its links, in their order.
+/// Sources of the blocks of an output track: its links, one for each input that it continues with.
 #[derive(Drop)]
 pub struct LaneSpec {
     pub links: List<Link>,
 }
 
-/// Source of an output track in one input.
+/// Source of an output track's blocks in one input.
 #[derive(Drop)]
 pub enum Link {
-    /// A track of a Matroska file.
+    /// One track of a Matroska file.
     Track(TrackLink),
-    /// Entries of a SubRip file.
+    /// Subtitles of a SubRip text.
     Entries(TextLink),
 }
 
-/// Source track of a Matroska file.
+/// One track of a Matroska file as a source of blocks.
 #[derive(Drop)]
 pub struct TrackLink {
-    /// Live file of the track.
+    /// Open file that has the track.
     pub file: FileId,
-    /// Outline of the file.
+    /// Outline of the file, which its inputs share.
     pub outline: Rc<Outline>,
-    /// The TrackNumber.
+    /// TrackNumber of the track in the file.
     pub number: u64,
-    /// Nanoseconds per tick of the file.
+    /// Nanoseconds per tick in the file.
     pub scale: u64,
-    /// Duration of a frame of the track, in nanoseconds, if the track has a default.
+    /// Duration of a frame of the track in nanoseconds, if the track has a default.
     pub default_duration: Option<u64>,
-    /// Nanoseconds that are added to each timestamp. A block that is then before the start is dropped.
+    /// Nanoseconds that are added to each timestamp. A block that is then before time 0 is dropped.
     pub delay: i64,
-    /// Append offset: nanoseconds that are added after that.
+    /// Append offset: nanoseconds that are added after the delay.
     pub shift: u64,
     /// Bytes that are put before each frame.
     pub prefix: Bytes,
     /// Timestamps of the track's frames from a timestamp file, if there is one; frames count from 0. Each block gets
     /// the timestamp of its first frame instead of its own.
     pub times: Option<Rc<Times>>,
-    /// The files after this one are read even if damage ends its reading.
+    /// True if the links after this one are read even if damage ends its reading.
     pub goes_on: bool,
 }
 
-/// Source text: entries of a SubRip file.
+/// Subtitles of a SubRip text as a source of blocks.
 #[derive(Drop)]
 pub struct TextLink {
     pub entries: List<Entry>,
-    /// Nanoseconds that are added to each timestamp. An entry that is then before the start is dropped.
+    /// Nanoseconds that are added to each timestamp. A subtitle that is then before time 0 is dropped.
     pub delay: i64,
-    /// Append offset: nanoseconds that are added after that.
+    /// Append offset: nanoseconds that are added after the delay.
     pub shift: u64,
 }

@@ -24,83 +24,84 @@ use Rattle.remux_plan.specs.declared.plan.PlannedLane.{PlannedLane}
 
 -- ---- split
 
--- The split has times.
+-- The rule for cuts has times.
 abbrev pub is_timed : SplitSpec → Bool
 is_timed Whole = false
 is_timed (Duration by) = true
 is_timed (Times at) = true
 is_timed (Parts spans) = true
 
--- The plan is split, at times or by its load.
+-- The output of the plan `p` is cut into parts, at times or by size.
 abbrev pub is_split : MergePlan → Bool
 is_split p = is_timed p.split || is_some p.size
 
--- the marks of the output tracks that drive the cuts
+-- for each of the output tracks `lanes` whether the output may be cut before its keyframes
 abbrev pub drivers_of : List PlannedLane → List Bool
 drivers_of lanes = map (λ (l : PlannedLane). l.drives) lanes
 
--- The output track `lane`, counted from 1, drives the cuts.
+-- The output may be cut before keyframes of the output track with the number `lane`, counted from 1; `drivers` has this for each.
 abbrev pub drives_by : List Bool → ℕ → Bool
 drives_by drivers lane = unwrap_or (slice_get drivers (lane - 1)) false
 
--- the split of a plan's merged list
+-- the rule of the plan `p` for cuts of its merged list
 abbrev pub split_of : MergePlan → Split
 split_of p = record { spec = p.split; size = p.size; scale = p.limits.scale; drives = drives_by (drivers_of p.lanes) }
 
 -- ---- names
 
--- the name of the part `number`, counted from 1, or of the output if it isn't split
+-- the name of the part with the number `number`, counted from 1, of the output `output`, or of the whole output without `split`
 abbrev pub name_of : Bool → List ℕ → ℕ → List ℕ
 name_of split output number = if split then part_name output number else output
 
--- The name has the form of one that may be written.
+-- An output may have the name `name`: it is `output`, or with `split` it could be the name of one of its parts.
 abbrev pub may_be_written : Bool → List ℕ → List ℕ → Bool
 may_be_written split output name = if split then is_part_name output name else bytes_eq output name
 
 -- ---- elements outside the Clusters of a part
 
--- the period of a part in nanoseconds, from its ticks
+-- the period of a part in nanoseconds. Its `start` and `end` are in ticks of `scale` nanoseconds; without an end it lasts to the end of the output.
 abbrev pub stretch_of : ℕ → ℕ → Option ℕ → Stretch
 stretch_of scale start end = record { from = start * scale; to = option_map (λ tick. tick * scale) end }
 
--- the Chapters of a part, cut to its period; unchanged without a split
+-- the Chapters of a part: with `split` the ones in its period `stretch`, otherwise all of `chapters`
 abbrev pub chapters_of : Bool → Option Node → Stretch → Option Node
 chapters_of split chapters stretch = if split then option_and_then (cut stretch) chapters else chapters
 
--- the elements before the Clusters of a part: it has its own identifiers, and only the first part has attachments
+-- the Elements before the first Cluster of the part with the number `number`, counted from 1, given the ones of an uncut output. It has its own
+-- identifiers from `uuids`, and only the first part has attached files.
 abbrev pub front_of : List ℕ → Bool → Front → ℕ → Front
 front_of uuids link front number = record front {
   info = with_uuids (uuids_at uuids link number) front.info;
   attachments = if number == 1 then front.attachments else [];
 }
 
--- the document of a part: its Clusters, and the elements outside them
+-- the document of the part `part` of an output with the description `o`: its Clusters, and the Elements around them
 abbrev pub document_with : LiveFiles → OutputSpec → Part → Document
 document_with f o part =
     document_of o.limits o.rules (front_with f o.front) (chapters_of o.split o.chapters (stretch_of o.limits.scale part.start part.end)) o.tags part.blocks
 
 -- ---- outputs
 
--- an output: its name, its blocks, and its document
+-- an output as it will be written: its name, its blocks, and its document
 pub record PlannedOutput : Type 0 where
   pub name : List ℕ
   pub blocks : List OutputBlock
   pub document : Document
 
--- the output specification of the part `number`
+-- the description of the part with the number `number`, counted from 1, given the common one, `o`
 abbrev pub spec_at : OutputSpec → ℕ → OutputSpec
 spec_at o number = record o { front = front_of o.uuids o.link o.front number }
 
--- the output of the part `part` with the number `number`: its name, blocks and document
+-- the output for the part `part` with the number `number`, counted from 1: its name, blocks and document
 abbrev pub output_in : LiveFiles → OutputSpec → ℕ → Part → PlannedOutput
 output_in f o number part = record { name = name_of o.split o.name number; blocks = part.blocks; document = document_with f (spec_at o number) part }
 
--- the outputs of the parts, with numbers from `number` on
+-- the outputs for the parts in a list, the first with the number `number`, counted from 1
 abbrev pub outputs_from : LiveFiles → OutputSpec → ℕ → List Part → List PlannedOutput
 outputs_from f o number [] = []
 outputs_from f o number (part ∷ more) = output_in f o number part ∷ outputs_from f o (suc number) more
 
--- the common part of a plan's outputs
+-- the description that all outputs of the plan `p` share
 abbrev pub spec_of : MergePlan → OutputSpec
 spec_of p = record {
   name = p.output;
@@ -114,11 +115,11 @@ spec_of p = record {
   link = p.link;
 }
 
--- the outputs of the plan `p`, in the order of writing
+-- the outputs of the plan `p`, in the order of writing, by the contents of the files `f`
 abbrev pub outputs_in : LiveFiles → MergePlan → List PlannedOutput
 outputs_in f p = outputs_from f (spec_of p) 1 (parts (split_of p) (blocks_of f p))
 
--- A plan without a split has only one output.
+-- A plan without cuts has only one output, with all blocks of the merged list.
 abbrev pub WholeIsOneOutput : Type 0
 WholeIsOneOutput =
     (f : LiveFiles) (p : MergePlan) → p.split ≡ Whole → p.size ≡ None → outputs_in f p ≡ record { name = p.output; blocks = blocks_of f p; document = document_in f p } ∷ []

@@ -1,4 +1,4 @@
--- The summary of a merge with complete outputs.
+-- The summary of a merge whose outputs are complete.
 use Rattle.std.specs.Prelude.{◌≡◌, ℕ, suc, max, ◌==◌, if◌then◌else◌, List, [], ◌∷◌, length, map, find}
 use Rattle.std.specs.List.{flat_map, range_with_len, zip}
 use Rattle.std.specs.Option.{option_map_or}
@@ -18,34 +18,34 @@ use Rattle.remux_plan.specs.declared.summary.Written.{Written}
 
 -- ---- damaged places of the inputs
 
--- the links of an output track: the number of each link's input, and the damaged places of its file, if it counts
+-- the links of the output track `l`: for each the number of its input, counted from 0, and the damage of its file, if it counts
 abbrev pub link_damages : LiveFiles → PlannedLane → List (ℕ × List Damage)
 link_damages f l = zip l.inputs (lane_damages (map (given_in f) l.spec.links))
 
--- the damaged places of an input; all its links have the same ones, so the first link counts
+-- the damage of the input with the number `input`, counted from 0. All links to an input have the same damage, so the first counts.
 abbrev pub damages_of : LiveFiles → List PlannedLane → ℕ → List Damage
 damages_of f lanes input = option_map_or (λ (link : ℕ × List Damage). link.1) (find (λ (link : ℕ × List Damage). link.0 == input) (flat_map (link_damages f) lanes)) []
 
--- one more than the greatest number, or 0
+-- one more than the greatest number in the list, or 0 if it is empty
 abbrev pub count_to : List ℕ → ℕ
 count_to [] = 0
 count_to (n ∷ ns) = max (suc n) (count_to ns)
 
--- the numbers up to the greatest one of a linked input
+-- the numbers from 0 up to the greatest one of an input that the output tracks `lanes` read
 abbrev pub linked_inputs : List PlannedLane → List ℕ
 linked_inputs lanes = range_with_len 0 (count_to (flat_map (λ (l : PlannedLane). l.inputs) lanes))
 
--- the first hundred damaged places of the input number `input`
+-- the first hundred damaged places of the input with the number `input`, counted from 0, for a summary
 abbrev pub first_damages : ℕ → ToldDamages → List InputDamage
 first_damages input told = map (λ damage. record { input = input; damage = damage }) told.first
 
--- the number of damaged places of an input beyond the ones that are reported each, if there are any
+-- the number of damaged places after the first hundred of the input with the number `input`, counted from 0, if there are any
 abbrev pub more_damages : ℕ → ToldDamages → List MoreDamage
 more_damages input told = if told.more == 0 then [] else record { input = input; count = told.more } ∷ []
 
 -- ---- summary
 
--- the summary of a complete output: its name, and its numbers of blocks, Clusters and cue points
+-- the summary of the complete output `o`: its name, and its numbers of blocks, Clusters and cue points
 abbrev pub written_of : PlannedOutput → Written
 written_of o = record {
   name = o.name;
@@ -54,7 +54,7 @@ written_of o = record {
   cues = length o.document.cues;
 }
 
--- `s` has the outputs of the plan `p`, and the damaged places of the inputs.
+-- `s` is the summary of the merge with the plan `p`, by the contents of the files `f`. It has its outputs, and the damaged places of the inputs.
 pub record IsSummary (f : LiveFiles) (p : MergePlan) (s : Summary) : Type 0 where
   pub outputs : s.outputs ≡ map written_of (outputs_in f p)
   pub damages : s.damages ≡ flat_map (λ input. first_damages input (told_damages (damages_of f p.lanes input))) (linked_inputs p.lanes)

@@ -7,13 +7,13 @@ use Rattle.tree_format.specs.Node.{Node, leaf, children, with_children}
 use Rattle.tree_format.specs.Children.{given}
 use Rattle.remux_plan.specs.declared.uuids.PartUuids.{PartUuids}
 
--- the identifier of the output `number`, counted from 1, if there is one in `uuids`, the values of `--segment-uid`
+-- the SegmentUUID of the output with the number `number`, counted from 1, if `uuids`, the values of `--segment-uid`, has one for it
 abbrev pub uuid_at : List ℕ → ℕ → Option ℕ
 uuid_at uuids zero = None
 uuid_at uuids (suc k) = slice_get uuids k
 
--- the identifiers in the Info of the output `number`; `uuids` has the values of `--segment-uid`. If `link` is true (`--link`), they include the
--- ones of the previous and the next output, even if these aren't written.
+-- the identifiers in the Info of the output with the number `number`, counted from 1; `uuids` has the values of `--segment-uid`. With `link`
+-- (`--link`) they include the ones of the previous and the next output, even if these aren't written.
 abbrev pub uuids_at : List ℕ → Bool → ℕ → PartUuids
 uuids_at uuids link number = record {
   own = uuid_at uuids number;
@@ -21,15 +21,15 @@ uuids_at uuids link number = record {
   next = if link then uuid_at uuids (suc number) else None;
 }
 
--- the element `id` with the identifier `uuid` in 16 bytes, the most significant one first
+-- the Element with the ID `id` and the identifier `uuid` in 16 bytes, the most significant one first
 abbrev pub uuid_leaf : ℕ → ℕ → Node
 uuid_leaf id uuid = leaf id 0 (big_bytes 16 uuid)
 
--- the SegmentUUID, PrevUUID and NextUUID elements of the identifiers `u`, each only if present
+-- the SegmentUUID, PrevUUID and NextUUID for the identifiers `u`, each only if present
 abbrev pub uuid_elements : PartUuids → List Node
 uuid_elements u = given (uuid_leaf SEGMENT_UUID) u.own ++ (given (uuid_leaf PREV_UUID) u.before ++ given (uuid_leaf NEXT_UUID) u.next)
 
--- the list of elements with `more` after its first element
+-- the list of Elements with `more` after its first one
 abbrev pub behind_first : List Node → List Node → List Node
 behind_first more [] = []
 behind_first more (n ∷ ns) = n ∷ (more ++ ns)

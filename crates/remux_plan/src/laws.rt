@@ -1,8 +1,8 @@
-//! Laws about each plan
+//! Laws about a plan
 
 ghost use Rattle.remux_plan.specs.Parts.{WholeIsOneOutput};
 
-/// A plan without a split has only one output.
+/// Law: a plan without cuts has only one output.
 pub fn whole_is_one_output()
     ensures { WholeIsOneOutput }
 {}

@@ -1,6 +1,7 @@
 #![tactic(auto)]
 
-//! Plan of a merge and summary of its outputs, as plain values. `specs/` defines the outputs of a plan.
+//! Plan of a merge, and summary of its outputs, as plain values; `remuxer` carries out the plan. `specs/` defines the
+//! outputs of a plan.
 
 mod laws;
 mod output;

@@ -1,19 +1,19 @@
-//! Summary of a merge with complete outputs
+//! Summary of a merge whose outputs are complete
 
 use mkv_io::{Damage, List, Text};
 
-/// Outputs of a merge, and damaged places of its inputs
+/// Outputs of a merge, and damaged places of its inputs, for its messages
 #[derive(Drop)]
 pub struct Summary {
     /// Outputs, in the order of writing
     pub outputs: List<Written>,
-    /// First hundred damaged places of each input with a link, in the order of the inputs
+    /// First hundred damaged places of each input that an output track reads, in the order of the inputs
     pub damages: List<InputDamage>,
-    /// Inputs with more damaged places, in their order
+    /// Number of damaged places after the first hundred, for each input that has more
     pub more: List<MoreDamage>,
 }
 
-/// Complete output
+/// Output that is complete
 #[derive(Drop)]
 pub struct Written {
     pub name: Text,
@@ -25,7 +25,7 @@ pub struct Written {
     pub cues: u64,
 }
 
-/// Damaged place of an input
+/// Damaged place of an input, with a message of its own
 #[derive(Clone, Copy, Debug, PartialEq, Eq)]
 pub struct InputDamage {
     /// Number of the input, counted from 0
@@ -33,7 +33,7 @@ pub struct InputDamage {
     pub damage: Damage,
 }
 
-/// Number of damaged places of an input that aren't reported one by one
+/// Number of an input's damaged places that have no message of their own
 #[derive(Clone, Copy, Debug, PartialEq, Eq)]
 pub struct MoreDamage {
     /// Number of the input, counted from 0

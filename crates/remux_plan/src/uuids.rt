@@ -1,9 +1,9 @@
-//! Identifiers of Segments: RFC 9559, section 5.1.2 (Info).
+//! Identifiers of Segments: RFC 9559, section 5.1.2 (Info)
 
 ghost use Rattle.std.specs.Prelude.{◌≡◌};
 ghost use Rattle.remux_plan.specs.Uuids.{uuid_at, uuids_at};
 
-/// SegmentUUID of an output, and of the previous and next output if they are linked, with the highest byte first
+/// SegmentUUID of an output, and with `--link` the ones of the previous and the next output. The highest byte is first.
 #[derive(Clone, Copy, Debug, PartialEq, Eq)]
 pub struct PartUuids {
     pub own: Option<u128>,
@@ -11,7 +11,7 @@ pub struct PartUuids {
     pub next: Option<u128>,
 }
 
-// Returns the identifier of the output `number`, counted from 1, if it is given.
+// Returns the SegmentUUID of the output with the number `number`, counted from 1, if `uuids` has one for it.
 fn uuid_at(uuids: &[u128], number: usize) -> Option<u128>
     ensures { result ≡ uuid_at uuids.now number }
 {
@@ -19,8 +19,8 @@ fn uuid_at(uuids: &[u128], number: usize) -> Option<u128>
     uuids.get(k).copied()
 }
 
-/// Returns the identifiers of the output `number`, counted from 1. If outputs are linked, it also names the ones
-/// beside its own.
+/// Returns the identifiers in the Info of the output with the number `number`, counted from 1. `uuids` are the given
+/// SegmentUUIDs. With `link` they include the ones of the previous and the next output.
 pub fn uuids_at(uuids: &[u128], link: bool, number: usize) -> PartUuids
     ensures { result ≡ uuids_at uuids.now link number }
 {

@@ -1,13 +1,13 @@
-//! Laws about each merge
+//! Laws about a merge of output tracks
 
 ghost use Rattle.time_merge.specs.Laws.{AreUnaffectedByWrites, StartedAreMerged};
 
-/// A merge is unchanged if the files of its links are, whatever was written to other files.
+/// Law: writes to files other than its inputs change nothing of a merge.
 pub fn merges_stand_over_writes()
     ensures { AreUnaffectedByWrites }
 {}
 
-/// Output tracks at their start, merged, give the merged list of their links.
+/// Law: output tracks at their start have the merged list of their links left.
 pub fn started_lanes_are_merged()
     ensures { StartedAreMerged }
 {}

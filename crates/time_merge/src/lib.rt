@@ -1,6 +1,6 @@
 #![tactic(auto)]
 
-//! Blocks of all output tracks in the order of writing
+//! Merge of all output tracks into one list of blocks, in the order of writing
 
 mod laws;
 mod merge;

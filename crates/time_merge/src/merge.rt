@@ -1,4 +1,4 @@
-//! Merge of output tracks
+//! Merge of output tracks, block by block
 
 ghost use Rattle.std.specs.Prelude.{◌≡◌, ◌<◌, ◌≤◌, length, Some, IfOk, option_map};
 ghost use Rattle.std.specs.List.{slice_get};
@@ -14,7 +14,8 @@ use mkv_io::{List, ReadEnd, Reads};
 use std::alloc::Global;
 use std::marker::Model;
 
-/// Blocks of all output tracks, by order number, then by output track, then by place in the track
+/// Merge of output tracks: returns all their blocks one by one, by order number, then by output track, then by place in
+/// the track
 #[derive(Drop)]
 pub struct Merge {
     queues: Queues,
@@ -33,8 +34,8 @@ impl Model for Merge {
 }
 
 impl Merge {
-    /// Returns a merge of the output tracks `lanes`, which are at their start. It reads nothing: the first step reads
-    /// the first block of each output track.
+    /// Returns a merge of the output tracks `lanes`, which are at their start. Reads nothing: the first step reads the
+    /// first block of each output track.
     pub fn start<R: Reads>(alloc: Global, lanes: List<Lane>, _src: &mut R) -> Result<Merge, ReadEnd>
         requires { length lanes ≤ MAX_LANES }
         ensures starts { (f : LiveFiles) → IfOk result (Starts f lanes) }
@@ -46,8 +47,9 @@ impl Merge {
         Ok(Merge { queues, given: 0 })
     }
 
-    /// Reads the next block, and returns the number of its output track, counted from 0. The block is available there
-    /// until the next call. Returns nothing after the last block, at each call. After an error the same block is due.
+    /// Reads the next block of the merge, and returns the number of its output track, counted from 0; `lane` has the
+    /// block until the next call. Returns nothing after the last block, at each call. After an error the same block is
+    /// due.
     pub fn step<R: Reads>(&mut self, src: &mut R) -> Result<Option<usize>, ReadEnd>
         requires { IsReady (live_files R.Reads src.old) self.old }
         ensures gives { GivesIfTold (live_files R.Reads src.old) self.old self.new result }
@@ -67,7 +69,7 @@ impl Merge {
         Ok(Some(k))
     }
 
-    /// Returns the output track with the number `k`, counted from 0.
+    /// Returns the output track with the number `k`, counted from 0, for its block and its damaged places.
     pub fn lane(&self, k: usize) -> &Lane
         requires { k < length self.now.queues }
         ensures { option_map (λ q. q.lane) (slice_get self.now.queues k) ≡ Some result.now }

@@ -1,4 +1,4 @@
-//! Output track in a merge
+//! Output track as a part of a merge
 
 ghost use Rattle.std.specs.Prelude.{◌≡◌, true};
 ghost use Rattle.mkv_io.specs.Faults.{HasCause, is_read_fault};
@@ -9,18 +9,18 @@ ghost use Rattle.time_merge.specs.Queues.{Fills, KeepsWaiting, StaysQueue, is_du
 use lanes::{Lane, LaneStep};
 use mkv_io::{ReadEnd, Reads};
 
-/// State of an output track's next block
+/// State of the next block of an output track in a merge
 #[derive(Clone, Copy)]
 pub enum Head {
-    /// Not yet read
+    /// Not read yet
     Due,
-    /// Read, with this order number
+    /// Read but not returned, with this order number
     Waits(u64),
-    /// None left
+    /// No block is left
     Ended,
 }
 
-/// Output track in a merge, and the state of its next block
+/// Output track in a merge, with the state of its next block
 #[derive(Drop)]
 pub struct Queue {
     pub lane: Lane,
@@ -28,7 +28,8 @@ pub struct Queue {
 }
 
 impl Queue {
-    /// Reads the next block, and returns its order number, or nothing if none is left.
+    /// Reads the next block of the output track, which is due, and returns its order number, or nothing if no block is
+    /// left.
     pub fn fill<R: Reads>(&mut self, src: &mut R) -> Result<Option<u64>, ReadEnd>
         requires ready { IsReady (live_files R.Reads src.old) self.old.lane }
         requires due { is_due self.old ≡ true }
