@@ -1,4 +1,4 @@
--- Laws about outputs that are cut by their load, by this project's rules.
+-- Laws about outputs that are cut by size, by this project's rules.
 use Rattle.std.specs.Prelude.{◌≡◌, ◌<◌, ◌≤◌, ⊤, ℕ, ◌^◌, Bool, true, List, [], ◌∷◌, length, take, Option, Some}
 use Rattle.std.specs.List.{All, slice_get, sum_by}
 use Rattle.output_model.specs.Element.{joined, octets_of}
@@ -13,14 +13,15 @@ use Rattle.splitter.specs.Sections.{Part, Section, Split, in_part, may_cut, part
 use Rattle.splitter.specs.Steps.{new_cuts}
 use Rattle.splitter.specs.Laws.{all_placed}
 
--- the split only at the load limit `limit`, with `scale` nanoseconds per tick and the driving output tracks `drives`
+-- the rule for cuts by size only. Parts end at `limit` bytes, a tick has `scale` nanoseconds, and keyframes of the output tracks `drives` allow a
+-- cut.
 abbrev pub by_size : ℕ → ℕ → (ℕ → Bool) → Split
 by_size limit scale drives = record { spec = Whole; size = Some limit; scale = scale; drives = drives }
 
 -- ---- step by step
 
--- If the place of each block is decided step by step, the blocks with their places make the sections of the merged list. `scale` is the number of
--- nanoseconds per tick, and doesn't matter for a split by load.
+-- If the place of each block is decided one by one, the blocks with their places make the sections of the merged list. `scale`, the nanoseconds per
+-- tick, doesn't matter for cuts by size.
 abbrev pub SizesJoin : Type 0
 SizesJoin =
     (limit scale : ℕ) (drives : ℕ → Bool) → limit < 2 ^ 64 → (b : OutputBlock) (bs : List OutputBlock)
@@ -34,21 +35,21 @@ AllButLast P [] = ⊤
 AllButLast P (x ∷ []) = ⊤
 AllButLast P (x ∷ (y ∷ ys)) = P x × AllButLast P (y ∷ ys)
 
--- The part `p` has a load of at least `limit` bytes.
+-- The blocks of the part `p` have at least `limit` bytes.
 abbrev pub IsFull : ℕ → Part → Type 0
 IsFull limit p = limit ≤ load p.blocks
 
--- Each part of `blocks` except the last has a load of at least `limit` bytes.
+-- The blocks of each part except the last have at least `limit` bytes, if the merged list `blocks` is cut by this size.
 abbrev pub PartsAreFull : Type 0
 PartsAreFull =
     (limit scale : ℕ) (drives : ℕ → Bool) (blocks : List OutputBlock) → AllButLast (IsFull limit) (parts (by_size limit scale drives) blocks)
 
--- If a block of the part `p` may begin a part of the split `s`, the earlier blocks of `p` have a load below `limit`.
+-- If the rule `s` allows a cut before a block of the part `p`, the earlier blocks of `p` have fewer than `limit` bytes.
 abbrev pub IsSmall : Split → ℕ → Part → Type 0
 IsSmall s limit p = (k : ℕ) (b : OutputBlock) → slice_get p.blocks k ≡ Some b → may_cut s b ≡ true → load (take k p.blocks) < limit
 
--- If `limit` is at least 1, no part continues over a place for a cut with a full load. At each of its blocks that may begin a part, the earlier
--- blocks of the part have a load below `limit`. Only keyframes of driving output tracks begin a part, so the load of a whole part may be greater.
+-- If `limit` is at least 1, no part continues with a full size over a place that allows a cut. The earlier blocks of the part have fewer than `limit`
+-- bytes there. Only some keyframes allow a cut, so a whole part may be larger.
 abbrev pub PartsAreSmall : Type 0
 PartsAreSmall =
     (limit scale : ℕ) (drives : ℕ → Bool) (blocks : List OutputBlock) → 1 ≤ limit
@@ -56,19 +57,20 @@ PartsAreSmall =
 
 -- ---- as they are written
 
--- A block's element has the same length in its part, in a Cluster with any Timestamp, and in the merged list. The merged list is the sequence of
--- an output's blocks before it is cut.
+-- The Element of the block `b` has the same length in its part, which starts at the tick `start`, as in the merged list. It is the same for any
+-- Timestamp of its Cluster.
 abbrev pub BlocksKeepTheirLength : Type 0
 BlocksKeepTheirLength = (timestamp start : ℕ) (b : OutputBlock) → length (octets_of (block_element timestamp (in_part start b))) ≡ octets_taken b
 
--- The load of a part is the load of its section, the blocks of the merged list between two cuts.
+-- The blocks of a part have the same number of bytes as the blocks of its section `x` of the merged list, between two cuts.
 abbrev pub PartsKeepTheirLoad : Type 0
 PartsKeepTheirLoad = (x : Section) (end : Option ℕ) → load (part_of x end).blocks ≡ load x.blocks
 
--- the length of the elements of a Cluster's blocks in bytes
+-- the number of bytes of the SimpleBlocks and BlockGroups of the Cluster `c`
 abbrev pub blocks_len : OutputCluster → ℕ
 blocks_len c = length (joined (block_elements c.timestamp c.blocks))
 
--- The load of `blocks` is the length of their SimpleBlocks and BlockGroups in the written Clusters, however `limits` divides them into Clusters.
+-- The load of `blocks` is the number of bytes of their SimpleBlocks and BlockGroups in the written Clusters, however `limits` divides them into
+-- Clusters.
 abbrev pub LoadsAreWritten : Type 0
 LoadsAreWritten = (limits : ClusterLimits) (blocks : List OutputBlock) → sum_by blocks_len (clusters limits blocks) ≡ load blocks

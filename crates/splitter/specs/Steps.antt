@@ -1,4 +1,4 @@
--- The places of blocks in sequence, as the code computes them. Split and Sections define a split.
+-- The places of blocks in parts, decided block by block as the code does. `Split` and `Sections` define the parts of a whole list.
 use Rattle.std.specs.Prelude.{ℕ, ◌+◌, ◌-◌, ◌*◌, ◌^◌, min, Bool, ◌&&◌, ◌||◌, if◌then◌else◌, Option, Some, None, is_none, unwrap_or}
 use Rattle.splitter.specs.declared.cuts.Place.{Place}
 use Rattle.splitter.specs.declared.cuts.Place.TheVariants.{Same, Next, Out}
@@ -8,7 +8,8 @@ use Rattle.splitter.specs.Split.{is_over, keeps}
 
 -- ---- state of cutting
 
--- the times and the load limit of a split, the nanoseconds per tick, the start of the last block's section if any, and its load
+-- the state of cutting a merged list. It has the times and size of parts, and the nanoseconds per tick. `start` is the tick at the start of the last
+-- block's section if any, and `load` its load in bytes.
 pub record CutsSeen : Type 0 where
   pub spec : SplitSpec
   pub size : Option ℕ
@@ -16,46 +17,45 @@ pub record CutsSeen : Type 0 where
   pub start : Option ℕ
   pub load : ℕ
 
--- the state before the first block
+-- the state of cutting a merged list before its first block
 abbrev pub new_cuts : SplitSpec → Option ℕ → ℕ → CutsSeen
 new_cuts spec size scale = record { spec = spec; size = size; scale = scale; start = None; load = 0 }
 
--- the tick at the start of the last block's section, or 0 before the first block
+-- the tick at the start of the section with the last block, or 0 before the first block
 abbrev pub start_of : CutsSeen → ℕ
 start_of c = unwrap_or c.start 0
 
--- The section of the last block is written; before the first block, the section that starts at tick 0.
+-- The section with the last block is written as a part; before the first block, the section that starts at tick 0.
 abbrev pub is_kept : CutsSeen → Bool
 is_kept c = keeps c.spec (start_of c * c.scale)
 
--- The section of the last block must end at the tick `tick`, if a cut is possible there. Its load has reached the limit, if there is one, or its
--- time is over.
+-- The section with the last block is over at the tick `tick`, so that a cut is there if one is allowed. It has reached its size or its time.
 abbrev pub is_over_at : CutsSeen → ℕ → Bool
 is_over_at c tick = is_full c.size c.load || is_over c.spec (start_of c * c.scale) (tick * c.scale)
 
--- a load, counted up to 2^64 - 1, the largest limit, and only if there is a limit
+-- a load of `octets` bytes as the state has it: up to 2^64 - 1, the largest size of parts, and only if there is such a size
 abbrev pub counted : Option ℕ → ℕ → ℕ
 counted None octets = 0
 counted (Some limit) octets = min octets (2 ^ 64 - 1)
 
 -- ---- one step
 
--- A cut is before the next block, which is at the tick `tick`. `may` is true if this block may begin a part.
+-- A cut is before the next block, which is at the tick `tick`, in the state `c`. `may` is true if this block allows a cut before it.
 abbrev pub is_cut : CutsSeen → Bool → ℕ → Bool
 is_cut c may tick = may && is_over_at c tick
 
--- the state after one more block, which is at the tick `tick` and has `len` bytes. `may` is true if this block may begin a part.
+-- the state `c` after one more block, which is at the tick `tick` and has `len` bytes. `may` is true if this block allows a cut before it.
 abbrev pub stepped : CutsSeen → Bool → ℕ → ℕ → CutsSeen
 stepped c may tick len = record c {
   start = Some (if is_cut c may tick then tick else start_of c);
   load = counted c.size ((if is_cut c may tick then 0 else c.load) + len);
 }
 
--- the place of a block in a section; `kept` is true if the section is written, and `first` if the block is its first
+-- the place of a block in a section that starts at the tick `start`. `kept` is true if the section is written, and `first` if the block is its first.
 abbrev pub place_at : Bool → Bool → ℕ → Place
 place_at kept first start = if kept then (if first then Next start else Same) else Out
 
--- the place of the next block, which is at the tick `tick`. It begins a section if a cut is before it, or if it is the first block. `may` is true
--- if this block may begin a part.
+-- the place of the next block, which is at the tick `tick`, in the state `c`. It begins a section if a cut is before it, or if it is the first block.
+-- `may` is true if this block allows a cut before it.
 abbrev pub place_of : CutsSeen → Bool → ℕ → Place
 place_of c may tick = place_at (is_kept (stepped c may tick 0)) (is_cut c may tick || is_none c.start) (start_of (stepped c may tick 0))

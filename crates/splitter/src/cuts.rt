@@ -1,4 +1,4 @@
-//! Places of blocks in the parts of an output, in sequence
+//! State of cutting a merged list into parts at times, block by block
 
 ghost use Rattle.std.specs.Prelude.{◌≡◌, ◌&&◌, ℕ};
 ghost use Rattle.splitter.specs.Steps.{is_kept, is_over_at, new_cuts, place_of, stepped};
@@ -7,18 +7,18 @@ use crate::spec::SplitSpec;
 use output_model::OutHead;
 use std::marker::Model;
 
-/// Place of a block of a merged list
+/// Place of a block of a merged list, as the parts of the output are cut
 #[derive(Clone, Copy, Debug, PartialEq, Eq)]
 pub enum Place {
-    /// Same part as the previous block
+    /// In the same part as the previous block
     Same,
-    /// First block of a new part, which starts at tick `start`
+    /// First block of a new part, which starts at the tick `start` of the whole output
     Next { start: u64 },
-    /// No part
+    /// In no part: the section isn't written
     Out,
 }
 
-/// State of cutting a merged list by times, block by block
+/// State of cutting a merged list into parts at times, block by block; `PartCuts` also cuts by size
 #[derive(Drop)]
 pub struct Cuts {
     spec: SplitSpec,
@@ -43,7 +43,8 @@ impl Model for Cuts {
 }
 
 impl Cuts {
-    /// Returns the state before the first block, for an output with `scale` nanoseconds per tick. It takes no memory.
+    /// Returns the state before the first block, for the cuts of `spec` and an output with `scale` nanoseconds per
+    /// tick. Allocates no memory.
     pub fn new(spec: SplitSpec, scale: u64) -> Cuts
         ensures { result ≡ new_cuts spec None scale }
     {
@@ -58,15 +59,15 @@ impl Cuts {
         }
     }
 
-    /// Checks whether the last block's section is written. Before the first block this is the section at tick 0; if
-    /// an output without blocks has no other, it is a part without blocks.
+    /// Checks whether the section with the last block is written. Before the first block this is the section at tick 0,
+    /// which is a part without blocks if the output has no block.
     pub fn is_kept(&self) -> bool
         ensures { result ≡ is_kept self.now }
     {
         self.kept
     }
 
-    // Starts a section at the tick `start`.
+    // Starts a section at the tick `start` of the whole output: a run of blocks up to the next cut.
     fn begin(&mut self, start: u64)
         ensures { self.new ≡ record self.old { start = Some start } }
     {
@@ -76,7 +77,8 @@ impl Cuts {
         self.start = Some(start);
     }
 
-    // Checks whether the time of the last block's section is over at the tick `tick`.
+    // Checks whether the section with the last block is over at the tick `tick`. The next keyframe that allows a cut
+    // then begins a new one.
     fn is_over(&self, tick: u64) -> bool
         ensures { result ≡ is_over_at self.now tick }
     {
@@ -84,8 +86,8 @@ impl Cuts {
         self.end.is_some_and(|end| end <= time)
     }
 
-    /// Returns the place of the next block of a merged list. `drives` is set if its output track drives the cuts. It
-    /// takes no memory.
+    /// Returns the place of the next block of a merged list, whose head is `head`. `drives` is true if keyframes of its
+    /// output track allow a cut. Allocates no memory.
     pub fn assign(&mut self, head: &OutHead, drives: bool) -> Place
         ensures place { result ≡ place_of self.old (head.now.key && drives) head.now.tick }
         ensures steps { (len : ℕ) → self.new ≡ stepped self.old (head.now.key && drives) head.now.tick len }

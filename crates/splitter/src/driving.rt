@@ -1,10 +1,10 @@
-//! Output tracks that drive the cuts of an output
+//! Choice of the output tracks whose keyframes allow a cut
 
 ghost use Rattle.std.specs.Prelude.{◌≡◌};
 ghost use Rattle.splitter.specs.Split.{is_driver};
 
-/// Checks whether the output track `lane`, counted from 0, drives: an output is cut before its keyframes. The first
-/// video track drives, or each track if there is no video. `videos` marks the video tracks.
+/// Checks whether an output may be cut before keyframes of its output track with the number `lane`, counted from 0.
+/// This holds for the first video track, or for each track if there is no video. `videos` marks the video tracks.
 pub fn is_driver(videos: &[bool], lane: usize) -> bool
     ensures { result ≡ is_driver videos.now lane }
 {

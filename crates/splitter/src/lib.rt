@@ -1,6 +1,6 @@
 #![tactic(auto)]
 
-//! Cuts of a merged list, and the blocks of each part of an output
+//! Cuts of a merged list at times, and the blocks of each part of an output
 
 mod cuts;
 mod driving;

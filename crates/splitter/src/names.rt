@@ -1,4 +1,4 @@
-//! Names of parts
+//! Names of the parts of an output
 
 ghost use Rattle.std.specs.Prelude.{◌≡◌, take, drop, IfOk};
 ghost use Rattle.std.specs.Option.{option_copied};
@@ -7,7 +7,7 @@ ghost use Rattle.splitter.specs.Names.{are_digits, before, behind, extension, is
 use mkv_io::Text;
 use std::alloc::{AllocError, Global};
 
-// Splits the name of an output before its extension, which begins at the last point after the last slash; it may be
+// Splits the name of an output before its extension. That begins at the last point after the last slash, and may be
 // empty.
 fn cut(name: &str) -> (&str, &str)
     ensures stem { result.0.now ≡ stem name.now }
@@ -19,8 +19,9 @@ fn cut(name: &str) -> (&str, &str)
     }
 }
 
-/// Returns the name of the part `number` of an output, counted from 1: `-` and the number, with at least three
-/// digits, before the extension. The extension begins at the last point after the last `/`, if there is one.
+/// Returns the name of the part with the number `number`, counted from 1, of the output `output`. It has `-` and the
+/// number, with at least three digits, before the extension. That begins at the last point after the last `/`, if there
+/// is one.
 pub fn part_name(alloc: Global, output: &str, number: u64) -> Result<Text, AllocError>
     ensures { IfOk result (λ name. name ≡ part_name output.now number) }
 {
@@ -29,28 +30,31 @@ pub fn part_name(alloc: Global, output: &str, number: u64) -> Result<Text, Alloc
     Ok(Text::from_string(name))
 }
 
-// Checks whether `octets` are at least three digits.
+// Checks whether the bytes `octets` are at least three digits, as the number in a part's name.
 fn are_digits(octets: &[u8]) -> bool
     ensures { result ≡ are_digits octets.now }
 {
     octets.len() >= 3 && octets.iter().all(|octet| octet.is_ascii_digit())
 }
 
-// Returns `octets` without the prefix `front`, or nothing without this prefix.
+// Returns the bytes `octets` without the prefix `front`, or nothing if they don't have it. Used to find the number in a
+// part's name.
 fn behind<'a>(front: &[u8], octets: &'a [u8]) -> Option<&'a [u8]>
     ensures { option_copied result ≡ behind front.now octets.now }
 {
     octets.strip_prefix(front)
 }
 
-// Returns `octets` without the suffix `end`, or nothing without this suffix.
+// Returns the bytes `octets` without the suffix `end`, or nothing if they don't have it. Used to find the number in a
+// part's name.
 fn before<'a>(end: &[u8], octets: &'a [u8]) -> Option<&'a [u8]>
     ensures { option_copied result ≡ before end.now octets.now }
 {
     octets.strip_suffix(end)
 }
 
-// Returns the bytes of `name` between the output's stem with `-` and its extension, if it has both.
+// Returns the bytes of `name` between the stem of `output` with `-` and its extension, if it has both. They are the
+// number if `name` is a part's.
 fn number_in<'a>(output: &str, name: &'a str) -> Option<&'a [u8]>
     ensures { option_copied result ≡ number_in output.now name.now }
 {
@@ -60,7 +64,7 @@ fn number_in<'a>(output: &str, name: &'a str) -> Option<&'a [u8]>
     before(extension.as_bytes(), rest)
 }
 
-/// Checks whether `name` has the form of a part of `output`, with any number.
+/// Checks whether `name` could be the name of a part of `output`, with any number.
 pub fn is_part_name(output: &str, name: &str) -> bool
     ensures { result ≡ is_part_name output.now name.now }
 {

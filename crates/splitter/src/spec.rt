@@ -1,4 +1,4 @@
-//! Split of an output
+//! Cuts of an output at times
 
 ghost use Rattle.std.specs.Prelude.{◌≡◌, ◌≤◌, ◌*◌, ◌-◌, ◌^◌, ℕ, ◌||◌};
 ghost use Rattle.std.specs.List.{list_any};
@@ -7,20 +7,21 @@ ghost use Rattle.splitter.specs.Split.{has_come, holds, is_over, is_within, keep
 use mkv_io::List;
 use requests::SpanWords;
 
-/// Split of an output, as by mkvmerge's `--split`; times are in nanoseconds from the start of the output
+/// Cuts of an output as by mkvmerge's `--split`; times are in nanoseconds from the start of the output
 #[derive(Debug, Drop)]
 pub enum SplitSpec {
-    /// No split
+    /// No cut
     Whole,
-    /// A cut `by` nanoseconds after the start of each section
+    /// Cut `by` nanoseconds after the start of each section
     Duration { by: u64 },
     /// Cuts at the times `at`; 0 has no effect
     Times { at: List<u64> },
-    /// Cuts at the bounds of `spans`; only sections that start in a span are written
+    /// Cuts at the bounds of `spans`; only sections that start in a span are written as parts
     Parts { spans: List<SpanWords> },
 }
 
-// Returns the earlier of `end` and `bound`. The bound counts only if it is after `start`.
+// Returns the earlier of the times `end` and `bound`, which are in nanoseconds. The bound counts only if it is after
+// `start`, the start of a section.
 fn sooner(end: Option<u128>, bound: u64, start: u128) -> Option<u128>
     ensures { (time : ℕ) → has_come result time ≡ (has_come end time || is_within start time bound) }
 {
@@ -34,7 +35,7 @@ fn sooner(end: Option<u128>, bound: u64, start: u128) -> Option<u128>
     }
 }
 
-// Returns the first time after `start` in `at`, if any.
+// Returns the first of the times `at` after `start`, the start of a section, if there is one; all are in nanoseconds.
 fn first_time(at: &[u64], start: u128) -> Option<u128>
     ensures { (time : ℕ) → has_come result time ≡ list_any (is_within start time) at.now }
 {
@@ -45,7 +46,7 @@ fn first_time(at: &[u64], start: u128) -> Option<u128>
     end
 }
 
-// Returns the first bound after `start` in `spans`, if any.
+// Returns the first bound of `spans` after `start`, the start of a section, if there is one; all are in nanoseconds.
 fn first_bound(spans: &[SpanWords], start: u128) -> Option<u128>
     ensures { (time : ℕ) → has_come result time ≡ list_any (passes start time) spans.now }
 {
@@ -59,7 +60,7 @@ fn first_bound(spans: &[SpanWords], start: u128) -> Option<u128>
     end
 }
 
-// Checks whether a time is in a span.
+// Checks whether the time `time` is in the span `span`, which may have no end; all are in nanoseconds.
 fn holds(span: &SpanWords, time: u128) -> bool
     ensures { result ≡ holds time span.now }
 {
@@ -67,7 +68,8 @@ fn holds(span: &SpanWords, time: u128) -> bool
 }
 
 impl SplitSpec {
-    /// Returns the time at the end of a section that starts at `start`, if it ends.
+    /// Returns the time at the end of a section that starts at `start`, if it ends; both are in nanoseconds. The next
+    /// keyframe from then on that allows a cut begins a new section.
     pub(crate) fn end_behind(&self, start: u128) -> Option<u128>
         requires { start ≤ (2 ^ 64 - 1) * (2 ^ 64 - 1) }
         ensures { (time : ℕ) → has_come result time ≡ is_over self.now start time }
@@ -80,7 +82,7 @@ impl SplitSpec {
         }
     }
 
-    /// Checks whether a section that starts at `start` is written.
+    /// Checks whether a section that starts at `start`, in nanoseconds, is written as a part.
     pub(crate) fn keeps(&self, start: u128) -> bool
         ensures { result ≡ keeps self.now start }
     {

@@ -1,4 +1,4 @@
-//! Meaning of a `--split` option
+//! Meaning of the option `--split`
 
 ghost use Rattle.std.specs.Prelude.{◌≡◌, filter_map, IfOk};
 ghost use Rattle.splitter.specs.declared.spec.SplitSpec.TheVariants as spec;
@@ -9,7 +9,8 @@ use mkv_io::List;
 use requests::SplitWords;
 use std::alloc::{AllocError, Global};
 
-// Returns the start of the chapter `number`, counted from 1, if there is one.
+// Returns the start of the chapter with the number `number`, counted from 1, if there is one. `starts` has the starts
+// of all chapters in nanoseconds.
 fn start_at(starts: &[u64], number: u64) -> Option<u64>
     ensures { result ≡ start_at starts.now number }
 {
@@ -17,7 +18,8 @@ fn start_at(starts: &[u64], number: u64) -> Option<u64>
     starts.get(k as usize).copied()
 }
 
-// Returns the starts of the chapters with the numbers `numbers`.
+// Returns the starts of the chapters with the numbers `numbers`, counted from 1, in nanoseconds. Chapters that don't
+// exist are left out.
 fn starts_at(alloc: Global, starts: &[u64], numbers: &[u64]) -> Result<List<u64>, AllocError>
     ensures { IfOk result (λ at. at ≡ filter_map (start_at starts.now) numbers.now) }
 {
@@ -27,7 +29,7 @@ fn starts_at(alloc: Global, starts: &[u64], numbers: &[u64]) -> Result<List<u64>
     Ok(List::from_vec(at.collect(alloc)?))
 }
 
-// Returns the split at the times `at`, in nanoseconds.
+// Returns the cuts at the times `at`, in nanoseconds.
 fn times(alloc: Global, at: &[u64]) -> Result<SplitSpec, AllocError>
     ensures { IfOk result (λ s. s ≡ spec.Times at.now) }
 {
@@ -36,8 +38,8 @@ fn times(alloc: Global, at: &[u64]) -> Result<SplitSpec, AllocError>
     })
 }
 
-/// Returns the split of an output for its `--split` option. `starts` are the starts of its chapters, for a split by
-/// chapters. Without the option, or if it splits by size, there are no times.
+/// Returns the cuts at times that the option `words` asks for. `starts` are the starts of the output's chapters in
+/// nanoseconds, for cuts at chapters. Without the option, or if it asks for parts of a size, there are no times.
 pub fn split_spec(
     alloc: Global,
     words: &Option<SplitWords>,
@@ -59,7 +61,7 @@ pub fn split_spec(
     }
 }
 
-/// Returns the load at the end of each part in bytes, if the option splits by size.
+/// Returns the size in bytes that ends each part, if the option `words` asks for parts of a size.
 pub fn split_size(words: &Option<SplitWords>) -> Option<u64>
     ensures { result ≡ size_of words.now }
 {
