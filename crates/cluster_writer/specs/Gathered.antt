@@ -1,4 +1,4 @@
--- Contents of a Cluster's buffer.
+-- Contents of the buffer for a Cluster.
 use Rattle.std.specs.Prelude.{◌≡◌, ◌≤◌, ◌<◌, ◌⊎◌, ⊤, ℕ, ◌+◌, ◌^◌, Bool, true, List, [], ◌++◌, length, Option, Some, None, is_none, unwrap_or, ℤ}
 use Rattle.mkv_schema.specs.declared.ids.TheConstants.{CLUSTER}
 use Rattle.output_model.specs.Element.{element, octets_of, joined}
@@ -11,7 +11,8 @@ use Rattle.cluster_writer.specs.Lent.{block_put, lent}
 use Rattle.output_model.specs.declared.heads.OutHead.{OutHead}
 use Rattle.cluster_writer.specs.Lengths.{octets_taken}
 
--- a Cluster's limits, its Timestamp if there is a block, the count and bytes of its block elements, and the free capacity in bytes
+-- the contents of the buffer for a Cluster. It has limits, the Timestamp if there is a block, the number of blocks, the bytes of their Elements, and
+-- the free capacity in bytes.
 pub record Gathered : Type 0 where
   pub limits : ClusterLimits
   pub timestamp : Option ℕ
@@ -21,33 +22,33 @@ pub record Gathered : Type 0 where
 
 -- ---- the Cluster in the buffer
 
--- the contents of a buffer before the first block of a Cluster, with these limits
+-- the contents of a buffer without a block, with these limits of a Cluster and `spare` bytes of free capacity
 abbrev pub empty_with : ClusterLimits → ℕ → Gathered
 empty_with limits spare = record { limits = limits; timestamp = None; count = 0; elements = []; spare = spare }
 
--- the contents of a Cluster with the blocks up to now, or the contents before the first block
+-- the contents of a buffer that holds the Cluster, or no block, with these limits and `spare` bytes of free capacity
 abbrev pub gathered_with : ClusterLimits → ℕ → Option OutputCluster → Gathered
 gathered_with limits spare None = empty_with limits spare
 gathered_with limits spare (Some c) =
     record { limits = limits; timestamp = Some c.timestamp; count = length c.blocks; elements = joined (block_elements c.timestamp c.blocks); spare = spare }
 
--- The buffer `g` contains the Cluster `c`, or none.
+-- The buffer `g` holds the Cluster `c`, or no block if there is none.
 abbrev pub Holds : Option OutputCluster → Gathered → Type 0
 Holds c g = g ≡ gathered_with g.limits g.spare c
 
--- the Cluster with the block `b` added, or a new Cluster with it if there is none
+-- the Cluster with the block `b` after its own; if there is none, a new Cluster with this block
 abbrev pub with_next : Option OutputCluster → OutputBlock → OutputCluster
 with_next None b = begun b
 with_next (Some c) b = with_block c b
 
--- The block `b` can join the Cluster; a first block always can.
+-- The block `b` may join the Cluster within `limits`; a first block always may.
 abbrev pub joins_next : ClusterLimits → Option OutputCluster → OutputBlock → Bool
 joins_next limits None b = true
 joins_next limits (Some c) b = joins limits c b
 
 -- ---- the Cluster by the buffer's fields
 
--- the bytes of a Cluster with the elements `elements`; none without a Timestamp
+-- the bytes of a Cluster with the Timestamp in the first argument and the blocks' bytes `elements`; none without a Timestamp
 abbrev pub cluster_with : Option ℕ → List ℕ → List ℕ
 cluster_with None elements = []
 cluster_with (Some timestamp) elements = octets_of (element CLUSTER (octets_of (timestamp_element timestamp) ++ elements))
@@ -56,53 +57,54 @@ cluster_with (Some timestamp) elements = octets_of (element CLUSTER (octets_of (
 abbrev pub is_empty : Gathered → Bool
 is_empty g = is_none g.timestamp
 
--- the length of the body of a Cluster with the Timestamp `timestamp` and the elements `elements`
+-- the number of bytes of content of a Cluster with the Timestamp `timestamp` and the blocks' bytes `elements`
 abbrev pub size_with : ℕ → List ℕ → ℕ
 size_with timestamp elements = length (octets_of (timestamp_element timestamp)) + length elements
 
 -- ---- limits of the length
 
--- A Cluster with `count` blocks is small: it has one block of at most 128 MiB, or a body of at most 1 MiB.
+-- A Cluster with `count` blocks, whose bytes are `elements`, is within its limits: one block of at most 128 MiB, or at most 1 MiB of content.
 abbrev pub IsSmall : Option ℕ → ℕ → List ℕ → Type 0
 IsSmall None count elements = ⊤
 IsSmall (Some timestamp) count elements = ((count ≡ 1) × (length elements ≤ 2 ^ 27)) ⊎ (size_with timestamp elements ≤ MAX_CLUSTER_LEN)
 
--- The Cluster in memory is small: it has one block of at most 128 MiB, or a body of at most 1 MiB.
+-- The Cluster in the buffer `g` is within its limits: one block of at most 128 MiB, or at most 1 MiB of content.
 abbrev pub HoldsSmall : Gathered → Type 0
 HoldsSmall g = IsSmall g.timestamp g.count g.elements
 
--- The bytes of a Cluster with `count` blocks, header included, are few: one block of at most 128 MiB, or about 1 MiB.
+-- The bytes `octets` of a Cluster with `count` blocks, header included, are within its limits: one block of at most 128 MiB, or about 1 MiB.
 abbrev pub AreFew : ℕ → List ℕ → Type 0
 AreFew count octets = ((count ≡ 1) × (length octets ≤ 2 ^ 27 + 40)) ⊎ (length octets ≤ MAX_CLUSTER_LEN + 16)
 
 -- ---- test for joining a Cluster
 
--- A block at `tick`, with an element of `len` bytes, can join the Cluster.
+-- A block at `tick`, whose Element has `len` bytes, may join a Cluster within `limits`. The Cluster has `count` blocks with the bytes `elements`. A
+-- first block always may join.
 abbrev pub joins_at : ClusterLimits → Option ℕ → ℕ → List ℕ → ℕ → ℕ → Bool
 joins_at limits None count elements tick len = true
 joins_at limits (Some timestamp) count elements tick len = may_have limits timestamp (count + 1) tick (size_with timestamp elements + len)
 
--- A block at `tick`, with an element of `len` bytes, can join the Cluster in memory.
+-- A block at `tick`, whose Element has `len` bytes, may join the Cluster in the buffer `g`.
 abbrev pub has_place : Gathered → ℕ → ℕ → Bool
 has_place g tick len = joins_at g.limits g.timestamp g.count g.elements tick len
 
--- the Cluster's Timestamp after a block at `tick` was added
+-- the Timestamp of the Cluster in the buffer `g` after a block at `tick` was added
 abbrev pub timestamp_for : Gathered → ℕ → ℕ
 timestamp_for g tick = unwrap_or g.timestamp tick
 
--- the offset of the next block in the Cluster's body
+-- the offset of the next block, which is at `tick`, in the content of the Cluster in the buffer `g`
 abbrev pub place_in : Gathered → ℕ → ℕ
 place_in g tick = size_with (timestamp_for g tick) g.elements
 
--- A block can be put into the buffer `g`. It is within a block's limits, its output track number fits in one byte, it can join, and its element
--- fits in the capacity.
+-- The block `l` can be put into the buffer `g`, on the output track number `lane`, at the tick `tick`. It is within the limits of a block, and the
+-- number is below 128. It may join the Cluster, and its Element fits in the free capacity.
 pub record CanPut (g : Gathered) (lane tick : ℕ) (l : Lent) : Type 0 where
   pub lent : IsLent l
   pub number : lane < 128
   pub fits : has_place g tick (octets_taken (block_put lane tick l)) ≡ true
   pub room : octets_taken (block_put lane tick l) ≤ g.spare
 
--- `new` is `old` with the element of the block `b` added, and at most its length less capacity.
+-- The buffer `new` is `old` with the Element of the block `b` added. The free capacity fell by at most its length.
 pub record AddsBlock (b : OutputBlock) (old new : Gathered) : Type 0 where
   pub limits : new.limits ≡ old.limits
   pub timestamp : new.timestamp ≡ Some (timestamp_for old b.tick)
@@ -110,27 +112,27 @@ pub record AddsBlock (b : OutputBlock) (old new : Gathered) : Type 0 where
   pub elements : new.elements ≡ old.elements ++ octets_of (block_element (timestamp_for old b.tick) b)
   pub spare : old.spare ≤ new.spare + octets_taken b
 
--- `new` is `old` with the element of a block added, which has the given parts.
+-- The buffer `new` is `old` with the Element of a block added, which has the given parts.
 abbrev pub AddsLent : ℕ → ℕ → OutHead → List ℕ → List ℕ → List ℕ → List ℤ → List ℕ → Gathered → Gathered → Type 0
 AddsLent lane tick head prefix body sizes references kept old new =
     AddsBlock (block_put lane tick (lent head prefix body sizes references kept)) old new
 
 -- ---- the Cluster in the buffer, for callers
 
--- `answer` is the test whether a block at `tick`, with an element of `len` bytes, can join the Cluster in `g`.
+-- `answer` is whether a block at `tick`, whose Element has `len` bytes, may join the Cluster that the buffer `g` holds.
 abbrev pub TellsJoining : Gathered → ℕ → ℕ → Bool → Type 0
 TellsJoining g tick len answer =
     (c : Option OutputCluster) (b : OutputBlock) → Holds c g → b.tick ≡ tick → octets_taken b ≡ len → answer ≡ joins_next g.limits c b
 
--- `new` contains the same Cluster as `old`.
+-- The buffer `new` holds the same Cluster as the buffer `old`.
 abbrev pub HoldsSame : Gathered → Gathered → Type 0
 HoldsSame old new = (c : Option OutputCluster) → Holds c old → Holds c new
 
--- `new` contains the Cluster of `old` with the block `b` added.
+-- The buffer `new` holds the Cluster of the buffer `old` with the block `b` after its own.
 abbrev pub HoldsNext : OutputBlock → Gathered → Gathered → Type 0
 HoldsNext b old new = (c : Option OutputCluster) → Holds c old → Holds (Some (with_next c b)) new
 
--- `new` contains the Cluster of `old` with a block added, which has the given parts.
+-- The buffer `new` holds the Cluster of the buffer `old` with a block after its own, which has the given parts.
 abbrev pub HoldsLent : ℕ → ℕ → OutHead → List ℕ → List ℕ → List ℕ → List ℤ → List ℕ → Gathered → Gathered → Type 0
 HoldsLent lane tick head prefix body sizes references kept old new =
     HoldsNext (block_put lane tick (lent head prefix body sizes references kept)) old new

@@ -8,54 +8,55 @@ use Rattle.output_model.specs.declared.heads.OutHead.{OutHead}
 use Rattle.output_model.specs.OutputBlock.{OutputBlock}
 use Rattle.output_model.specs.Block.{lace_octets, duration_elements, reference_element, block_element}
 
--- the length of the element of the block `b`, the same in each Cluster
+-- the length in bytes of the SimpleBlock or BlockGroup for the block `b`, the same in each Cluster
 abbrev pub octets_taken : OutputBlock → ℕ
 octets_taken b = length (octets_of (block_element b.tick b))
 
 -- ---- lengths of the parts
 
--- the sizes of frames with a prefix of `prefix` bytes before each
+-- the sizes in bytes of frames that have the sizes `sizes` without a prefix of `prefix` bytes each
 abbrev pub prefixed_sizes : ℕ → List ℕ → List ℕ
 prefixed_sizes prefix sizes = map (λ size. prefix + size) sizes
 
--- the length of a Block with frames of the sizes `sizes`
+-- the length in bytes of a Block with the lacing `kind` and frames of the sizes `sizes`
 abbrev pub block_len : Lace → List ℕ → ℕ
 block_len kind sizes = 4 + length (lace_octets kind sizes) + sum sizes
 
--- the length of the BlockDuration in bytes, or 0 without one
+-- the length in bytes of the BlockDuration Element, or 0 without a duration
 abbrev pub duration_len : Option ℕ → ℕ
 duration_len duration = length (joined (duration_elements duration))
 
--- the length of the ReferenceBlocks in bytes
+-- the length in bytes of the ReferenceBlock Elements for these references
 abbrev pub references_len : List ℤ → ℕ
 references_len references = length (joined (map reference_element references))
 
--- the length of an element with `len` bytes after its header
+-- the length in bytes of an Element with the ID `id` and `len` bytes of content
 abbrev pub whole_len : ℕ → ℕ → ℕ
 whole_len id len = length (header_octets id len) + len
 
--- the length of a group's children after its Block
+-- the length in bytes of a group's children after its Block; `kept` is the number of bytes of kept children
 abbrev pub behind_len : Option ℕ → List ℤ → ℕ → ℕ
 behind_len duration references kept = duration_len duration + references_len references + kept
 
--- the length of a BlockGroup's body, with a Block of `block` bytes and `kept` bytes of copied children
+-- the number of bytes of content of a BlockGroup with a Block of `block` bytes and `kept` bytes of kept children
 abbrev pub group_len : OutHead → ℕ → List ℤ → ℕ → ℕ
 group_len head block references kept = whole_len BLOCK block + behind_len head.duration references kept
 
--- the length of the body of a block's element, whose Block has `block` bytes
+-- the number of bytes of content of a block's SimpleBlock or BlockGroup, whose Block has `block` bytes; `kept` bytes are kept children
 abbrev pub body_len : OutHead → ℕ → List ℤ → ℕ → ℕ
 body_len head block references kept = if head.group then group_len head block references kept else block
 
--- the bytes of a group's children after its Block
+-- the bytes of the children after the Block in the group of the block `b`
 abbrev pub behind_octets : OutputBlock → List ℕ
 behind_octets b = joined (duration_elements b.duration ++ map reference_element b.references) ++ b.kept
 
--- the length of a block's element, for sizes that include the prefix
+-- the length in bytes of a block's SimpleBlock or BlockGroup, if the frame sizes `sizes` include the prefix; `kept` bytes are kept children
 abbrev pub sized_len : OutHead → List ℕ → List ℤ → ℕ → ℕ
 sized_len head sizes references kept =
     let block = block_len head.lace sizes in
     if head.group then whole_len BLOCK_GROUP (group_len head block references kept) else whole_len SIMPLE_BLOCK block
 
--- the length of a block's element, for sizes without the prefix
+-- the length in bytes of a block's SimpleBlock or BlockGroup, if frames of the sizes `sizes` have a prefix of `prefix` bytes each. `kept` bytes are
+-- kept children.
 abbrev pub taken_len : OutHead → ℕ → List ℕ → List ℤ → ℕ → ℕ
 taken_len head prefix sizes references kept = sized_len head (prefixed_sizes prefix sizes) references kept

@@ -1,4 +1,4 @@
--- A block that is put into a Cluster, and its meaning in the output.
+-- A block that is put into a Cluster, and the block of the output that it becomes.
 use Rattle.std.specs.Prelude.{◌≡◌, ◌<◌, ◌≤◌, ◌^◌, ℕ, ℤ, true, List, length}
 use Rattle.output_model.specs.declared.heads.OutHead.{OutHead}
 use Rattle.output_model.specs.OutputBlock.{OutputBlock, Lent, IsLent, lent_block, in_output}
@@ -7,29 +7,29 @@ use Rattle.cluster_writer.specs.Lengths.{prefixed_sizes, block_len, body_len, oc
 use Rattle.cluster_writer.specs.declared.lent.BlockRef.{BlockRef}
 use Rattle.cluster_writer.specs.declared.lent.BlockLengths.{BlockLengths}
 
--- a block that an output track hands out, from its parts
+-- the block of an output track with these parts
 abbrev pub lent : OutHead → List ℕ → List ℕ → List ℕ → List ℤ → List ℕ → Lent
 lent head prefix body sizes references kept =
     record { head = head; prefix = prefix; body = body; sizes = sizes; references = references; kept = kept }
 
--- the block that a reference refers to, from its parts
+-- the block of an output track that the borrowed block `b` has
 abbrev pub lent_of : BlockRef → Lent
 lent_of b = lent b.head.now b.prefix.now b.body.now b.sizes.now b.references.now b.kept.now
 
--- the block `l` in the output, in the track `lane` at the tick `tick` of its part
+-- the block `l` as it is in the output, on the output track number `lane` at the tick `tick` of its part
 abbrev pub block_put : ℕ → ℕ → Lent → OutputBlock
 block_put lane tick l = in_output lane tick (lent_block l)
 
--- the block that a reference refers to, in its output track and at its tick
+-- the borrowed block `b` as it is in the output, on its output track and at its tick
 abbrev pub block_of : BlockRef → OutputBlock
 block_of b = block_put b.lane b.tick (lent_of b)
 
--- The block `b` is within a block's limits, and its output track number fits in one byte.
+-- The borrowed block `b` is within the limits of a block, and its output track number is below 128.
 pub record CanBePut (b : BlockRef) : Type 0 where
   pub lent : IsLent (lent_of b)
   pub lane : b.lane < 128
 
--- The block `l` has the head `own`, a prefix of `front` bytes, the sizes `parts`, the references `others`, and `extra` bytes of kept children.
+-- The block `l` has the head `own`, a prefix of `front` bytes, the frame sizes `parts`, the references `others`, and `extra` bytes of kept children.
 pub record Measures (own : OutHead) (front : ℕ) (parts : List ℕ) (others : List ℤ) (extra : ℕ) (l : Lent) : Type 0 where
   pub head : l.head ≡ own
   pub prefix : length l.prefix ≡ front
@@ -37,20 +37,21 @@ pub record Measures (own : OutHead) (front : ℕ) (parts : List ℕ) (others : L
   pub references : l.references ≡ others
   pub kept : length l.kept ≡ extra
 
--- `len` is the length of the element of each block with these measures.
+-- `len` is the length in bytes of the SimpleBlock or BlockGroup of each block with these parts and lengths.
 abbrev pub IsLenOf : OutHead → ℕ → List ℕ → List ℤ → ℕ → ℕ → Type 0
 IsLenOf head prefix sizes references kept len =
     (l : Lent) → IsLent l → Measures head prefix sizes references kept l → len ≡ octets_taken (lent_block l)
 
--- the sizes of the frames of `b`, prefix included
+-- the sizes in bytes of the frames of the borrowed block `b`, prefix included
 abbrev pub sizes_put : BlockRef → List ℕ
 sizes_put b = prefixed_sizes (length b.prefix.now) b.sizes.now
 
--- the length of the children after the Block in the group of `b`
+-- the length in bytes of the children after the Block in the group of the borrowed block `b`
 abbrev pub behind_put : BlockRef → ℕ
 behind_put b = behind_len b.head.now.duration b.references.now (length b.kept.now)
 
--- `lengths` are the lengths of `b` as it is written: its Block, its element's body, and its element, of at most 128 MiB.
+-- `lengths` are the lengths in bytes of the borrowed block `b` as it is written. They are of its Block, of its Element's content, and of its Element,
+-- at most 128 MiB.
 pub record AreLengths (b : BlockRef) (lengths : BlockLengths) : Type 0 where
   pub block : lengths.block ≡ block_len b.head.now.lace (sizes_put b)
   pub body : lengths.body ≡ body_len b.head.now lengths.block b.references.now (length b.kept.now)
@@ -59,7 +60,7 @@ pub record AreLengths (b : BlockRef) (lengths : BlockLengths) : Type 0 where
 
 -- ---- while the block is written
 
--- The block `b` can be written in a Cluster with the Timestamp `timestamp`: it can be put, and its time is near enough.
+-- The borrowed block `b` can be written in a Cluster with the Timestamp `timestamp`. It is within its limits, and near enough in ticks.
 pub record CanStand (timestamp : ℕ) (b : BlockRef) : Type 0 where
   pub put : CanBePut b
   pub near : is_near timestamp b.tick ≡ true

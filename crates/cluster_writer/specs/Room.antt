@@ -1,14 +1,14 @@
--- Bytes that are appended within the capacity.
+-- Bytes that are appended within the capacity of a buffer.
 use Rattle.std.specs.Prelude.{◌≡◌, ℕ, ◌+◌, ◌≤◌, List, ◌++◌, length, vec_len}
 use Rattle.std.specs.Vec.{vec_capacity}
 use Rattle.std.specs.declared.alloc.Global.{Global}
 use Rattle.std.specs.declared.vec.Vec.{Vec}
 
--- `v` has capacity for `n` more bytes.
+-- The buffer `v` has free capacity for `n` more bytes.
 abbrev pub HasRoom : Vec ℕ Global → ℕ → Type 0
 HasRoom v n = vec_len v + n ≤ vec_capacity v
 
--- `new` is `old` with `octets` appended, and at least the same capacity.
+-- The buffer `new` is `old` with `octets` appended, and at least the same capacity.
 pub record Adds (old new : Vec ℕ Global) (octets : List ℕ) : Type 0 where
   pub items : new.items ≡ old.items ++ octets
   pub len : vec_len new ≡ vec_len old + length octets

@@ -20,7 +20,8 @@ use lacing::Lace;
 use mkv_schema::ids::{BLOCK, BLOCK_GROUP, SIMPLE_BLOCK};
 use output_model::OutHead;
 
-/// Returns the length in bytes of a Block with frames of the sizes `sizes`, each after a prefix of `prefix` bytes.
+/// Returns the length in bytes of a Block whose frames have the sizes `sizes`, each after a prefix of `prefix` bytes.
+/// The lacing is `kind`.
 pub(crate) fn block_len(kind: Lace, prefix: u32, sizes: &[u32]) -> u64
     requires { CanLace kind (prefixed_sizes prefix sizes.now) }
     ensures exact { result ≡ block_len kind (prefixed_sizes prefix sizes.now) }
@@ -29,7 +30,7 @@ pub(crate) fn block_len(kind: Lace, prefix: u32, sizes: &[u32]) -> u64
     4 + lace_octets_len(kind, prefix, sizes) + prefixed_total(prefix, sizes)
 }
 
-// Returns the total length of frames of the sizes `sizes`, each after a prefix of `prefix` bytes.
+// Returns the total length in bytes of frames of the sizes `sizes`, each after a prefix of `prefix` bytes.
 fn prefixed_total(prefix: u32, sizes: &[u32]) -> u64
     requires { sum (prefixed_sizes prefix sizes.now) ≤ 2 ^ 26 }
     ensures { result ≡ sum (prefixed_sizes prefix sizes.now) }
@@ -37,7 +38,7 @@ fn prefixed_total(prefix: u32, sizes: &[u32]) -> u64
     u64::from(prefix) * sizes.len() as u64 + total(sizes)
 }
 
-// Returns the sum of frame sizes in bytes.
+// Returns the sum of the frame sizes `sizes` in bytes.
 fn total(sizes: &[u32]) -> u64
     requires { sum sizes.now ≤ 2 ^ 26 }
     ensures { result ≡ sum sizes.now }
@@ -51,14 +52,14 @@ fn total(sizes: &[u32]) -> u64
 
 // ---- the header of a Block
 
-// Returns the flag `value` if it is set, and 0 otherwise.
+// Returns the flag `value` of a block's header if `set`, and 0 otherwise.
 fn flag(value: u8, set: bool) -> u8
     ensures { result ≡ flag value set }
 {
     if set { value } else { 0 }
 }
 
-// Returns the two bits of a kind of lacing in the flags of a block.
+// Returns the bits of the lacing `kind` in the flags of a block: RFC 9559, section 10.1 (Block Structure).
 fn lace_bits(kind: Lace) -> u8
     ensures exact { result ≡ lace_bits kind }
     ensures most { result ≤ 0x06 }
@@ -71,7 +72,7 @@ fn lace_bits(kind: Lace) -> u8
     }
 }
 
-// In a group only two flags of a Block count.
+// Returns the flags of `block` for its header. A Block in a group only has the flags of invisibility and lacing.
 fn flags_of(block: &BlockRef<'_>) -> u8
     ensures { result ≡ flags_of (block_of block.now) }
 {
@@ -84,7 +85,8 @@ fn flags_of(block: &BlockRef<'_>) -> u8
     }
 }
 
-// Returns the signed ticks from the Cluster's Timestamp to `tick`, as 16 bits.
+// Returns the signed distance in ticks from the Timestamp of the Cluster, `timestamp`, to the block's `tick`, as 16
+// bits for its header.
 fn relative(timestamp: u64, tick: u64) -> u16
     requires { is_near timestamp tick ≡ true }
     ensures { big_bytes 2 result ≡ int_octets_in 2 (pos tick -ℤ pos timestamp) }
@@ -98,7 +100,8 @@ fn relative(timestamp: u64, tick: u64) -> u16
 
 // ---- the Element
 
-// Appends the header of the element `id` of a Block of `len` bytes, and the header of the Block.
+// Appends the Element header with the ID `id` and `len` bytes of content, and the header of the Block. `timestamp` is
+// the Cluster's Timestamp.
 fn add_headers(out: &mut Vec<u8>, id: u32, timestamp: u64, block: &BlockRef<'_>, len: u64)
     requires id { IsTrue (is_id id) }
     requires near { is_near timestamp block.now.tick ≡ true }
@@ -118,7 +121,8 @@ fn add_headers(out: &mut Vec<u8>, id: u32, timestamp: u64, block: &BlockRef<'_>,
     }
 }
 
-// Appends a Block of `len` bytes as the element `id`: a SimpleBlock, or the Block of a group.
+// Appends `block` as an Element with the ID `id` and `len` bytes of content: a SimpleBlock, or the Block of a group.
+// `timestamp` is the Cluster's Timestamp.
 fn add_block_element(out: &mut Vec<u8>, id: u32, timestamp: u64, block: &BlockRef<'_>, len: u64)
     requires id { IsTrue (is_id id) }
     requires block { CanStand timestamp block.now }
@@ -132,7 +136,8 @@ fn add_block_element(out: &mut Vec<u8>, id: u32, timestamp: u64, block: &BlockRe
     add_frames(out, block.prefix, block.body, block.sizes);
 }
 
-// Appends a BlockGroup of `body` bytes after its header, with a Block of `len` bytes.
+// Appends `block` as a BlockGroup with `body` bytes of content, with a Block of `len` bytes. `timestamp` is the
+// Cluster's Timestamp.
 #[tactic(auto, unfolding(ebml_numbers::specs::Number::is_id))]
 fn add_group(out: &mut Vec<u8>, timestamp: u64, block: &BlockRef<'_>, len: u64, body: u64)
     requires block { CanStand timestamp block.now }
@@ -147,7 +152,8 @@ fn add_group(out: &mut Vec<u8>, timestamp: u64, block: &BlockRef<'_>, len: u64, 
     add_behind(out, block);
 }
 
-/// Appends the element of `block`, which has the lengths `lengths`, without allocating.
+/// Appends `block` as a SimpleBlock or BlockGroup, whose lengths are `lengths`, to a Cluster with the Timestamp
+/// `timestamp`. Allocates no memory.
 #[tactic(auto, unfolding(ebml_numbers::specs::Number::is_id))]
 pub(crate) fn add_element(
     out: &mut Vec<u8>,

@@ -1,4 +1,4 @@
-//! Buffer for a Cluster
+//! Buffer for one Cluster that is being filled
 
 ghost use Rattle.std.specs.Prelude.{◌≡◌, ◌^◌, ◌≤◌, Some, None, OnOk, IfOk, length};
 ghost use Rattle.std.specs.Borrow.{sem};
@@ -16,7 +16,7 @@ use output_model::{ClusterLimits, OutHead};
 use std::alloc::{AllocError, Global};
 use std::marker::Model;
 
-/// One Cluster, written block by block; its memory is reused for the next one
+/// One Cluster, filled block by block; its memory is reused for the next one
 #[derive(Drop)]
 pub struct ClusterBuf {
     limits: ClusterLimits,
@@ -50,7 +50,7 @@ impl Model for ClusterBuf {
 }
 
 impl ClusterBuf {
-    /// Returns a buffer without a block, which fills Clusters within `limits`.
+    /// Returns a buffer without a block, for Clusters within `limits`.
     pub fn new(alloc: Global, limits: ClusterLimits) -> Result<ClusterBuf, AllocError>
         ensures empty { IfOk result (Holds None) }
         ensures limits { IfOk result (λ b. b.limits ≡ limits) }
@@ -66,8 +66,8 @@ impl ClusterBuf {
         })
     }
 
-    /// Checks whether a block at `tick`, with an element of `len` bytes, can join the Cluster in the buffer. A first
-    /// block always can.
+    /// Checks whether a block at `tick`, whose Element has `len` bytes, may join the Cluster in the buffer. A first
+    /// block always may.
     pub fn fits(&self, tick: u64, len: u64) -> bool
         ensures exact { result ≡ has_place self.now tick len }
         ensures joins { TellsJoining self.now tick len result }
@@ -85,7 +85,7 @@ impl ClusterBuf {
         }
     }
 
-    /// Reserves memory for `len` more bytes, so that the next block is added without allocating.
+    /// Reserves memory for the Element of the next block, of `len` bytes, so that it is added without allocating.
     pub fn reserve(&mut self, len: u64) -> Result<(), AllocError>
         ensures ok { OnOk result (len ≤ self.new.spare) }
         ensures same { self.new ≡ record self.old { spare = self.new.spare } }
@@ -94,8 +94,10 @@ impl ClusterBuf {
         self.octets.reserve(len as usize)
     }
 
-    /// Appends a block that fits, of the output track `lane`, at the tick `tick` of the output. Returns the offset of
-    /// its element in the Cluster's body. It doesn't allocate.
+    /// Appends a block that fits, of the output track number `lane`, counted from 1, at the tick `tick` of its part. It
+    /// has the head `head`, and frames with the bytes `body` and the sizes `sizes`, each after `prefix`. Its references
+    /// `refs` are in ticks, and `extra` has the bytes of kept children. Returns the offset of its Element in the
+    /// Cluster's content, for its cue point. Allocates no memory.
     pub fn put(
         &mut self,
         lane: u8,
@@ -125,7 +127,8 @@ impl ClusterBuf {
         })
     }
 
-    /// Appends `block`, like `put`.
+    /// Appends `block`, which fits, and returns the offset of its Element in the Cluster's content. Allocates no
+    /// memory.
     pub fn put_block(&mut self, block: &BlockRef<'_>) -> u64
         requires { CanPut self.old block.now.lane block.now.tick (lent_of block.now) }
         ensures added { AddsBlock (block_of block.now) self.old self.new }
@@ -136,7 +139,8 @@ impl ClusterBuf {
         self.put_measured(block, block.lengths())
     }
 
-    /// Appends `block`, like `put`, with its lengths computed before.
+    /// Appends `block`, which fits and whose lengths are `lengths`, and returns the offset of its Element in the
+    /// Cluster's content. Allocates no memory.
     pub fn put_measured(&mut self, block: &BlockRef<'_>, lengths: BlockLengths) -> u64
         requires can { CanPut self.old block.now.lane block.now.tick (lent_of block.now) }
         requires lengths { AreLengths block.now lengths }
@@ -154,7 +158,7 @@ impl ClusterBuf {
         place
     }
 
-    /// Removes the blocks, without freeing memory.
+    /// Removes all blocks for the next Cluster, without freeing memory.
     pub fn clear(&mut self)
         ensures empty { Holds None self.new }
         ensures limits { self.new.limits ≡ self.old.limits }
@@ -165,15 +169,15 @@ impl ClusterBuf {
         self.count = 0;
     }
 
-    /// Checks whether there is no block.
+    /// Checks whether the buffer has no block.
     pub fn is_empty(&self) -> bool
         ensures { result ≡ is_empty self.now }
     {
         self.timestamp.is_none()
     }
 
-    /// Returns the bytes of the Cluster, which are none without a block. It writes the Cluster's header and Timestamp
-    /// now.
+    /// Returns the bytes of the Cluster, or none without a block. Writes the Cluster's header and Timestamp before the
+    /// blocks for this.
     pub fn octets(&mut self) -> &[u8]
         ensures* stays { sem 𝓛 (StaysAsItIs self.entry) }
         ensures exact { result.now ≡ cluster_with self.old.timestamp self.old.elements }
@@ -184,7 +188,7 @@ impl ClusterBuf {
         &self.octets[start..]
     }
 
-    // Returns the length of the Timestamp after a block at `tick` was added.
+    // Returns the length in bytes of the Timestamp Element, if the next block is at `tick`.
     fn timestamp_len_at(&self, tick: u64) -> u64
         ensures exact { result ≡ length (octets_of (timestamp_element (timestamp_for self.now tick))) }
         ensures most { result ≤ 24 }
@@ -195,7 +199,7 @@ impl ClusterBuf {
         }
     }
 
-    // Returns the length of the body before a block at `tick`.
+    // Returns the length of the Cluster's content before the next block, which is at `tick`: the offset of that block.
     fn place(&self, tick: u64) -> u64
         ensures exact { result ≡ place_in self.now tick }
         ensures most { result ≤ 2 ^ 40 }

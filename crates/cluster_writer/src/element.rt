@@ -1,4 +1,4 @@
-//! Header of an element, and elements that are written whole
+//! Header of an Element, and Elements that are written as one
 
 ghost use Rattle.std.specs.Prelude.{◌≡◌, ◌+◌, ◌<◌, ◌≤◌, ◌++◌, ◌&&◌, nat_lt, length, vec_len, IsTrue};
 ghost use Rattle.std.specs.Vec.{vec_capacity};
@@ -9,7 +9,7 @@ ghost use Rattle.cluster_writer.specs.Room.{Adds, HasRoom};
 
 use ebml_numbers::{put_id, put_size, put_uint, size_width};
 
-/// Appends `octets` without allocating.
+/// Appends the bytes `octets` to `out`, which has the capacity for them. Allocates no memory.
 pub fn add(out: &mut Vec<u8>, octets: &[u8])
     requires { HasRoom out.old (length octets.now) }
     ensures { Adds out.old out.new octets.now }
@@ -17,14 +17,15 @@ pub fn add(out: &mut Vec<u8>, octets: &[u8])
     let _ = out.extend_from_slice(octets);
 }
 
-/// Checks whether a header has two bytes: one for the ID and one for the size, as for most elements in a Cluster.
+/// Checks whether an Element header with the ID `id`, for `len` bytes of content, has two bytes, one for ID and size
+/// each. This is so for most Elements in a Cluster.
 pub(crate) fn is_short(id: u32, len: u64) -> bool
     ensures { result ≡ nat_lt id 256 && nat_lt len 127 }
 {
     id < 256 && len < 127
 }
 
-/// Returns the length of an element with `len` bytes after the shortest header.
+/// Returns the length in bytes of an Element with the ID `id` and `len` bytes of content, with the shortest header.
 pub fn element_len(id: u32, len: u64) -> u64
     requires id { IsTrue (is_id id) }
     requires len { len < all_ones 8 }
@@ -37,7 +38,7 @@ pub fn element_len(id: u32, len: u64) -> u64
     u64::from(put_id(id).len) + u64::from(size_width(len)) + len
 }
 
-/// Appends the header of an element with `len` bytes after it, without allocating.
+/// Appends the shortest header of an Element with the ID `id` and `len` bytes of content. Allocates no memory.
 pub fn add_header(out: &mut Vec<u8>, id: u32, len: u64)
     requires id { IsTrue (is_id id) }
     requires len { len < all_ones 8 }
@@ -51,14 +52,14 @@ pub fn add_header(out: &mut Vec<u8>, id: u32, len: u64)
     add(out, put_size(len, size_width(len)).as_slice());
 }
 
-// Checks whether an unsigned integer element has three bytes: one each for ID, size and value.
+// Checks whether an unsigned integer Element has three bytes: one each for ID, size and value.
 fn is_small(id: u32, value: u64) -> bool
     ensures { result ≡ nat_lt id 256 && nat_lt value 256 }
 {
     id < 256 && value < 256
 }
 
-/// Returns the length of an unsigned integer element.
+/// Returns the length in bytes of the unsigned integer Element with the ID `id` and the value `value`.
 pub fn uint_len(id: u32, value: u64) -> u64
     requires { IsTrue (is_id id) }
     ensures exact { result ≡ length (octets_of (uint_element id value)) }
@@ -70,7 +71,7 @@ pub fn uint_len(id: u32, value: u64) -> u64
     element_len(id, u64::from(put_uint(value).len))
 }
 
-/// Appends an unsigned integer element without allocating.
+/// Appends the unsigned integer Element with the ID `id` and the value `value`. Allocates no memory.
 pub fn add_uint(out: &mut Vec<u8>, id: u32, value: u64)
     requires id { IsTrue (is_id id) }
     requires room { HasRoom out.old (length (octets_of (uint_element id value))) }

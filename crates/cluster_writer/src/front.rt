@@ -1,4 +1,4 @@
-//! Start of a Cluster: its header, which is known last, and its Timestamp
+//! Start of a Cluster: its header, whose size is known last, and its Timestamp
 
 ghost use Rattle.std.specs.Prelude.{◌≡◌, ◌+◌, ◌^◌, ◌≤◌, ◌++◌, ℕ, [], length, drop, None, Some};
 ghost use Rattle.output_model.specs.Element.{octets_of};
@@ -9,10 +9,11 @@ use crate::element::uint_len;
 use ebml_numbers::{put_id, put_size, put_uint, size_width};
 use mkv_schema::ids::{CLUSTER, TIMESTAMP};
 
-/// Number of bytes that are enough for the header and Timestamp of a Cluster
+/// Number of bytes that are reserved for the header and the Timestamp of a Cluster
 pub(crate) const FRONT: usize = 40;
 
-// Writes `part` so that it ends at `at`, and returns its start.
+// Writes `part` into `octets` so that it ends before the offset `at`, and returns its offset. The start of a Cluster is
+// written so, backwards.
 fn put_before(octets: &mut [u8], at: usize, part: &[u8]) -> usize
     requires inside { at ≤ length octets.old }
     requires room { length part.now ≤ at }
@@ -25,7 +26,7 @@ fn put_before(octets: &mut [u8], at: usize, part: &[u8]) -> usize
     start
 }
 
-/// Returns the length of a Timestamp element.
+/// Returns the length in bytes of the Timestamp Element with the value `timestamp`.
 #[tactic(auto, unfolding(ebml_numbers::specs::Number::is_id))]
 pub(crate) fn timestamp_len(timestamp: u64) -> u64
     ensures exact { result ≡ length (octets_of (timestamp_element timestamp)) }
@@ -34,7 +35,8 @@ pub(crate) fn timestamp_len(timestamp: u64) -> u64
     uint_len(TIMESTAMP, timestamp)
 }
 
-// Writes a Timestamp element directly before the blocks, and returns its start.
+// Writes the Timestamp Element with the value `timestamp` directly before the blocks, which begin at `FRONT`. Returns
+// its offset.
 #[tactic(auto, unfolding(ebml_numbers::specs::Number::is_id))]
 fn put_timestamp(octets: &mut [u8], timestamp: u64) -> usize
     requires { FRONT ≤ length octets.old }
@@ -50,7 +52,8 @@ fn put_timestamp(octets: &mut [u8], timestamp: u64) -> usize
     put_before(octets, at, put_id(TIMESTAMP).as_slice())
 }
 
-// Writes the header of a Cluster and its Timestamp directly before its blocks, and returns the start.
+// Writes the header of a Cluster and its Timestamp directly before the blocks, which begin at `FRONT`. Returns the
+// offset of the header.
 #[tactic(auto, unfolding(ebml_numbers::specs::Number::is_id))]
 fn put_header(octets: &mut [u8], timestamp: u64) -> usize
     requires front { FRONT ≤ length octets.old }
@@ -65,8 +68,8 @@ fn put_header(octets: &mut [u8], timestamp: u64) -> usize
     put_before(octets, at, put_id(CLUSTER).as_slice())
 }
 
-/// Writes the header and Timestamp of a Cluster directly before its blocks, and returns the start. Without a
-/// Timestamp there are no blocks, and nothing is written.
+/// Writes the header of a Cluster and its Timestamp directly before the blocks, which begin at `FRONT`. Returns the
+/// offset of the header. Without a `timestamp` there is no block, and nothing is written.
 pub(crate) fn put_front(octets: &mut [u8], timestamp: Option<u64>) -> usize
     requires front { FRONT ≤ length octets.old }
     requires most { length octets.old ≤ 2 ^ 29 }

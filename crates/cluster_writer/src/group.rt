@@ -13,7 +13,8 @@ use ebml_numbers::put_int;
 use mkv_schema::ids::{BLOCK, BLOCK_DURATION, REFERENCE_BLOCK};
 use output_model::OutHead;
 
-/// Returns the length of a group's body, with a Block of `block` bytes and `kept` bytes of kept children.
+/// Returns the length in bytes of a BlockGroup's content. It has a Block of `block` bytes, the BlockDuration of `head`,
+/// the references `references`, and `kept` bytes of kept children.
 #[tactic(auto, unfolding(ebml_numbers::specs::Number::is_id))]
 pub(crate) fn group_len(head: &OutHead, block: u64, references: &[i64], kept: u64) -> u64
     requires block { block ≤ 2 ^ 26 + 2 ^ 21 }
@@ -25,7 +26,7 @@ pub(crate) fn group_len(head: &OutHead, block: u64, references: &[i64], kept: u6
     element_len(BLOCK, block) + duration_len(head.duration) + references_len(references) + kept
 }
 
-// Returns the length of a BlockDuration in bytes, or 0 without a duration.
+// Returns the length in bytes of the BlockDuration Element, or 0 without a duration.
 #[tactic(auto, unfolding(ebml_numbers::specs::Number::is_id))]
 fn duration_len(duration: Option<u64>) -> u64
     ensures exact { result ≡ duration_len duration }
@@ -37,7 +38,7 @@ fn duration_len(duration: Option<u64>) -> u64
     }
 }
 
-/// Appends the children of a BlockGroup after its Block.
+/// Appends the children of the BlockGroup of `block` after its Block: BlockDuration, ReferenceBlocks and kept children.
 pub(crate) fn add_behind(out: &mut Vec<u8>, block: &BlockRef<'_>)
     requires { HasRoom out.old (behind_put block.now) }
     ensures { Adds out.old out.new (behind_octets (block_of block.now)) }
@@ -47,7 +48,7 @@ pub(crate) fn add_behind(out: &mut Vec<u8>, block: &BlockRef<'_>)
     add(out, block.kept);
 }
 
-// Appends the BlockDuration, if there is one.
+// Appends a BlockDuration of `duration` ticks, if there is one.
 #[tactic(auto, unfolding(ebml_numbers::specs::Number::is_id))]
 fn add_duration(out: &mut Vec<u8>, duration: Option<u64>)
     requires { HasRoom out.old (duration_len duration) }
@@ -58,7 +59,7 @@ fn add_duration(out: &mut Vec<u8>, duration: Option<u64>)
     }
 }
 
-// Returns the length in bytes of a ReferenceBlock of `ticks` ticks.
+// Returns the length in bytes of the ReferenceBlock Element for a block `ticks` ticks away.
 #[tactic(auto, unfolding(ebml_numbers::specs::Number::is_id))]
 fn reference_len(ticks: i64) -> u64
     ensures exact { result ≡ length (octets_of (reference_element ticks)) }
@@ -67,7 +68,7 @@ fn reference_len(ticks: i64) -> u64
     element_len(REFERENCE_BLOCK, u64::from(put_int(ticks).len))
 }
 
-// Appends a ReferenceBlock of `ticks` ticks to `out`, which has room for it.
+// Appends the ReferenceBlock for a block `ticks` ticks away to `out`, which has room for it.
 #[tactic(auto, unfolding(ebml_numbers::specs::Number::is_id))]
 fn add_reference(out: &mut Vec<u8>, ticks: i64)
     requires { HasRoom out.old (length (octets_of (reference_element ticks))) }
@@ -78,7 +79,7 @@ fn add_reference(out: &mut Vec<u8>, ticks: i64)
     add(out, octets.as_slice());
 }
 
-// Returns the length in bytes of all ReferenceBlocks of a group.
+// Returns the length in bytes of the ReferenceBlock Elements for all `references` of a group.
 fn references_len(references: &[i64]) -> u64
     requires { length references.now ≤ 64 }
     ensures exact { result ≡ references_len references.now }
@@ -91,7 +92,7 @@ fn references_len(references: &[i64]) -> u64
     total
 }
 
-// Appends a ReferenceBlock for each reference.
+// Appends a ReferenceBlock for each of the `references`, which are in ticks from the block.
 fn add_references(out: &mut Vec<u8>, references: &[i64])
     requires { HasRoom out.old (references_len references.now) }
     ensures { Adds out.old out.new (joined (map reference_element references.now)) }

@@ -1,11 +1,11 @@
-//! End of a Cluster
+//! Test whether a block may join a Cluster
 
 ghost use Rattle.std.specs.Prelude.{◌≡◌, ◌≤◌, ◌+◌, ◌^◌};
 ghost use Rattle.output_model.specs.Cluster.{is_near, may_have};
 
 use output_model::{ClusterLimits, MAX_CLUSTER_LEN};
 
-// Checks whether the distance from the Timestamp to `tick` fits in 16 signed bits.
+// Checks whether the distance in ticks from the Cluster's Timestamp to a block's `tick` fits in 16 signed bits.
 fn is_near(timestamp: u64, tick: u64) -> bool
     ensures { result ≡ is_near timestamp tick }
 {
@@ -16,8 +16,8 @@ fn is_near(timestamp: u64, tick: u64) -> bool
     }
 }
 
-/// Checks whether a Cluster with the Timestamp `timestamp`, `count` blocks and a body of `size` bytes may have a
-/// block at `tick`, of `len` bytes.
+/// Checks whether a block at `tick`, whose Element has `len` bytes, may join a Cluster within `limits`. The Cluster has
+/// the Timestamp `timestamp`, `count` blocks, and `size` bytes of content.
 pub(crate) fn may_have(
     limits: ClusterLimits,
     timestamp: u64,

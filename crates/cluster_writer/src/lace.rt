@@ -13,7 +13,8 @@ use crate::element::add;
 use arrayvec::ArrayVec;
 use lacing::{Lace, lace_len, put_lace};
 
-// Returns the sizes of frames with a prefix of `prefix` bytes before each.
+// Returns the sizes in bytes of frames that have the sizes `sizes` without a prefix of `prefix` bytes each. They are
+// the sizes that a lace stores.
 fn prefixed_sizes(prefix: u32, sizes: &[u32]) -> ArrayVec<u32, 256>
     requires few { length sizes.now ≤ 256 }
     requires total { sum (prefixed_sizes prefix sizes.now) ≤ 2 ^ 26 }
@@ -26,8 +27,8 @@ fn prefixed_sizes(prefix: u32, sizes: &[u32]) -> ArrayVec<u32, 256>
     all
 }
 
-/// Returns the number of bytes that a lace has before its frames, for their number and sizes. `sizes` are the frames'
-/// sizes without their prefixes of `prefix` bytes.
+/// Returns the number of bytes of a lace before its frames: their number, and the head with their sizes. `sizes` are
+/// the frames' sizes without the prefix of `prefix` bytes each.
 pub(crate) fn lace_octets_len(kind: Lace, prefix: u32, sizes: &[u32]) -> u64
     requires { CanLace kind (prefixed_sizes prefix sizes.now) }
     ensures exact { result ≡ length (lace_octets kind (prefixed_sizes prefix sizes.now)) }
@@ -39,7 +40,8 @@ pub(crate) fn lace_octets_len(kind: Lace, prefix: u32, sizes: &[u32]) -> u64
     }
 }
 
-// Returns the length in bytes of the head of a lace; each frame is `prefix` bytes longer than its size in `sizes`.
+// Returns the length in bytes of the head of a lace, which stores the sizes of frames. `sizes` are without the prefix
+// of `prefix` bytes each.
 fn head_len(kind: Lace, prefix: u32, sizes: &[u32]) -> u32
     requires { CanLace kind (prefixed_sizes prefix sizes.now) }
     ensures exact { result ≡ length (lace_head kind (prefixed_sizes prefix sizes.now)) }
@@ -51,7 +53,8 @@ fn head_len(kind: Lace, prefix: u32, sizes: &[u32]) -> u32
     prefixed_head_len(kind, prefix, sizes)
 }
 
-// Room for 256 sizes is used only if there is a prefix.
+// Returns the length in bytes of the head of a lace whose frames have a prefix. It is a function of its own, so that
+// memory for 256 sizes is used only then.
 fn prefixed_head_len(kind: Lace, prefix: u32, sizes: &[u32]) -> u32
     requires { CanLace kind (prefixed_sizes prefix sizes.now) }
     ensures exact { result ≡ length (lace_head kind (prefixed_sizes prefix sizes.now)) }
@@ -60,8 +63,8 @@ fn prefixed_head_len(kind: Lace, prefix: u32, sizes: &[u32]) -> u32
     lace_len(kind, &prefixed_sizes(prefix, sizes))
 }
 
-/// Appends the bytes before the frames of a Block: their number and the head of the lace. `sizes` excludes the
-/// prefixes.
+/// Appends the bytes of a Block before its frames: their number, and the head of the lace `kind`. Without lacing there
+/// are none. `sizes` are without the prefix of `prefix` bytes each.
 pub(crate) fn add_lace(out: &mut Vec<u8>, kind: Lace, prefix: u32, sizes: &[u32])
     requires can { CanLace kind (prefixed_sizes prefix sizes.now) }
     requires room { HasRoom out.old (length (lace_octets kind (prefixed_sizes prefix sizes.now))) }
@@ -73,8 +76,8 @@ pub(crate) fn add_lace(out: &mut Vec<u8>, kind: Lace, prefix: u32, sizes: &[u32]
     }
 }
 
-// Appends the frame count and the head of a lace to `out`, which has room for them. Each frame is `prefix` bytes
-// longer than its size in `sizes`.
+// Appends the number of frames minus one, and the head of their lace, to `out`, which has room for them. `sizes` are
+// without the prefix of `prefix` bytes each.
 fn add_laced(out: &mut Vec<u8>, kind: Lace, prefix: u32, sizes: &[u32])
     requires can { CanLace kind (prefixed_sizes prefix sizes.now) }
     requires room { HasRoom out.old (length (count_and_head kind (prefixed_sizes prefix sizes.now))) }
@@ -86,8 +89,8 @@ fn add_laced(out: &mut Vec<u8>, kind: Lace, prefix: u32, sizes: &[u32])
     add_prefixed(out, kind, prefix, sizes);
 }
 
-// Appends to `out` the number of frames minus one and the head of their lace. Each frame is `prefix` bytes longer than
-// its size in `sizes`.
+// Appends the number of frames minus one, and the head of their lace, if frames have a prefix of `prefix` bytes each.
+// It is a function of its own, so that memory for 256 sizes is used only then.
 fn add_prefixed(out: &mut Vec<u8>, kind: Lace, prefix: u32, sizes: &[u32])
     requires can { CanLace kind (prefixed_sizes prefix sizes.now) }
     requires room { HasRoom out.old (length (count_and_head kind (prefixed_sizes prefix sizes.now))) }
@@ -96,7 +99,8 @@ fn add_prefixed(out: &mut Vec<u8>, kind: Lace, prefix: u32, sizes: &[u32])
     add_count_and_head(out, kind, &prefixed_sizes(prefix, sizes));
 }
 
-// Appends the number of frames minus one, and the head of their lace.
+// Appends the number of frames minus one, and the head of their lace, to `out`, which has room for them. The frames
+// have the sizes `sizes`.
 fn add_count_and_head(out: &mut Vec<u8>, kind: Lace, sizes: &[u32])
     requires can { CanLace kind sizes.now }
     requires room { HasRoom out.old (length (count_and_head kind sizes.now)) }
@@ -106,7 +110,7 @@ fn add_count_and_head(out: &mut Vec<u8>, kind: Lace, sizes: &[u32])
     add_head(out, kind, sizes);
 }
 
-// Appends the head of a lace with the frame sizes `sizes` to `out`, which has room for it.
+// Appends the head of the lace `kind` for frames of the sizes `sizes` to `out`, which has room for it.
 fn add_head(out: &mut Vec<u8>, kind: Lace, sizes: &[u32])
     requires can { CanLace kind sizes.now }
     requires room { HasRoom out.old (length (lace_head kind sizes.now)) }
@@ -117,7 +121,7 @@ fn add_head(out: &mut Vec<u8>, kind: Lace, sizes: &[u32])
     fill_head(out, at, kind, sizes);
 }
 
-// Writes the head of a lace with the frame sizes `sizes` over `out` from the offset `at` on.
+// Writes the head of the lace `kind` for frames of the sizes `sizes` over `out`, from the offset `at` to its end.
 fn fill_head(out: &mut [u8], at: usize, kind: Lace, sizes: &[u32])
     requires can { CanLace kind sizes.now }
     requires room { length out.old ≡ at + length (lace_head kind sizes.now) }
@@ -126,7 +130,7 @@ fn fill_head(out: &mut [u8], at: usize, kind: Lace, sizes: &[u32])
     put_lace(kind, sizes, &mut out[at..]);
 }
 
-/// Appends the frames of the sizes `sizes` in `body`, each after the prefix.
+/// Appends the frames in `body`, which have the sizes `sizes`, each after `prefix`.
 pub(crate) fn add_frames(out: &mut Vec<u8>, prefix: &[u8], body: &[u8], sizes: &[u32])
     requires whole { length body.now ≡ sum sizes.now }
     requires room { HasRoom out.old (length (concat (prefixed prefix.now (frames_cut sizes.now body.now)))) }
@@ -139,7 +143,7 @@ pub(crate) fn add_frames(out: &mut Vec<u8>, prefix: &[u8], body: &[u8], sizes: &
     }
 }
 
-// Appends the frames one by one, each after the prefix.
+// Appends the frames in `body`, which have the sizes `sizes`, one by one after `prefix`.
 fn add_each(out: &mut Vec<u8>, prefix: &[u8], body: &[u8], sizes: &[u32])
     requires whole { length body.now ≡ sum sizes.now }
     requires room { HasRoom out.old (length (concat (prefixed prefix.now (frames_cut sizes.now body.now)))) }

@@ -1,4 +1,4 @@
-//! Block that is put into a Cluster, and the length of its element
+//! Block that is put into a Cluster, and the lengths of its Element
 
 ghost use Rattle.std.specs.Prelude.{◌≡◌, ◌≤◌, ◌^◌, ℕ, length};
 ghost use Rattle.output_model.specs.OutputBlock.{CanBeLent, IsLent};
@@ -11,9 +11,9 @@ use crate::group::group_len;
 use mkv_schema::ids::{BLOCK_GROUP, SIMPLE_BLOCK};
 use output_model::OutHead;
 
-/// Block that is put into a Cluster, of the output track `lane` at the tick `tick` of the output. `body` is cut into
-/// frames of the sizes `sizes`, each after `prefix`. A group also has its references in ticks and the bytes of its
-/// kept children.
+/// Borrowed block that is put into a Cluster, of the output track number `lane`, counted from 1, at the tick `tick` of
+/// its part. `body` is cut into frames of the sizes `sizes` in bytes, each after `prefix`. A group also has its
+/// references in ticks and the bytes of its kept children.
 #[derive(Clone, Copy)]
 pub struct BlockRef<'a> {
     pub lane: u8,
@@ -26,7 +26,8 @@ pub struct BlockRef<'a> {
     pub kept: &'a [u8],
 }
 
-/// Lengths of a written block in bytes: its Block, the body of its SimpleBlock or BlockGroup, and this element
+/// Lengths in bytes of a block as it is written: its Block, the content of its SimpleBlock or BlockGroup, and this
+/// Element
 #[derive(Clone, Copy)]
 pub struct BlockLengths {
     pub block: u64,
@@ -35,7 +36,7 @@ pub struct BlockLengths {
 }
 
 impl BlockRef<'_> {
-    /// Returns the lengths of the block's element and its parts, which are the same in each Cluster.
+    /// Returns the lengths of the block's Element and its parts, which are the same in each Cluster.
     pub fn lengths(&self) -> BlockLengths
         requires { IsLent (lent_of self.now) }
         ensures { AreLengths self.now result }
@@ -49,7 +50,7 @@ impl BlockRef<'_> {
         )
     }
 
-    /// Returns the length of the block's element, which is the same in each Cluster.
+    /// Returns the length in bytes of the block's SimpleBlock or BlockGroup, which is the same in each Cluster.
     pub fn element_len(&self) -> u64
         requires { IsLent (lent_of self.now) }
         ensures exact { result ≡ octets_taken (block_of self.now) }
@@ -59,8 +60,9 @@ impl BlockRef<'_> {
     }
 }
 
-/// Returns the length of the element of a block with `prefix` prefix bytes and `extra` bytes of kept children. It is
-/// the same in each output track and Cluster.
+/// Returns the length in bytes of the SimpleBlock or BlockGroup for a block. It has the head `head`, frames of the
+/// sizes `sizes` after prefixes of `prefix` bytes, the references `refs`, and `extra` bytes of kept children. It is the
+/// same in each output track and Cluster.
 pub fn element_len(head: &OutHead, prefix: usize, sizes: &[u32], refs: &[i64], extra: usize) -> u64
     requires { CanBeLent head.now.lace prefix sizes.now (length refs.now) extra }
     ensures exact { IsLenOf head.now prefix sizes.now refs.now extra result }
@@ -69,8 +71,8 @@ pub fn element_len(head: &OutHead, prefix: usize, sizes: &[u32], refs: &[i64], e
     lengths_of(head, prefix, sizes, refs, extra).whole
 }
 
-// Returns the lengths of a block's element and its parts. The frames have the sizes `sizes`, without a prefix of
-// `prefix` bytes each, and `kept` bytes are copied children.
+// Returns the lengths of a block's Element and its parts. The frames have the sizes `sizes` after prefixes of `prefix`
+// bytes, and `kept` is the number of bytes of kept children.
 #[tactic(auto, unfolding(ebml_numbers::specs::Number::is_id))]
 fn lengths_of(
     head: &OutHead,

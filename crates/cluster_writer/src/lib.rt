@@ -1,6 +1,6 @@
 #![tactic(auto)]
 
-//! Clusters, written block by block into a reused buffer: RFC 9559, section 5.1.3 (Cluster).
+//! Clusters, filled block by block in a buffer that is reused: RFC 9559, section 5.1.3 (Cluster).
 
 mod block;
 mod buffer;

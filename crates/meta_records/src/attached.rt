@@ -24,14 +24,14 @@ use mkv_schema::ids::{ATTACHED_FILE, FILE_DATA, FILE_UID};
 use output_model::Attachment;
 use std::alloc::Global;
 
-/// AttachedFile with one empty FileData, and the header of its first FileData, if any
+/// Parts of an AttachedFile: its tree with an empty FileData, and the header of its first FileData, if any
 #[derive(Drop)]
 pub(crate) struct Parts {
     pub entry: Tree,
     pub first: Option<Header>,
 }
 
-// Reads the children of an AttachedFile, and counts them.
+// Reads the children of the AttachedFile with the header `attached`, except the data, and adds them to `counts`.
 fn read_parts<R: Reads>(
     alloc: Global,
     src: &mut R,
@@ -62,7 +62,8 @@ fn read_parts<R: Reads>(
     Ok(Parts { entry, first })
 }
 
-// Returns the first FileData found before, or `child` if it is one.
+// Returns the header of the first FileData of an AttachedFile: `first`, if one was found before, or `child` if it is
+// one.
 fn first_data(first: Option<Header>, child: &Header) -> Option<Header>
     ensures { result ≡ option_or first (data_at child.now) }
 {
@@ -73,7 +74,7 @@ fn first_data(first: Option<Header>, child: &Header) -> Option<Header>
     }
 }
 
-// Returns the FileUID, or 0 if it is absent.
+// Returns the FileUID of the AttachedFile `entry`, or 0 if it is absent.
 fn uid_of(entry: &Tree) -> u64
     requires { IsSoundOf ATTACHED_ID entry.now }
     ensures { result ≡ uint_in FILE_UID_ID entry.now }
@@ -84,8 +85,8 @@ fn uid_of(entry: &Tree) -> u64
     }
 }
 
-// Returns the offset of an attached file's data in the file, or 0 if there is none. `first` is the header of the
-// first FileData.
+// Returns the offset in the file of an attached file's data, or 0 if there is none. `first` is the header of the first
+// FileData.
 fn place_of(first: Option<Header>) -> u64
     ensures { result ≡ option_map_or (λ (h : HeaderSeen). h.body) first 0 }
 {
@@ -95,7 +96,8 @@ fn place_of(first: Option<Header>) -> u64
     }
 }
 
-// Returns the length of the data in bytes.
+// Returns the length of an attached file's data in bytes, or 0 if there is none. `first` is the header of the first
+// FileData.
 fn len_of(first: Option<Header>) -> u64
     ensures { result ≡ option_map_or (λ (h : HeaderSeen). known h.size) first 0 }
 {
@@ -105,7 +107,7 @@ fn len_of(first: Option<Header>) -> u64
     }
 }
 
-// Returns damage if an AttachedFile has no FileData.
+// Returns the damage of the AttachedFile with the header `attached` if it has no FileData, and so `first` is absent.
 fn missing_data(first: Option<Header>, attached: &Header) -> Option<Damage>
     ensures { result ≡ where_it (is_none first) (damage Kind.MissingChild FILE_DATA attached.now.offset) }
 {
@@ -115,14 +117,15 @@ fn missing_data(first: Option<Header>, attached: &Header) -> Option<Damage>
     }
 }
 
-/// Attached file, and its damage if it has no data
+/// Attached file that was read, and its damage if it has no data
 #[derive(Drop)]
 pub(crate) struct Attached {
     pub attachment: Attachment,
     pub missing: Option<Damage>,
 }
 
-// Returns the attached file with the parts `parts`.
+// Returns the attached file in `file` with the header `attached` and the parts `parts`, and its damage if it has no
+// data.
 fn attached_of(file: FileId, attached: &Header, parts: Parts) -> Attached
     requires { AreSoundParts (stated_end attached.now) parts }
     ensures exact { IfPartsOf attached.now parts (IsAttachedOf file attached.now result.attachment) }
@@ -143,7 +146,7 @@ fn attached_of(file: FileId, attached: &Header, parts: Parts) -> Attached
     }
 }
 
-/// Reads an AttachedFile, and counts its children. The bodies of FileData stay unread.
+/// Reads the AttachedFile with the header `attached`, and adds its children to `counts`. Its data stay unread.
 pub(crate) fn read_attached<R: Reads>(
     alloc: Global,
     src: &mut R,

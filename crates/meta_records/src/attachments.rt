@@ -21,14 +21,15 @@ use mkv_schema::ids::ATTACHED_FILE;
 use output_model::Attachment;
 use std::alloc::Global;
 
-/// Attached files found, and the damage of the first one without data
+/// Attached files that were read up to now, and the damage of the first one without data
 #[derive(Drop)]
 pub(crate) struct AttachmentScan {
     pub attachments: List<Attachment>,
     pub missing: Option<Damage>,
 }
 
-// Returns the number of bytes of `child`, in Attachments, that count towards the limit.
+// Returns the number of bytes of `child`, a child of Attachments, that count towards the limit: the header of an
+// AttachedFile.
 fn counted_of(child: &Header) -> u64
     requires { child.now.offset ≤ child.now.body }
     ensures { result ≡ (child_of child.now).counted }
@@ -40,8 +41,8 @@ fn counted_of(child: &Header) -> u64
     }
 }
 
-// Reads the child at offset `at` of an Attachments element that ends at `end`, and counts it. Returns the offset of
-// the next child.
+// Reads the child at offset `at` of an Attachments that ends at `end`, and adds it to `counts`. An AttachedFile is also
+// added to `found`. Returns the offset of the next child; offsets are from the start of the file.
 fn read_child<R: Reads>(
     alloc: Global,
     src: &mut R,
@@ -77,7 +78,7 @@ fn read_child<R: Reads>(
     Ok(next)
 }
 
-// Reads the children of an Attachments element.
+// Reads the children of the Attachments with the header `header`: all its AttachedFiles without data.
 fn read_children<R: Reads>(
     alloc: Global,
     src: &mut R,
@@ -107,7 +108,8 @@ fn read_children<R: Reads>(
     Ok(found)
 }
 
-// Returns the attached files, or damage if one has no data or there are too many.
+// Returns the attached files that were read, or damage. The first one without data is damage, and so are more than
+// 1,024.
 fn good_files(found: AttachmentScan) -> Result<List<Attachment>, Damage>
     ensures exact { result ≡ good_files found }
     ensures same { IfOk result (λ files. files ≡ found.attachments) }
@@ -125,11 +127,11 @@ fn good_files(found: AttachmentScan) -> Result<List<Attachment>, Damage>
     }
 }
 
-/// Reads the attached files of an Attachments element without their data, or returns the first damage (RFC 9559,
-/// section 5.1.6, Attachments).
+/// Reads the attached files of the Attachments with the header `header` in `file`, without their data, or returns the
+/// first damage (RFC 9559, section 5.1.6, Attachments).
 ///
-/// It fails if the element isn't made of valid elements, or an AttachedFile has no FileData. It also fails above
-/// `MAX_ATTACHMENTS_LEN` bytes without data, 65,536 elements or 1,024 attached files. Damage of the elements is
+/// Fails if the Attachments isn't made of valid Elements, or an AttachedFile has no FileData. Fails also above
+/// `MAX_ATTACHMENTS_LEN` bytes without data, 65,536 Elements or 1,024 attached files. Damage of the Elements is
 /// reported first.
 pub fn read_attachments<R: Reads>(
     alloc: Global,

@@ -1,4 +1,4 @@
-//! Counts for the limits of an Attachments element
+//! Counts for the limits of an Attachments
 
 ghost use Rattle.std.specs.Prelude.{◌≡◌, ◌+◌, ◌≤◌, IfErr, OnErr, OnOk};
 ghost use Rattle.tree_format.specs.declared.limits.TheConstants.{MAX_NODES};
@@ -11,7 +11,7 @@ use elements::damage_at;
 use mkv_io::{Damage, Kind};
 use mkv_schema::Header;
 
-/// Number of bytes and elements before a place that count towards the limits
+/// Number of bytes and Elements of an Attachments, up to a place in it, that count towards the limits
 #[derive(Clone, Copy)]
 pub(crate) struct Counts {
     pub octets: u64,
@@ -21,7 +21,7 @@ pub(crate) struct Counts {
 }
 
 impl Counts {
-    /// Returns the counts before the first child: one element, Attachments itself.
+    /// Returns the counts before the first child of an Attachments: one Element, itself.
     pub fn new() -> Counts
         ensures octets { result.octets ≡ 0 }
         ensures nodes { result.nodes ≡ 1 }
@@ -32,7 +32,8 @@ impl Counts {
         }
     }
 
-    /// Counts an element and `octets` of its bytes, or returns damage if it passes a limit.
+    /// Adds the Element with the header `header` and `octets` of its bytes to the counts, or returns damage if that
+    /// exceeds a limit.
     #[tactic(auto, using(crate::proofs::CountsLemmas::limits))]
     pub fn add(&mut self, header: &Header, octets: u64) -> Result<(), Damage>
         ensures ok { OnOk result (limit_passed (self.old.octets + octets) self.old.nodes header.now ≡ None) }

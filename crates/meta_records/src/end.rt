@@ -1,4 +1,4 @@
-//! Failures to read attached files
+//! Causes of a failure to read attached files
 
 ghost use Rattle.std.specs.Prelude.{◌≡◌};
 ghost use Rattle.meta_records.specs.declared.end.MetaEnd.TheVariants as attachments_end;
@@ -6,12 +6,12 @@ ghost use Rattle.meta_records.specs.declared.end.MetaEnd.TheVariants as attachme
 use mkv_io::{Damage, Failed, ReadEnd};
 use std::alloc::AllocError;
 
-/// Failure to read attached files
+/// End of reading attached files without a result
 #[derive(Debug, Drop)]
 pub enum MetaEnd {
-    /// Invalid elements, a passed limit, or an attached file without data
+    /// Invalid Elements, an exceeded limit, or an attached file without data
     Refused(Damage),
-    /// Failed read
+    /// Failed read of the file
     ReadFault,
     /// Out of memory
     Memory,

@@ -1,4 +1,4 @@
-//! First element with an ID, as a tree
+//! First Element with an ID, read as a tree
 
 ghost use Rattle.std.specs.Prelude.{◌≡◌, List, Ok, IfOk, IfSome};
 ghost use Rattle.mkv_io.specs.Bounds.{ReadsUpTo};
@@ -14,7 +14,8 @@ use element_reader::{LoadEnd, Outline, OutlineEnd, load};
 use mkv_io::{FileId, Reads};
 use std::alloc::Global;
 
-/// Reads the first element of level 1 with the ID `id` as a tree, if there is one, or returns its damage.
+/// Reads the first Element of level 1 with the ID `id` in `file`, as a tree, if there is one, or returns its damage.
+/// Info, Tracks, Chapters and Tags are read so.
 pub fn first_tree<R: Reads>(
     alloc: Global,
     outline: &Outline,

@@ -19,8 +19,8 @@ use mkv_schema::ids::ATTACHMENTS;
 use output_model::Attachment;
 use std::alloc::Global;
 
-/// Reads the attached files of the first Attachments of level 1 without their data, or returns its damage. Without
-/// such an element the list is empty.
+/// Reads the attached files of the first Attachments of `file`, without their data, or returns its damage. Without
+/// Attachments the list is empty.
 pub fn first_attachments<R: Reads>(
     alloc: Global,
     outline: &Outline,

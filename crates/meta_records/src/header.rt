@@ -1,4 +1,4 @@
-//! Header of a child, read from the file
+//! Header of an Element in a master that isn't loaded whole
 
 ghost use Rattle.std.specs.Prelude.{◌≡◌, ◌+◌, ◌-◌, ◌≤◌, length, min, Ok, Err, IfOk, IfErr};
 ghost use Rattle.mkv_io.specs.Bounds.{ReadsUpTo};
@@ -14,8 +14,8 @@ use mkv_io::{Damage, FileId, Reads};
 use mkv_schema::Header;
 use mkv_schema::limits::MAX_ELEMENT_HEADER_LEN;
 
-/// Reads the header of the child at offset `at` of a master that isn't read whole and ends at `end`. No byte after
-/// `end` is read.
+/// Reads the header of the child at offset `at` of a master that ends at `end` and isn't loaded whole. Both are offsets
+/// in `file`. Reads no byte from `end` onwards.
 pub(crate) fn child_header<R: Reads>(
     src: &mut R,
     file: FileId,
@@ -40,7 +40,8 @@ pub(crate) fn child_header<R: Reads>(
     Ok(header)
 }
 
-// Returns the header of the child that begins with `octets`.
+// Returns the header that the bytes `octets` begin with, in a file of `total` bytes. It is of a child at offset `at` of
+// a master that ends at `end`.
 fn header_in(octets: &[u8], total: u64, at: u64, end: u64) -> Result<Header, Damage>
     requires place { at ≤ LONGEST_FILE }
     requires inside { at + length octets.now ≤ end }

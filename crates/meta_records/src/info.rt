@@ -12,14 +12,14 @@ use file_format::DEFAULT_SCALE;
 use mkv_io::{Damage, Kind};
 use mkv_schema::ids::TIMESTAMP_SCALE;
 
-/// Values of an Info (RFC 9559, section 5.1.2, Info)
+/// Values of an Info that the reader of blocks needs (RFC 9559, section 5.1.2, Info)
 #[derive(Clone, Copy, Debug, PartialEq, Eq)]
 pub struct Info {
     /// Nanoseconds per tick, at least 1
     pub scale: u64,
 }
 
-// Returns the nanoseconds per tick that an Info gives.
+// Returns the nanoseconds per tick that the Info `info` gives, or the default, 1,000,000.
 fn scale_of(info: &Tree) -> u64
     requires { IsSoundOf INFO_ID info.now }
     ensures { result ≡ scale_of info.now }
@@ -30,7 +30,7 @@ fn scale_of(info: &Tree) -> u64
     }
 }
 
-// Returns damage if the TimestampScale is 0.
+// Returns the damage of the Info `info` if its TimestampScale is 0.
 fn refusal_of(info: &Tree) -> Option<Damage>
     requires { IsSoundOf INFO_ID info.now }
     ensures { result ≡ info_refusal info.now }
@@ -46,8 +46,8 @@ fn refusal_of(info: &Tree) -> Option<Damage>
     })
 }
 
-/// Returns the values of an Info. A tree from the parser is sound. Fails with `BadValue` at its TimestampScale if
-/// that is 0. An empty or absent one is 1,000,000, the default.
+/// Returns the values of the Info `info`. Fails with `BadValue` at its TimestampScale if that is 0. An empty or absent
+/// one is 1,000,000, the default.
 pub fn read_info(info: &Tree) -> Result<Info, Damage>
     requires { IsSoundOf INFO_ID info.now }
     ensures exact { result ≡ info_of info.now }

@@ -1,7 +1,7 @@
 #![tactic(auto)]
 
-//! Metadata of a file: the scale of its Info, and its attached files without their data. They are also read at once
-//! with its tracks, chapters and tags (RFC 9559, sections 5.1.2, Info, and 5.1.6, Attachments).
+//! Records of a file: the scale of its Info, and its attached files without their data. They are also read together
+//! with tracks, Chapters and Tags (RFC 9559, sections 5.1.2, Info, and 5.1.6, Attachments).
 
 mod attached;
 mod attachments;

@@ -19,14 +19,15 @@ use mkv_schema::Header;
 use mkv_schema::ids::{ATTACHED_FILE, FILE_DATA};
 use std::alloc::Global;
 
-/// Child of an AttachedFile: its header, and its leaf, which is empty for FileData
+/// Child of an AttachedFile: its header, and its tree, which is empty for FileData
 #[derive(Drop)]
 pub(crate) struct Part {
     pub header: Header,
     pub leaf: Tree,
 }
 
-// Returns the number of bytes of `part`, in an AttachedFile, that count towards the limit.
+// Returns the number of bytes of `part`, a child of an AttachedFile, that count towards the limit: all, or only the
+// header of FileData.
 fn counted_of(part: &Header) -> u64
     requires behind { part.now.offset ≤ part.now.body }
     requires short { stated_end part.now < 2 ^ 64 }
@@ -40,7 +41,7 @@ fn counted_of(part: &Header) -> u64
     }
 }
 
-// Reads the body of the element with this header into memory.
+// Reads the content of the Element with the header `header` into memory. A limit on counted bytes was checked before.
 fn body_of<R: Reads>(
     alloc: Global,
     src: &mut R,
@@ -59,7 +60,8 @@ fn body_of<R: Reads>(
     Ok(Bytes::from_vec(body))
 }
 
-// Reads a child of an AttachedFile as a leaf. Its body must be a valid value; the body of FileData stays unread.
+// Reads the child of an AttachedFile with the header `part` as a tree. Its content must be a valid value; the data stay
+// unread.
 fn leaf_of<R: Reads>(
     alloc: Global,
     src: &mut R,
@@ -84,7 +86,8 @@ fn leaf_of<R: Reads>(
     Ok(Tree::leaf(alloc, part.id, body.as_slice())?)
 }
 
-/// Reads the child at offset `at` of an AttachedFile that ends at `end`, and counts it.
+/// Reads the child at offset `at` of an AttachedFile that ends at `end`, and adds it to `counts`. Both are offsets in
+/// `file`.
 pub(crate) fn read_part<R: Reads>(
     alloc: Global,
     src: &mut R,

@@ -1,4 +1,4 @@
-//! Records of a file
+//! Records of a file, the Elements besides blocks and cue points
 
 ghost use Rattle.std.specs.Prelude.{◌≡◌, ◌+◌, ◌*◌, ◌≤◌, false, List, Ok, IfOk, IfErr, IfSome};
 ghost use Rattle.mkv_schema.specs.declared.ids.TheConstants.{INFO as INFO_ID, TRACKS as TRACKS_ID};
@@ -22,7 +22,7 @@ use output_model::Attachment;
 use std::alloc::Global;
 use track_records::{Track, read_tracks};
 
-/// Elements of a file that describe its blocks
+/// Records of a file, for a merge, `info`, or an extraction
 #[derive(Drop)]
 pub struct Records {
     /// First Info, if any
@@ -37,9 +37,9 @@ pub struct Records {
     pub tags: Option<Tree>,
 }
 
-/// Reads the records of a file with the outline `outline`, or returns the first damage. Info, Tracks, Attachments,
-/// Chapters and Tags are checked in this order; each first as elements, then for its values. A file without Tracks is
-/// refused. The outline may have been read after other inputs, with any number of bytes held.
+/// Reads the records of `file`, which has the outline `outline`, or returns the first damage. Info, Tracks,
+/// Attachments, Chapters and Tags are checked in this order; each first as Elements, then for its values. A file
+/// without Tracks is refused. The outline may have been read after other inputs, with any number of bytes held.
 #[tactic(auto, using(crate::proofs::RecordsLemmas::held))]
 pub fn read_records<R: Reads>(
     alloc: Global,
@@ -74,7 +74,7 @@ pub fn read_records<R: Reads>(
     })
 }
 
-/// Returns the nanoseconds per tick of a file with the first Info `info`.
+/// Returns the nanoseconds per tick of a file with the first Info `info`, or the default, 1,000,000, without one.
 pub fn scale_of(info: &Option<Tree>) -> u64
     requires { IfSome info.now IsGoodInfo }
     ensures value { result ≡ scale_of_info info.now }
@@ -89,7 +89,7 @@ pub fn scale_of(info: &Option<Tree>) -> u64
     }
 }
 
-/// Returns the Info if its values are valid, or its damage.
+/// Returns `info`, the first Info of a file if any, or its damage if its values aren't valid.
 pub fn good_info(info: Option<Tree>) -> Result<Option<Tree>, Damage>
     requires { IfSome info (IsSoundOf INFO_ID) }
     ensures { result ≡ good_info info }
@@ -100,7 +100,8 @@ pub fn good_info(info: Option<Tree>) -> Result<Option<Tree>, Damage>
     Ok(info)
 }
 
-/// Returns the tracks of a Tracks element, which must be present.
+/// Returns the tracks of `tracks`, the first Tracks of a file. Without one it fails with damage at the offset of
+/// `segment`.
 fn good_tracks(
     alloc: Global,
     segment: &Header,

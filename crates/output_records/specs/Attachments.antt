@@ -6,28 +6,28 @@ use Rattle.tree_format.specs.Children.{uint_leaf, set_in}
 use Rattle.output_model.specs.declared.attachment.Attachment.{Attachment}
 use Rattle.output_records.specs.declared.inputs.InputRecords.{InputRecords}
 
--- the attached files of all inputs, in sequence
+-- the attached files of all inputs, input after input
 abbrev pub files_of : List InputRecords → List Attachment
 files_of inputs = flat_map (λ (i : InputRecords). i.attachments) inputs
 
--- the FileUIDs of attached files
+-- the FileUIDs of the attached files `files`
 abbrev pub file_uids : List Attachment → List ℕ
 file_uids files = map (λ (a : Attachment). a.uid) files
 
--- the attached file `a` with the FileUID `uid`, also in its entry
+-- the attached file `a` with the FileUID `uid`, also in its AttachedFile
 abbrev pub with_uid : ℕ → Attachment → Attachment
 with_uid uid a = record { uid = uid; file = a.file; at = a.at; len = a.len; entry = set_in (uint_leaf FILE_UID uid) a.entry }
 
--- the attached files `files` with the FileUIDs `uids`, also in their entries
+-- the attached files `files` with the FileUIDs `uids`, also in their AttachedFiles
 abbrev pub with_uids : List ℕ → List Attachment → List Attachment
 with_uids [] files = []
 with_uids (uid ∷ uids) [] = []
 with_uids (uid ∷ uids) (a ∷ files) = with_uid uid a ∷ with_uids uids files
 
--- the output's FileUIDs for the attached files of all inputs
+-- the output's FileUIDs for the attached files of all inputs, in their order
 abbrev pub file_numbers : List InputRecords → List ℕ
 file_numbers inputs = renumbered (file_uids (files_of inputs))
 
--- the attached files of an output, with their FileUIDs there
+-- the attached files of an output, each with the output's FileUID
 abbrev pub merged_attachments : List InputRecords → List Attachment
 merged_attachments inputs = with_uids (file_numbers inputs) (files_of inputs)

@@ -10,27 +10,27 @@ use Rattle.record_changes.specs.Shift.{shifted}
 use Rattle.output_records.specs.declared.inputs.InputRecords.{InputRecords}
 use Rattle.output_records.specs.Inputs.{children_in, with_some}
 
--- the Chapters of an input, later by its shift if it is appended
+-- the given Chapters of an input, with times that are later by the append offset in nanoseconds, if the input is appended
 abbrev pub later : Option ℕ → Node → Node
 later None chapters = chapters
 later (Some by) chapters = shifted by chapters
 
--- the children of an input's Chapters
+-- the editions of the input `i`, with times that are later by its append offset if it is appended
 abbrev pub chapters_in : InputRecords → List Node
 chapters_in i = children_in (option_map (later i.shift) i.chapters)
 
--- one Chapters with the children of all inputs' Chapters
+-- one Chapters with the editions of all inputs, input after input, and still with the inputs' identifiers
 abbrev pub joined_chapters : List InputRecords → Node
 joined_chapters inputs = master CHAPTERS 0 (nodes_of (flat_map chapters_in inputs))
 
--- the output's EditionUIDs for the editions of all inputs
+-- the output's EditionUIDs for the editions of all inputs, in their order
 abbrev pub edition_numbers : List InputRecords → List ℕ
 edition_numbers inputs = renumbered (edition_uids (joined_chapters inputs))
 
--- the output's ChapterUIDs for the chapters of all inputs
+-- the output's ChapterUIDs for the chapters of all inputs, in their order
 abbrev pub chapter_numbers : List InputRecords → List ℕ
 chapter_numbers inputs = renumbered (chapter_uids (joined_chapters inputs))
 
--- the editions of all inputs with their identifiers in the output, or nothing if there are none
+-- the Chapters of an output: the editions of all inputs with the output's identifiers, or nothing if there are none
 abbrev pub merged_chapters : List InputRecords → Option Node
 merged_chapters inputs = with_some (with_identifiers (edition_numbers inputs) (chapter_numbers inputs) (joined_chapters inputs))

@@ -4,11 +4,11 @@ use Rattle.mkv_schema.specs.declared.ids.TheConstants.{INFO, TIMESTAMP_SCALE, TI
 use Rattle.tree_format.specs.Node.{Node, leaf, master, nodes_of}
 use Rattle.tree_format.specs.Children.{uint_leaf}
 
--- the name and version of the program, as written to outputs
+-- the name and version of the program, for MuxingApp and WritingApp
 abbrev pub application : List ℕ
 application = codes "mkvsuite 1"
 
--- the Title, unless it is empty
+-- the Title Element for a title, or none if the title is empty
 abbrev pub title_elements : List ℕ → List Node
 title_elements [] = []
 title_elements (octet ∷ octets) = leaf TITLE 0 (octet ∷ octets) ∷ []

@@ -6,6 +6,6 @@ use Rattle.tree_format.specs.Node.{Node}
 use Rattle.tree_format.specs.NormalForm.{content}
 use Rattle.tree_format.specs.Standing.{kept}
 
--- The record has more than 16 MiB after its header, or more than 65,536 written elements with itself.
+-- The record `tree` has more than 16 MiB after its header, or more than 65,536 written Elements with itself.
 abbrev pub is_too_large : Node → Bool
 is_too_large tree = nat_lt MAX_MASTER_LEN (length (content tree)) || nat_lt MAX_NODES (kept tree)

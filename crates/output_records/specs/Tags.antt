@@ -14,16 +14,16 @@ use Rattle.output_records.specs.Inputs.{children_in, uids_in, with_some}
 use Rattle.output_records.specs.Attachments.{file_uids, file_numbers}
 use Rattle.output_records.specs.Chapters.{edition_numbers, chapter_numbers}
 
--- the output's UID for the first occurrence of the UID `uid` in `source`, a list of an input's UIDs. `numbers` begins with the output's UIDs for
--- `source`, in the same order.
+-- the output's identifier for the first use of the identifier `uid` in `source`, a list of an input's identifiers. `numbers` begins with the output's
+-- identifiers for `source`, in the same order.
 abbrev pub number_of : List ℕ → List ℕ → ℕ → Option ℕ
 number_of source numbers uid = lookup (nat_eq uid) (zip source numbers)
 
--- identifiers of editions, chapters and attached files
+-- the given identifiers of editions, chapters and attached files as one value
 abbrev pub all_uids : List ℕ → List ℕ → List ℕ → Uids
 all_uids editions chapters attachments = record { editions = editions; chapters = chapters; attachments = attachments }
 
--- the UIDs of the editions, chapters and attached files of an input
+-- the identifiers of the editions, chapters and attached files of the input `i`, as they are in the input
 abbrev pub uids_of : InputRecords → Uids
 uids_of i = record {
   editions = uids_in edition_uids i.chapters;
@@ -31,8 +31,9 @@ uids_of i = record {
   attachments = file_uids i.attachments;
 }
 
--- the output's UID for a target of the input `i`: `id` is the target's ID, such as TagChapterUID, and `uid` its value. There is none for another
--- ID or an unknown UID. `numbers` has the output's UIDs, and begins with the ones of this input's editions, chapters and attached files.
+-- the output's identifier for a target of a Tag of the input `i`. `id` is the ID of the target's Element, such as TagChapterUID, and `uid` its value.
+-- There is none for another ID or an unknown value. `numbers` has the output's identifiers, and begins with the ones of this input's editions,
+-- chapters and attached files.
 abbrev pub numbers_for : InputRecords → Uids → ℕ → ℕ → Option ℕ
 numbers_for i numbers id uid =
     if id == TAG_TRACK_UID then number_of i.track_uids i.output_uids uid else
@@ -40,11 +41,11 @@ numbers_for i numbers id uid =
     (if id == TAG_CHAPTER_UID then number_of (uids_of i).chapters numbers.chapters uid else
     (if id == TAG_ATTACHMENT_UID then number_of (uids_of i).attachments numbers.attachments uid else None)))
 
--- `map` gives the output's UID for each target of the input `i`. `numbers` has the output's UIDs, this input's first.
+-- `map` gives the output's identifier for each target of Tags of the input `i`. `numbers` has the output's identifiers, this input's first.
 abbrev pub IsMapFor : InputRecords → Uids → UidMap → Type 0
 IsMapFor i numbers map = numbers_in map ≡ numbers_for i numbers
 
--- the output's UIDs `numbers` after the ones of an input with the UIDs `uids`, which are first
+-- the output's identifiers `numbers` without the ones for an input with the identifiers `uids`, which are first
 abbrev pub behind : Uids → Uids → Uids
 behind uids numbers = record {
   editions = drop (length uids.editions) numbers.editions;
@@ -52,35 +53,35 @@ behind uids numbers = record {
   attachments = drop (length uids.attachments) numbers.attachments;
 }
 
--- the Tags that are kept of the input `i`, with the output's UIDs in their targets. `numbers` has the output's UIDs, this input's first.
+-- the kept Tags of the input `i`, with the output's identifiers in their targets. `numbers` has the output's identifiers, this input's first.
 abbrev pub tags_in : InputRecords → Uids → List Node
 tags_in i numbers = children_in (option_map (written_tags i.keep (numbers_for i numbers)) i.tags)
 
--- the Tags that are kept of `inputs` in sequence. `numbers` has the output's UIDs, the first input's first.
+-- the kept Tags of a list of inputs, input after input. `numbers` has the output's identifiers, the first input's first.
 abbrev pub tags_from : Uids → List InputRecords → List Node
 tags_from numbers [] = []
 tags_from numbers (i ∷ inputs) = tags_in i numbers ++ tags_from (behind (uids_of i) numbers) inputs
 
--- `new` is `old` with the kept Tags of the input `i` appended, unless the call failed. This holds for all output's UIDs, this input's first, that
--- `map` agrees with.
+-- The Tags `new` are `old` with the kept Tags of the input `i` appended, unless the call failed. `map` has the output's identifiers for their
+-- targets.
 abbrev pub AddsTags : {T E : Type 0} → InputRecords → UidMap → Node → Node → Result T E → Type 0
 AddsTags i map old new result =
     (numbers : Uids) → IsMapFor i numbers map → OnOk result (new ≡ with_children old (children old ++ tags_in i numbers))
 
--- the output's UIDs of the editions, chapters and attached files of `inputs`, the first input's first
+-- the output's identifiers for the editions, chapters and attached files of `inputs`, the first input's first
 abbrev pub numbers_of : List InputRecords → Uids
 numbers_of inputs = all_uids (edition_numbers inputs) (chapter_numbers inputs) (file_numbers inputs)
 
--- The output's UIDs `numbers` have at most 64 bits.
+-- The output's identifiers `numbers` are below 2^64, and so can be stored.
 pub record HaveShortNumbers (numbers : Uids) : Type 0 where
   pub editions : All (λ n. n < 2 ^ 64) numbers.editions
   pub chapters : All (λ n. n < 2 ^ 64) numbers.chapters
   pub attachments : All (λ n. n < 2 ^ 64) numbers.attachments
 
--- one Tags element with the kept Tags of `inputs`; `numbers` has the output's UIDs, the first input's first
+-- one Tags with the kept Tags of `inputs`, with the output's identifiers in their targets; `numbers` has these, the first input's first
 abbrev pub joined_tags : Uids → List InputRecords → Node
 joined_tags numbers inputs = master TAGS 0 (nodes_of (tags_from numbers inputs))
 
--- the kept Tags of all inputs, or nothing if there are none
+-- the Tags of an output: the kept Tags of all inputs, or nothing if there are none
 abbrev pub merged_tags : List InputRecords → Option Node
 merged_tags inputs = with_some (joined_tags (numbers_of inputs) inputs)

@@ -13,7 +13,7 @@ use output_model::Attachment;
 use record_changes::renumber;
 use std::alloc::{AllocError, Global};
 
-/// Returns the output's FileUIDs for the attached files of all inputs.
+/// Returns the output's FileUIDs for the attached files of all inputs, in their order.
 pub(crate) fn file_numbers(alloc: Global, inputs: &[InputRecords]) -> Result<List<u64>, AllocError>
     ensures { IfOk result (λ numbers. numbers ≡ file_numbers inputs.now) }
 {
@@ -24,7 +24,7 @@ pub(crate) fn file_numbers(alloc: Global, inputs: &[InputRecords]) -> Result<Lis
     renumber(alloc, uids.as_slice())
 }
 
-// Returns a copy of the attached file `file` with the FileUID `uid`, also in its entry.
+// Returns a copy of the attached file `file` with the FileUID `uid`, also in its AttachedFile.
 fn with_uid(alloc: Global, uid: u64, file: &Attachment) -> Result<Attachment, AllocError>
     requires { IsAttached file.now }
     ensures exact { IfOk result (λ written. written ≡ with_uid uid file.now) }
@@ -41,7 +41,7 @@ fn with_uid(alloc: Global, uid: u64, file: &Attachment) -> Result<Attachment, Al
     })
 }
 
-/// Returns the attached files of all inputs in sequence, with the FileUIDs `numbers`.
+/// Returns the attached files of all inputs, input after input, with the output's FileUIDs `numbers`.
 pub(crate) fn attachments_of(
     alloc: Global,
     inputs: &[InputRecords],

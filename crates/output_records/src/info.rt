@@ -10,10 +10,11 @@ use ebml_tree::{Tree, empty, text_leaf, uint_leaf};
 use mkv_schema::ids::{INFO, MUXING_APP, TIMESTAMP_SCALE, TITLE, WRITING_APP};
 use std::alloc::{AllocError, Global};
 
-/// Name and version of the program, as written to outputs
+/// Name and version of the program, for MuxingApp and WritingApp
 const APPLICATION: &str = "mkvsuite 1";
 
-/// Returns the Info of an output with `scale` nanoseconds per tick. An empty title isn't written.
+/// Returns the Info of an output with `scale` nanoseconds per tick and the title `title`, which isn't written if it is
+/// empty.
 pub fn info_of(alloc: Global, scale: u64, title: &str) -> Result<Tree, AllocError>
     ensures exact { IfOk result (λ info. info ≡ output_info scale title.now) }
     ensures sound { IfOk result (IsRecord INFO_ID) }

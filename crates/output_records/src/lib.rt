@@ -1,7 +1,7 @@
 #![tactic(auto)]
 
-//! Records of an output: its Info and Tracks, and the Attachments, Chapters and Tags merged from its inputs. It also
-//! checks whether a record is too large to be read again (RFC 9559, sections 5.1.2, Info, 5.1.4, Tracks, 5.1.6,
+//! Records of an output: its Info and Tracks, and the Attachments, Chapters and Tags merged from its inputs. Also the
+//! check whether a record is too large to be read again (RFC 9559, sections 5.1.2, Info, 5.1.4, Tracks, 5.1.6,
 //! Attachments, 5.1.7, Chapters, and 5.1.8, Tags).
 
 mod attachments;

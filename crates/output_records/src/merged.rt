@@ -1,4 +1,4 @@
-//! Merged records of an output
+//! Records of an output that are merged from its inputs
 
 ghost use Rattle.std.specs.Prelude.{◌≡◌, All, IfOk, IfSome};
 ghost use Rattle.mkv_schema.specs.declared.ids.TheConstants.{CHAPTERS, TAGS};
@@ -21,7 +21,7 @@ use output_model::Attachment;
 use record_changes::with_identifiers;
 use std::alloc::{AllocError, Global};
 
-/// Attachments, Chapters and Tags of an output
+/// Attached files, Chapters and Tags of an output
 #[derive(Drop)]
 pub struct MergedRecords {
     /// Attached files, each with its FileUID in the output
@@ -32,8 +32,8 @@ pub struct MergedRecords {
     pub tags: Option<Tree>,
 }
 
-// Returns the output's numbers for the editions, chapters and attached files of all inputs. `joined` has the chapters
-// of all inputs.
+// Returns the output's identifiers for the editions, chapters and attached files of all inputs, in their order.
+// `joined` has the Chapters of all inputs.
 fn numbers_of(alloc: Global, inputs: &[InputRecords], joined: &Tree) -> Result<Uids, AllocError>
     requires read { IsRead CHAPTERS joined.now }
     requires joined { joined.now ≡ joined_chapters inputs.now }
@@ -46,10 +46,10 @@ fn numbers_of(alloc: Global, inputs: &[InputRecords], joined: &Tree) -> Result<U
     })
 }
 
-/// Returns the Attachments, Chapters and Tags of an output.
+/// Merges the attached files, Chapters and Tags of all inputs into the ones of the output.
 ///
-/// The attached files and editions of all inputs follow in sequence, with new FileUIDs, EditionUIDs and ChapterUIDs.
-/// For each kind, the first use of a positive identifier keeps it. The kept Tags follow, with the output's
+/// The attached files and editions of all inputs follow in sequence, with the output's FileUIDs, EditionUIDs and
+/// ChapterUIDs. For each kind, the first use of a positive identifier keeps it. The kept Tags follow, with the output's
 /// identifiers in their targets. If an identifier is used twice in an input, its first use counts.
 pub fn merge_records(alloc: Global, inputs: &[InputRecords]) -> Result<MergedRecords, AllocError>
     requires { All IsInput inputs.now }

@@ -1,4 +1,4 @@
-//! Assembly of records
+//! Assembly of records from the inputs' ones
 
 ghost use Rattle.std.specs.Prelude.{◌≡◌, ◌++◌, OnOk};
 ghost use Rattle.tree_format.specs.Node.{children, id_of, with_children};
@@ -9,7 +9,7 @@ ghost use Rattle.output_records.specs.Inputs.{with_some};
 use ebml_tree::Tree;
 use std::alloc::AllocError;
 
-/// Appends the children of another record with the same ID.
+/// Appends the children of `other`, a record with the same ID, to the record `tree`.
 pub(crate) fn push_all(tree: &mut Tree, other: Tree) -> Result<(), AllocError>
     requires own { IsRecord (id_of tree.old) tree.old }
     requires other { IsRead (id_of tree.old) other }
@@ -22,7 +22,7 @@ pub(crate) fn push_all(tree: &mut Tree, other: Tree) -> Result<(), AllocError>
     Ok(())
 }
 
-/// Returns the record, or nothing if it has no children.
+/// Returns the record `tree`, or nothing if it has no children and so isn't written.
 pub(crate) fn with_some(tree: Tree) -> Option<Tree>
     ensures { result ≡ with_some tree }
 {

@@ -14,7 +14,8 @@ use mkv_schema::ids::TAGS;
 use record_changes::{UidMap, merge_tags};
 use std::alloc::{AllocError, Global};
 
-// Appends the kept Tags of an input to `joined`.
+// Appends the kept Tags of `input` to `joined`, the Tags of the output; `map` has the output's identifiers for their
+// targets.
 fn push_tags(
     alloc: Global,
     input: &InputRecords,
@@ -32,15 +33,15 @@ fn push_tags(
     }
 }
 
-// Returns the numbers after the first `count`.
+// Returns the identifiers in `numbers` after the first `count`, which are another input's.
 fn behind(numbers: &[u64], count: usize) -> &[u64]
     ensures { result.now ≡ drop count numbers.now }
 {
     &numbers[count.min(numbers.len())..]
 }
 
-/// Returns the kept Tags of all inputs in one Tags. `numbers` are the output's numbers for their editions, chapters
-/// and attached files.
+/// Returns one Tags with the kept Tags of all inputs. `numbers` has the output's identifiers for their editions,
+/// chapters and attached files, which their targets get.
 pub(crate) fn joined_tags(
     alloc: Global,
     inputs: &[InputRecords],

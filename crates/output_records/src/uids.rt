@@ -1,4 +1,4 @@
-//! Identifiers, and the output's numbers for them
+//! Identifiers of an input's editions, chapters and attached files, and the output's identifiers for them
 
 ghost use Rattle.std.specs.Prelude.{◌≡◌, ◌++◌, ℕ, nat_eq, zip, IfOk, OnOk};
 ghost use Rattle.indexmap.specs.IndexMap.{get};
@@ -13,7 +13,7 @@ use output_model::Attachment;
 use record_changes::{UidMap, push_chapter_uids, push_edition_uids};
 use std::alloc::{AllocError, Global};
 
-/// Identifiers or their numbers in the output, in the order of writing
+/// Identifiers of editions, chapters and attached files, of an input or of the output, in the order of writing
 #[derive(Drop)]
 pub(crate) struct Uids {
     pub(crate) editions: List<u64>,
@@ -21,7 +21,7 @@ pub(crate) struct Uids {
     pub(crate) attachments: List<u64>,
 }
 
-/// Appends the FileUIDs of attached files. If memory runs out, some may have been appended.
+/// Appends the FileUIDs of the attached files `files` to `uids`. If memory runs out, some may have been appended.
 pub(crate) fn push_file_uids(files: &[Attachment], uids: &mut List<u64>) -> Result<(), AllocError>
     ensures { OnOk result (uids.new ≡ uids.old ++ file_uids files.now) }
 {
@@ -31,7 +31,7 @@ pub(crate) fn push_file_uids(files: &[Attachment], uids: &mut List<u64>) -> Resu
     Ok(())
 }
 
-/// Returns the UIDs of the editions, chapters and attached files of an input.
+/// Returns the identifiers of the editions, chapters and attached files of `input`, as they are in the input.
 pub(crate) fn uids_of(alloc: Global, input: &InputRecords) -> Result<Uids, AllocError>
     requires { IsInput input.now }
     ensures { IfOk result (λ uids. uids ≡ uids_of input.now) }
@@ -51,7 +51,7 @@ pub(crate) fn uids_of(alloc: Global, input: &InputRecords) -> Result<Uids, Alloc
     })
 }
 
-// Returns pairs of the identifiers and their numbers.
+// Returns pairs of an input's identifiers `source` and the output's identifiers for them, `numbers`.
 fn pairs_of(alloc: Global, source: &[u64], numbers: &[u64]) -> Result<Vec<(u64, u64)>, AllocError>
     ensures { IfOk result (λ pairs. pairs.items ≡ zip source.now numbers.now) }
 {
@@ -62,7 +62,8 @@ fn pairs_of(alloc: Global, source: &[u64], numbers: &[u64]) -> Result<Vec<(u64, 
         .collect(alloc)
 }
 
-// Returns a map from each identifier to the number of its first use. The first use is inserted last.
+// Returns a map from each of an input's identifiers `source` to the output's identifier for its first use, in
+// `numbers`. The first use is inserted last, so that it replaces others.
 fn number_map(
     alloc: Global,
     source: &[u64],
@@ -75,8 +76,8 @@ fn number_map(
     pairs.into_iter().collect(alloc)
 }
 
-/// Returns the map from an input's identifiers to the output's numbers. The numbers begin with its editions, chapters
-/// and attached files; the next inputs follow.
+/// Returns the map from the identifiers `uids` of `input` to the output's. The lists `editions`, `chapters` and
+/// `attachments` have the output's identifiers from this input onwards; the next inputs follow.
 pub(crate) fn map_of(
     alloc: Global,
     input: &InputRecords,
