@@ -7,32 +7,32 @@ use Rattle.requests.specs.Lists.{ascend, follow, differ}
 use Rattle.requests.specs.declared.merge.FileWords.{FileWords}
 use Rattle.requests.specs.declared.merge.MergeWords.{MergeWords}
 
--- `n` is from `lowest` to `highest`.
+-- `n` is from `lowest` to `highest`, both included.
 pub record IsWithin (lowest highest n : ℕ) : Type 0 where
   pub least : lowest ≤ n
   pub most : n ≤ highest
 
--- The times are below 2^63 nanoseconds, and each is above the previous one.
+-- The times `times` are below 2^63 nanoseconds, and each is above the previous one.
 pub record AreTimes (times : List ℕ) : Type 0 where
   pub ascend : ascend times ≡ true
   pub below : All (λ t. t < 2 ^ 63) times
 
--- The span's start and end are below 2^63 nanoseconds.
+-- The start and the end of the time span `span` are below 2^63 nanoseconds.
 pub record IsSpan (span : SpanWords) : Type 0 where
   pub start : span.start < 2 ^ 63
   pub end : IfSome span.end (λ t. t < 2 ^ 63)
 
--- No time span begins before the end of the previous one.
+-- In `spans` no time span begins before the end of the previous one, and all are below 2^63 nanoseconds.
 pub record AreSpans (spans : List SpanWords) : Type 0 where
   pub follow : follow 0 spans ≡ true
   pub each : All IsSpan spans
 
--- There are at most 1024 identifiers, all different.
+-- There are at most 1024 SegmentUUIDs in `uuids`, all different.
 pub record AreUuids (uuids : List ℕ) : Type 0 where
   pub few : length uuids ≤ 1024
   pub differ : differ uuids ≡ true
 
--- The split keeps its limits: a positive duration or size, or times or spans that ascend.
+-- The rule for parts is within its limits: a positive duration or size, or times or time spans that ascend.
 abbrev pub IsSoundSplit : SplitWords → Type 0
 IsSoundSplit (Duration by) = IsWithin 1 (2 ^ 63 - 1) by
 IsSoundSplit (Times at) = AreTimes at
@@ -41,12 +41,12 @@ IsSoundSplit AllChapters = ⊤
 IsSoundSplit (Chapters numbers) = ⊤
 IsSoundSplit (Size limit) = IsWithin 1 (2 ^ 64 - 1) limit
 
--- No track is delayed by 2^55 nanoseconds or more, in either direction.
+-- No track of the input `file` is delayed by 2^55 nanoseconds or more, in either direction.
 pub record IsSoundFile (file : FileWords) : Type 0 where
   pub delays : All (λ (sync : ℕ × ℤ). nat_abs sync.1 < 2 ^ 55) file.syncs
 
--- The tick, the Cluster limits, the split, the identifiers and the delays keep their limits. There are 1 to 64 files, and the first isn't
--- appended to another.
+-- The options `words` of a merge are within their limits: tick, Clusters, rule for parts, SegmentUUIDs and delays. There are 1 to 64 inputs, and the
+-- first isn't appended to another.
 pub record IsSoundMerge (words : MergeWords) : Type 0 where
   pub scale : IsWithin 1000 10000000 words.scale
   pub blocks : IsWithin 1 65535 words.blocks

@@ -1,10 +1,10 @@
-//! Readers of decimal numbers.
+//! Readers of decimal numbers, for the options of a command line.
 
 ghost use Rattle.std.specs.Prelude.{◌≡◌, ◌^◌, ◌<◌};
 ghost use Rattle.requests.specs.Decimal as spec;
 ghost use Rattle.requests.specs.Decimal.{below};
 
-/// Reads one or more digits, below 2^64.
+/// Reads `word` as a decimal number of one or more digits, below 2^64; otherwise returns nothing.
 #[tactic(auto, unfolding(crate::specs::Decimal::whole))]
 pub fn whole(word: &[u8]) -> Option<u64>
     ensures { result ≡ below (2 ^ 64) (spec.whole word.now) }
@@ -23,7 +23,7 @@ pub fn whole(word: &[u8]) -> Option<u64>
     Some(value)
 }
 
-/// Reads a decimal number of 1 to 18 digits.
+/// Reads `word` as a decimal number of 1 to 18 digits; otherwise returns nothing.
 #[tactic(auto, using(crate::proofs::DecimalLemmas::whole_short), unfolding(crate::specs::Decimal::number))]
 pub fn number(word: &[u8]) -> Option<u64>
     ensures { result ≡ spec.number word.now }

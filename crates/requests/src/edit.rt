@@ -1,8 +1,8 @@
-//! Changes of a file.
+//! Changes of the properties of a file.
 
 use mkv_io::Text;
 
-/// One change of one property.
+/// One change of one property, as `propedit` makes it.
 #[derive(Debug, Drop)]
 pub struct Edit {
     pub place: Selector,
@@ -13,29 +13,29 @@ pub struct Edit {
     pub value: Text,
 }
 
-/// Place of a property: in Info, or in one TrackEntry.
+/// Place of a property that is changed: in Info, or in one TrackEntry.
 #[derive(Clone, Copy, Debug, PartialEq, Eq)]
 pub enum Selector {
-    /// The Info Element.
+    /// Info.
     Info,
-    /// The TrackEntry number `n`, counted from 1.
+    /// TrackEntry with the index `n` in Tracks, counted from 1.
     Nth { n: u64 },
-    /// The TrackEntry number `n`, counted from 1, among the tracks with this TrackType: 1 is video, 2 audio, 17
+    /// TrackEntry with the index `n`, counted from 1, among the ones with this TrackType: 1 is video, 2 audio, 17
     /// subtitle.
     Typed { kind: u64, n: u64 },
-    /// The first TrackEntry with this TrackUID.
+    /// First TrackEntry with this TrackUID.
     Uid { uid: u64 },
-    /// The first TrackEntry with this TrackNumber.
+    /// First TrackEntry with this TrackNumber.
     Number { number: u64 },
 }
 
 /// Kind of change of a property.
 #[derive(Clone, Copy, Debug, PartialEq, Eq)]
 pub enum Change {
-    /// It gets the value, which replaces all values that it had.
+    /// The property gets the value, which replaces all values that it had.
     Set,
-    /// It is added, and refused if it exists.
+    /// The property is added, and the edit is refused if it exists.
     Add,
-    /// All its values are deleted.
+    /// All values of the property are deleted.
     Delete,
 }

@@ -1,8 +1,8 @@
-//! Extractions from a file.
+//! Extractions from a file, as `extract` makes them.
 
 use mkv_io::{List, Text};
 
-/// Content that an extraction writes, and its files.
+/// One extraction: its kind of content, and the files that it writes.
 #[derive(Debug, Drop)]
 pub enum Job {
     /// Frames of tracks, or their timestamps.
@@ -11,28 +11,28 @@ pub enum Job {
     Attachments { list: List<Target> },
     /// Cue points of tracks.
     Cues { list: List<Target> },
-    /// Chapters, as text, in the file `name`.
+    /// Chapters as text, in the file `name`.
     Chapters { name: Text },
 }
 
-/// Form of the written frames of a track.
+/// Form of the frames of a track in the file that is written.
 #[derive(Clone, Copy, Debug, PartialEq, Eq)]
 pub enum Form {
-    /// The frames in sequence.
+    /// Frames in sequence.
     Raw,
-    /// The track's CodecPrivate, and then the frames.
+    /// CodecPrivate of the track, and then the frames.
     Full,
-    /// The frames in the form that the track's codec has in a file of its own: a SubRip text, or a stream that
-    /// players read.
+    /// Frames in the form that the track's codec has in a file of its own: a SubRip text, or a stream that players
+    /// read.
     ByCodec,
-    /// The timestamps of the frames.
+    /// Timestamps of the frames.
     Times,
 }
 
-/// One item that is extracted, and its file.
+/// One item that is extracted, and the file that gets it.
 #[derive(Debug, Drop)]
 pub struct Target {
-    /// Index of a track in Tracks, from 0, or of an attached file in Attachments, from 1.
+    /// Index of a track in Tracks, counted from 0, or of an attached file in Attachments, counted from 1.
     pub id: u64,
     /// Name of the file that is written.
     pub name: Text,

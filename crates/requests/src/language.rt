@@ -1,17 +1,18 @@
-//! Language tags: RFC 5646, section 2.1 (Syntax), without its grammar of subtags.
+//! Language tags of tracks: RFC 5646, section 2.1 (Syntax), without its grammar of subtags.
 
 ghost use Rattle.std.specs.Prelude.{◌≡◌};
 ghost use Rattle.std.specs.List.{list_all};
 ghost use Rattle.requests.specs.Language as spec;
 
-/// Checks whether `word` consists of 1 to 63 ASCII letters, digits and hyphens. Whether its subtags are registered isn't
-/// checked.
+/// Checks whether `word` may be a language tag: it consists of 1 to 63 ASCII letters, digits and hyphens. Doesn't check
+/// whether its subtags are registered.
 pub fn is_language_tag(word: &[u8]) -> bool
     ensures { result ≡ spec.is_language_tag word.now }
 {
     1 <= word.len() && word.len() <= 63 && are_in_tag(word)
 }
 
+// Checks whether the bytes of `word` are ASCII letters, digits and hyphens, the ones that a language tag may have.
 fn are_in_tag(word: &[u8]) -> bool
     ensures { result ≡ list_all spec.is_in_tag word.now }
 {

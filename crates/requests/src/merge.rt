@@ -1,11 +1,11 @@
-//! Merges: inputs, options and output.
+//! Requests of a merge: inputs, options and output.
 
 use crate::split::SplitWords;
 use crate::track::{CueWord, Select};
 use mkv_io::{List, Text};
 
-/// Flags of tracks that say for whom a track is (RFC 9559, section 5.1.4.1, TrackEntry): values for the tracks that are
-/// named.
+/// Flags for the intended viewers of tracks (RFC 9559, section 5.1.4.1, TrackEntry). For each flag there are values for
+/// tracks, each with the track's index, counted from 0.
 #[derive(Debug, Drop)]
 pub struct FlagWords {
     /// FlagEnabled
@@ -22,61 +22,61 @@ pub struct FlagWords {
     pub commentary: List<(u64, bool)>,
 }
 
-/// Options of one input file of a merge. A track is named by its index in Tracks, from 0.
+/// Options of one input of a merge. Tracks are named by their index in Tracks, counted from 0.
 #[derive(Debug, Drop)]
 pub struct FileWords {
     pub name: Text,
-    /// The file is appended to the previous file.
+    /// File is appended to the previous one
     pub appended: bool,
     pub video: Select,
     pub audio: Select,
     pub subtitles: Select,
-    /// The attached files are kept.
+    /// Attached files are kept
     pub attachments: bool,
-    /// The tags of tracks are kept.
+    /// Tags of tracks are kept
     pub track_tags: bool,
-    /// Tags that name no track are kept.
+    /// Tags that name no track are kept
     pub global_tags: bool,
-    /// The statistics among the tags are kept.
+    /// Statistics among the tags are kept
     pub statistics: bool,
-    /// The chapters are kept.
+    /// Chapters are kept
     pub chapters: bool,
-    /// Delays of tracks, in nanoseconds.
+    /// Delays of tracks, in nanoseconds; a delay may be negative
     pub syncs: List<(u64, i64)>,
     pub names: List<(u64, Text)>,
     pub languages: List<(u64, Text)>,
-    /// Language tags of tracks, as in BCP 47.
+    /// Language tags of tracks, as in BCP 47
     pub language_tags: List<(u64, Text)>,
     pub defaults: List<(u64, bool)>,
     pub forced: List<(u64, bool)>,
     pub flags: FlagWords,
     pub cues: List<(u64, CueWord)>,
-    /// Names of timestamp files of tracks.
+    /// Names of timestamp files, by track
     pub times: List<(u64, Text)>,
-    /// Tracks that the options name, in their order, each once.
+    /// Tracks that some option names, in the options' order, each once
     pub named: List<u64>,
 }
 
-/// Options of a merge, and its input files.
+/// Options of a merge, and its inputs.
 #[derive(Debug, Drop)]
 pub struct MergeWords {
     pub output: Text,
     pub webm: bool,
     pub title: Option<Text>,
-    /// Name of a file with chapters.
+    /// Name of a chapter file
     pub chapters: Option<Text>,
-    /// Duration of one tick of the output, in nanoseconds.
+    /// Duration of one tick of the output, in nanoseconds
     pub scale: u64,
-    /// Greatest number of blocks in a Cluster.
+    /// Maximum number of blocks in a Cluster
     pub blocks: u32,
-    /// Greatest distance from a Cluster's timestamp to its last block's, in nanoseconds.
+    /// Maximum distance from a Cluster's Timestamp to its last block, in nanoseconds
     pub span: u64,
     pub split: Option<SplitWords>,
     pub files: List<FileWords>,
-    /// SegmentUUIDs of the parts, in order, read with the highest byte first.
+    /// SegmentUUIDs of the outputs, in their order, read with the highest byte first
     pub uuids: List<u128>,
-    /// Each part names the SegmentUUIDs of the previous and the next part.
+    /// Each output names the SegmentUUIDs of the previous and the next one
     pub link: bool,
-    /// Files that are appended to a damaged one are read, too.
+    /// Files that are appended to a damaged one are read, too
     pub append_damaged: bool,
 }

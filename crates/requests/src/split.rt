@@ -1,21 +1,22 @@
-//! Rules for splitting an output.
+//! Rules for cutting an output into parts.
 
 use mkv_io::List;
 
-/// Rule for splitting an output. Times are in nanoseconds.
+/// Rule for cutting an output into parts, as `--split` gives it. Times are in nanoseconds.
 #[derive(Debug, Drop)]
 pub enum SplitWords {
-    /// After each duration of `by`.
+    /// Cut after each duration of `by`.
     Duration { by: u64 },
-    /// At the times `at`, which ascend.
+    /// Cuts at the times `at`, which ascend.
     Times { at: List<u64> },
-    /// Only the time spans `spans` are written, which ascend and don't overlap.
+    /// Cuts at the bounds of `spans`, which ascend and don't overlap; only the time in them is written.
     Parts { spans: List<SpanWords> },
-    /// At the start of each chapter.
+    /// Cut at the start of each chapter.
     AllChapters,
-    /// At the start of the chapters `numbers`, counted from 1; a number that no chapter has is accepted here.
+    /// Cuts at the start of the chapters with the numbers `numbers`, counted from 1. A number that no chapter has is
+    /// accepted here.
     Chapters { numbers: List<u64> },
-    /// After each `limit` bytes of blocks.
+    /// Cut after each `limit` bytes of blocks.
     Size { limit: u64 },
 }
 

@@ -2,7 +2,7 @@
 
 use mkv_io::List;
 
-/// Selection of tracks of one type.
+/// Selection of the tracks of one type from an input.
 #[derive(Debug, Drop)]
 pub enum Select {
     All,
@@ -11,11 +11,11 @@ pub enum Select {
     Off,
 }
 
-/// Selection of a track's blocks that get a cue point.
+/// Selection of the blocks of a track that get a cue point, as `--cues` gives it.
 #[derive(Clone, Copy, Debug, PartialEq, Eq)]
 pub enum CueWord {
     Never,
-    /// Keyframes.
+    /// Only keyframes.
     Key,
     All,
 }
