@@ -12,32 +12,34 @@ use Rattle.block_format.specs.Block.{Block}
 use Rattle.block_format.specs.Elements.{Rules, with_limits, without_limits}
 use Rattle.block_format.specs.Events.{Event, stopped, Found, first_wrong, events_then, events_of, blocks_of, damages_of}
 
--- If no damage of any kind is reported for a file that is read with limits, limits change nothing.
+-- If no damage is reported for a file that is read with limits, it is read alike without limits. `scale` is the nanoseconds per tick, and `segment`
+-- the Segment's header.
 abbrev pub LimitsChangeNothing : Type 0
 LimitsChangeNothing =
     (scale : ℕ) (bytes : List ℕ) (segment : Header) → damages_of (events_of (with_limits scale) bytes segment) ≡ []
     → events_of (without_limits scale) bytes segment ≡ events_of (with_limits scale) bytes segment
 
--- No event follows damage that ends the reading of a file.
+-- No event follows damage that ends the reading of a file by the rules `r`; `segment` is the Segment's header.
 abbrev pub StopsAtTheEnd : Type 0
 StopsAtTheEnd =
     (r : Rules) (bytes : List ℕ) (segment : Header) (before behind : List Event) (d : Damage) → events_of r bytes segment ≡ before ++ stopped d ∷ behind → behind ≡ []
 
--- Only the first damage in a Cluster is reported. Reading goes on after the Cluster only if its size is known and it ends within the file.
+-- Only the first damage among `found`, the results in a Cluster, is reported. The events `rest` after the Cluster are read only if its size is known
+-- and it ends within the file (`closed`).
 abbrev pub TellsTheFirstWrong : Type 0
 TellsTheFirstWrong =
     (closed : Bool) (found : List Found) (rest : List Event)
     → damages_of (events_then closed found rest) ≡ option_map_or (λ d. d ∷ (if closed then damages_of rest else [])) (first_wrong found) (damages_of rest)
 
--- `sizes` are 1 to 256 sizes of at most 32 MiB that can be laced by `kind`.
+-- `sizes` are 1 to 256 sizes of frames, at most 32 MiB in all, that can be laced by `kind`.
 pub record CanBeLaced (kind : Lace) (sizes : List ℕ) : Type 0 where
   pub some : 1 ≤ length sizes
   pub most : length sizes ≤ 256
   pub total : sum sizes ≤ MAX_BLOCK_LEN
   pub fits : FitsKind kind sizes
 
--- The timestamp, the duration and the references of `b` are below 2^56 nanoseconds. It has at most 64 references, frames that its kind of lace
--- can have, and at most 32 MiB of other kept children.
+-- The block `b` is within a reader's limits. Its timestamp, duration and references are below 2^56 nanoseconds. It has at most 64 references, frames
+-- that its lacing can have, and at most 32 MiB of kept children.
 pub record IsSmall (b : Block) : Type 0 where
   pub time : nat_abs b.time < TOO_LARGE_TIME
   pub duration : IfSome b.duration (λ d. d < TOO_LARGE_TIME)
@@ -46,6 +48,6 @@ pub record IsSmall (b : Block) : Type 0 where
   pub frames : CanBeLaced b.lace (map (λ (frame : List ℕ). length frame) b.frames)
   pub kept : length b.kept ≤ MAX_BLOCK_LEN
 
--- Each block of a file that is read with limits is small.
+-- Each block of a file that is read with limits is within these limits. `scale` is the nanoseconds per tick, and `segment` the Segment's header.
 abbrev pub BlocksAreSmall : Type 0
 BlocksAreSmall = (scale : ℕ) (bytes : List ℕ) (segment : Header) → AreOctets bytes → All IsSmall (blocks_of (events_of (with_limits scale) bytes segment))

@@ -1,4 +1,4 @@
--- The places at which the blocks of an output are read: RFC 9559, sections 5.1 (Segment Element) and 5.1.3 (Cluster Element).
+-- The offsets of the blocks of an output as it is read: RFC 9559, sections 5.1 (Segment Element) and 5.1.3 (Cluster Element).
 use Rattle.std.specs.Prelude.{◌≡◌, ◌<◌, ◌==◌, false, ℕ, ◌+◌, ◌*◌, pos, List, [], ◌∷◌, ◌++◌, length, map, All, Ok}
 use Rattle.std.specs.Option.{option_map}
 use Rattle.ebml_numbers.specs.Number.{all_ones}
@@ -13,13 +13,13 @@ use Rattle.output_model.specs.Cluster.{OutputCluster, timestamp_element, cluster
 use Rattle.output_model.specs.Document.{clusters_elements}
 use Rattle.output_model.specs.Sound.{IsSoundCluster}
 
--- The size of the body of `e` fits into eight bytes.
+-- The size of the content of the Element `e` fits into eight bytes.
 abbrev pub HasSize : Element → Type 0
 HasSize e = length e.body < all_ones 8
 
 -- ---- blocks
 
--- the block that is read from a written one, if a tick has `scale` nanoseconds and its Element is at `place`
+-- the block that is read for the written block `b`, if a tick has `scale` nanoseconds and its Element is at the offset `place`
 abbrev pub block_in_place : ℕ → ℕ → OutputBlock → Block
 block_in_place scale place b = record {
   track = b.lane;
@@ -36,63 +36,64 @@ block_in_place scale place b = record {
   offset = place;
 }
 
--- the blocks of a Cluster with the Timestamp `timestamp`, in sequence from the place `p` on
+-- the blocks that are read for blocks of a Cluster with the Timestamp `timestamp`. They are in sequence from the offset `p` onwards; `scale` is the
+-- nanoseconds per tick.
 abbrev pub blocks_in_place : ℕ → ℕ → ℕ → List OutputBlock → List Block
 blocks_in_place scale timestamp p [] = []
 blocks_in_place scale timestamp p (b ∷ bs) =
     block_in_place scale p b ∷ blocks_in_place scale timestamp (p + length (octets_of (block_element timestamp b))) bs
 
--- the results of finding the blocks, without damage
+-- the results of finding the blocks `bs`, without damage
 abbrev pub found_blocks : List Block → List Found
 found_blocks bs = map (λ (b : Block). Ok b) bs
 
--- the events with these blocks and no damage
+-- the events for the blocks `bs`, without damage
 abbrev pub block_events : List Block → List Event
 block_events bs = map (λ (b : Block). block b) bs
 
 -- ---- Clusters
 
--- the place of the first block of a Cluster: after the Cluster's header and its Timestamp
+-- the offset of the first block of the Cluster `c`, which is at the offset `p`: after its header and its Timestamp
 abbrev pub first_block : ℕ → OutputCluster → ℕ
 first_block p c = p + length (header_of (cluster_element c)) + length (octets_of (timestamp_element c.timestamp))
 
--- the blocks of the Cluster at the place `p`
+-- the blocks that are read from the Cluster `c` at the offset `p`; `scale` is the nanoseconds per tick
 abbrev pub cluster_blocks : ℕ → ℕ → OutputCluster → List Block
 cluster_blocks scale p c = blocks_in_place scale c.timestamp (first_block p c) c.blocks
 
--- the blocks of Clusters, in sequence from the place `p` on
+-- the blocks that are read from Clusters in sequence from the offset `p` onwards; `scale` is the nanoseconds per tick
 abbrev pub clusters_blocks : ℕ → ℕ → List OutputCluster → List Block
 clusters_blocks scale p [] = []
 clusters_blocks scale p (c ∷ cs) = cluster_blocks scale p c ++ clusters_blocks scale (p + length (octets_of (cluster_element c))) cs
 
 -- ---- a Segment
 
--- The children of a Segment: Elements, then Clusters, then Elements.
+-- The children of a Segment: Elements before its Clusters, the Clusters, and Elements after them.
 pub record OutputSegment : Type 0 where
   pub front : List Element
   pub clusters : List OutputCluster
   pub behind : List Element
 
--- the children of a Segment: Elements, then Clusters, then Elements
+-- the children of the Segment `s` as Elements, in sequence
 abbrev pub segment_elements : OutputSegment → List Element
 segment_elements s = s.front ++ (clusters_elements s.clusters ++ s.behind)
 
--- the Segment as an Element; its size takes eight bytes
+-- the Segment `s` as an Element; its size takes eight bytes
 abbrev pub segment_element : OutputSegment → Element
 segment_element s = record { id = SEGMENT; width = 8; body = joined (segment_elements s) }
 
--- `e` is an Element besides the Clusters.
+-- `e` is an Element of a Segment that isn't a Cluster.
 pub record IsOther (e : Element) : Type 0 where
   pub element : IsElement e
   pub other : (e.id == CLUSTER) ≡ false
 
--- The Clusters of the Segment are valid, its output tracks are as many as an output may have, and its size fits into eight bytes.
+-- The Segment `s` can be written. Its Clusters can, its number of output tracks is one that an output may have, and its size fits into eight bytes.
 pub record IsSoundSegment (s : OutputSegment) : Type 0 where
   pub size : HasSize (segment_element s)
   pub front : All IsOther s.front
   pub clusters : All (IsSoundCluster MAX_LANES) s.clusters
   pub behind : All IsOther s.behind
 
--- the blocks of the Segment at the place `p`
+-- the blocks that are read from the Segment `s` at the offset `p`; `scale` is the nanoseconds per tick
 abbrev pub segment_blocks : ℕ → ℕ → OutputSegment → List Block
 segment_blocks scale p s = clusters_blocks scale (p + length (header_of (segment_element s)) + length (joined s.front)) s.clusters

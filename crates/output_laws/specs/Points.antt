@@ -9,8 +9,8 @@ use Rattle.block_format.specs.Elements.{without_limits}
 use Rattle.block_format.specs.Events.{found_in}
 use Rattle.output_model.specs.declared.places.CuePoint.{CuePoint}
 
--- A cue point points at a block: its position in the Segment is a Cluster, and its position in the Cluster is a block on its output track at its
--- tick.
+-- The cue point `point` points at the block `block` in the Cluster with the header `cluster`. Its position in the Segment is the Cluster's, and its
+-- position in the Cluster is the block's. Track number and tick are the block's.
 pub record PointsAt (scale : ℕ) (bytes : List ℕ) (segment : Header) (point : CuePoint) (cluster : Header) (block : Block) : Type 0 where
   pub stands : element_at in_segment bytes (segment.body + point.cluster) (segment_bound bytes segment) ≡ Ok cluster
   pub is_cluster : cluster.id ≡ CLUSTER
@@ -19,6 +19,6 @@ pub record PointsAt (scale : ℕ) (bytes : List ℕ) (segment : Header) (point :
   pub track : block.track ≡ point.lane
   pub time : block.time ≡ nanoseconds scale (pos point.tick)
 
--- The cue point points at a block.
+-- The cue point `point` points at a block in the content `bytes`; `scale` is the nanoseconds per tick.
 abbrev pub PointsAtBlock : ℕ → List ℕ → Header → CuePoint → Type 0
 PointsAtBlock scale bytes segment point = (cluster : Header) × (block : Block) × PointsAt scale bytes segment point cluster block

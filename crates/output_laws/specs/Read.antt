@@ -7,19 +7,19 @@ use Rattle.output_model.specs.Sound.{AreKept}
 use Rattle.merge_model.specs.declared.limits.TheConstants.{MAX_SHIFT, TOO_LARGE_DELAY}
 use Rattle.merge_model.specs.Links.{Placing}
 
--- A SimpleBlock has only its frames and its flags.
+-- The block `b` of a SimpleBlock has only frames and flags: no duration, no references, no kept children.
 pub record IsReadSimple (b : Block) : Type 0 where
   pub duration : b.duration ≡ None
   pub references : b.references ≡ []
   pub kept : b.kept ≡ []
 
--- A BlockGroup is a keyframe if and only if it has no references; it isn't discardable.
+-- The block `b` of a BlockGroup is a keyframe if and only if it has no references. It isn't discardable.
 pub record IsReadGroup (b : Block) : Type 0 where
   pub key : b.key ≡ (length b.references == 0)
   pub discardable : b.discardable ≡ false
   pub kept : AreKept b.kept
 
--- The fields of a block besides its frames are fields of its kind.
+-- The fields of the block `b` besides its frames are the ones of its kind, SimpleBlock or BlockGroup.
 pub record IsOfItsKind (b : Block) : Type 0 where
   pub simple : b.group ≡ false → IsReadSimple b
   pub group : b.group ≡ true → IsReadGroup b
@@ -29,7 +29,7 @@ pub record IsReadBlock (b : Block) : Type 0 where
   pub small : IsSmall b
   pub kind : IsOfItsKind b
 
--- The delay, the append offset and the bytes before frames are within the limits.
+-- The delay, the append offset and the bytes before frames in the placing `p` are within their limits.
 pub record IsPlacing (p : Placing) : Type 0 where
   pub delay : nat_abs p.delay < TOO_LARGE_DELAY
   pub shift : p.shift ≤ MAX_SHIFT

@@ -25,7 +25,7 @@ use Rattle.output_laws.specs.Points.{PointsAtBlock}
 
 -- ---- places of a document's Elements
 
--- the Segment of a document: the area and other Elements before the Clusters, the Clusters, and the Elements after them
+-- the Segment of the document `d`: the area for its SeekHead and other Elements before the Clusters, the Clusters, and the Elements after them
 abbrev pub segment_of_document : Document → OutputSegment
 segment_of_document d = record {
   front = area_elements (seeks_of d) ++ front_elements d.front;
@@ -33,59 +33,59 @@ segment_of_document d = record {
   behind = back_elements d;
 }
 
--- the header of the EBML header of a document
+-- the header of the EBML header of the document `d`, at the offset 0
 abbrev pub header_of_ebml : Document → Header
 header_of_ebml d = header_in_place 0 (ebml_element d.front.webm)
 
--- the place of the Segment, after the EBML header
+-- the offset of the Segment of the document `d`, after its EBML header
 abbrev pub segment_place : Document → ℕ
 segment_place d = length (octets_of (ebml_element d.front.webm))
 
--- the header of the Segment of a document
+-- the header of the Segment of the document `d`, at its offset
 abbrev pub header_of_segment : Document → Header
 header_of_segment d = header_in_place (segment_place d) (segment_element (segment_of_document d))
 
--- the headers of level 1 of a document, at their places in its bytes
+-- the headers of the Elements of level 1 of the document `d`, at their offsets in its content
 abbrev pub level_1_of : Document → List Header
 level_1_of d = headers_in_place (header_of_segment d).body (segment_elements (segment_of_document d))
 
--- the outline of a document with `total` bytes
+-- the outline of the document `d` with `total` bytes, as a reader finds it
 abbrev pub outline_of_document : Document → ℕ → Outlined
 outline_of_document d total = record { ebml = header_of_ebml d; segment = header_of_segment d; list = level_1_of d; damage = None; end = total }
 
--- the blocks of its Clusters, at the scale of its Info
+-- the blocks that are read from the document `d`, at the nanoseconds per tick of its Info
 abbrev pub blocks_of_document : Document → List Block
 blocks_of_document d = segment_blocks (scale_of d.front.info) (segment_place d) (segment_of_document d)
 
 -- ---- records
 
--- The Element `h` of a content is the record `n`: without a reader's limits it is read as its tree in normal form, in which each Element has its
--- own place.
+-- The Element `h` of the content `bytes` is the record `n`. It is read without a reader's limits as the tree of `n` in normal form, with an offset
+-- for each Element.
 pub record IsRecordAt (bytes : List ℕ) (h : Header) (n : Node) : Type 0 where
   pub id : h.id ≡ id_of n
   pub read : tree_without_limits h.id h.offset (body_of bytes h) h.body ≡ Ok (placed_in h.offset h.body n)
 
--- The first Element with an ID is this record; without a record no Element has the ID.
+-- The first Element with the ID `id` among the headers `list` is this record; without a record no Element has the ID.
 abbrev pub FirstIs : List ℕ → List Header → ℕ → Option Node → Type 0
 FirstIs bytes list id None = first_of id list ≡ None
 FirstIs bytes list id (Some n) = (h : Header) × (first_of id list ≡ Some h) × IsRecordAt bytes h n
 
--- The children of the master `h` are the records `ns`, without damage.
+-- The children of the master `h` in the content `bytes` are the records `ns`, without damage.
 pub record ChildrenAre (bytes : List ℕ) (h : Header) (ns : List Node) : Type 0 where
   pub unbroken : (children_in in_master bytes h.body (stated_end h)).damage ≡ None
   pub are : AllZip (IsRecordAt bytes) (children_in in_master bytes h.body (stated_end h)).list ns
 
--- The children of the first Attachments are these AttachedFiles; without AttachedFiles there is no Attachments.
+-- The children of the first Attachments among the headers `list` are these AttachedFiles; without AttachedFiles there is no Attachments.
 abbrev pub AttachmentsAre : List ℕ → List Header → List Node → Type 0
 AttachmentsAre bytes list [] = first_of ATTACHMENTS list ≡ None
 AttachmentsAre bytes list (n ∷ ns) = (h : Header) × (first_of ATTACHMENTS list ≡ Some h) × ChildrenAre bytes h (n ∷ ns)
 
--- The first Cues has these points as its body; without points there is no Cues.
+-- The first Cues among the headers `list` has these cue points as its content; without cue points there is no Cues.
 abbrev pub CuesAre : List ℕ → List Header → List CuePoint → Type 0
 CuesAre bytes list [] = first_of CUES list ≡ None
 CuesAre bytes list (p ∷ ps) = (h : Header) × (first_of CUES list ≡ Some h) × (body_of bytes h ≡ joined (map point_element (p ∷ ps)))
 
--- The Elements of level 1 have the document's records and its cue points.
+-- The Elements of level 1 in the content `bytes`, with the headers `list`, have the records and cue points of the document `d`.
 pub record RecordsAre (bytes : List ℕ) (list : List Header) (d : Document) : Type 0 where
   pub info : FirstIs bytes list INFO (Some d.front.info)
   pub tracks : FirstIs bytes list TRACKS (Some d.front.tracks)
@@ -96,7 +96,7 @@ pub record RecordsAre (bytes : List ℕ) (list : List Header) (d : Document) : T
 
 -- ---- Seeks
 
--- The position of the Seek in the Segment is an Element with its ID.
+-- The position of the Seek `s` in the Segment `segment` of the content `bytes` is an Element with its ID.
 abbrev pub SeeksElement : List ℕ → Header → Seek → Type 0
 SeeksElement bytes segment s =
     (h : Header) × (element_at in_segment bytes (segment.body + s.position) (segment_bound bytes segment) ≡ Ok h) × (h.id ≡ s.id)

@@ -13,14 +13,14 @@ abbrev pub greatest_tick : List OutputBlock → ℕ
 greatest_tick [] = 0
 greatest_tick (b ∷ bs) = max b.tick (greatest_tick bs)
 
--- The rank that orders blocks: the order number of a block, its output track, and its place on the track.
+-- The rank that orders the blocks of a merged list. It is the order number of a block, its output track, and its place on the track, counted from 0.
 pub record Rank : Type 0 where
   pub order : ℕ
   pub lane : ℕ
   pub place : ℕ
 
--- the rank of a block after the blocks `before` of a list. Its order number is the greatest tick of its output track up to it; its place is the
--- number of earlier blocks on the track.
+-- the rank of the block `b` after the blocks `before` of a merged list. Its order number is the greatest tick of its output track up to it. Its place
+-- is the number of earlier blocks on the track.
 abbrev pub rank : List OutputBlock → OutputBlock → Rank
 rank before b = record {
   order = max (greatest_tick (lane_of b.lane before)) b.tick;
@@ -28,12 +28,12 @@ rank before b = record {
   place = length (lane_of b.lane before);
 }
 
--- A rank is before another by the order number, or else by the output track, or else by the place.
+-- The rank `r` is before the rank `s` by the order number, or else by the output track, or else by the place.
 abbrev pub IsBefore : Rank → Rank → Type 0
 IsBefore r s =
     (r.order < s.order) ⊎ ((r.order ≡ s.order) × ((r.lane < s.lane) ⊎ ((r.lane ≡ s.lane) × (r.place < s.place))))
 
--- Of any two blocks of a list, the rank of the first one is before the rank of the other.
+-- For any two blocks of the list `bs`, the rank of the first one is before the rank of the other.
 abbrev pub IsInOrder : List OutputBlock → Type 0
 IsInOrder bs =
     (before between behind : List OutputBlock) (b c : OutputBlock)
@@ -42,20 +42,20 @@ IsInOrder bs =
 
 -- ---- ends of Clusters
 
--- The Cluster has the tick of its first block as Timestamp, and each further block joins the earlier ones.
+-- The Cluster `c` has the tick of its first block as Timestamp, and each further block may join the earlier ones within `limits`.
 pub record IsJoined (limits : ClusterLimits) (c : OutputCluster) : Type 0 where
   pub begins : BeginsAt c.timestamp c.blocks
   pub joined : (first b : OutputBlock) (before behind : List OutputBlock)
       → c.blocks ≡ first ∷ (before ++ b ∷ behind)
       → joins limits (record { timestamp = c.timestamp; blocks = first ∷ before }) b ≡ true
 
--- The first block of the second Cluster doesn't join the first Cluster.
+-- The first block of the Cluster `d`, which follows the Cluster `c`, may not join the Cluster `c`.
 abbrev pub EndsBefore : ClusterLimits → OutputCluster → OutputCluster → Type 0
 EndsBefore limits c d =
     (first : OutputBlock) (others : List OutputBlock)
     → d.blocks ≡ first ∷ others → joins limits c first ≡ false
 
--- A Cluster ends if and only if the next block doesn't join it.
+-- In a list of Clusters, each ends if and only if the next block may not join it within `limits`.
 abbrev pub AreCutWhole : ClusterLimits → List OutputCluster → Type 0
 AreCutWhole limits [] = ⊤
 AreCutWhole limits (c ∷ []) = IsJoined limits c

@@ -3,7 +3,7 @@
 
 ghost use Rattle.output_laws.specs.Blocks.{BlocksAreSmall, LimitsChangeNothing, StopsAtTheEnd, TellsTheFirstWrong};
 
-/// If no damage is reported for a file that is read with limits, limits change nothing.
+/// Law: if no damage is reported for a file that is read with limits, limits change nothing.
 pub fn limits_change_nothing()
     ensures { LimitsChangeNothing }
 {}
@@ -13,12 +13,12 @@ pub fn blocks_are_small()
     ensures { BlocksAreSmall }
 {}
 
-/// Damage that ends the reading of a file is its last event.
+/// Law: damage that ends the reading of a file is its last event.
 pub fn a_stop_is_the_last_event()
     ensures { StopsAtTheEnd }
 {}
 
-/// Only the first damage of a Cluster is reported.
+/// Law: only the first damage of a Cluster is reported.
 pub fn the_first_damage_of_a_cluster_is_told()
     ensures { TellsTheFirstWrong }
 {}

@@ -3,12 +3,14 @@
 
 ghost use Rattle.output_laws.specs.Layouts.{LayoutsAreRead, OpenedIsOverwritten};
 
-/// A written document is read as that document: its outline, its records, its blocks, its Seeks and its cue points.
+/// Law: a written document is read as that document: its outline, its records, its blocks, its Seeks and its cue
+/// points.
 pub fn layouts_are_read()
     ensures { LayoutsAreRead }
 {}
 
-/// An output before its last two writes differs from the finished one only in the Segment's size and in the area.
+/// Law: an output before its last two writes differs from the finished one only in the Segment's size and in the area
+/// for its SeekHead.
 pub fn opened_is_overwritten()
     ensures { OpenedIsOverwritten }
 {}

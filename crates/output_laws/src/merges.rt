@@ -3,27 +3,27 @@
 
 ghost use Rattle.output_laws.specs.Merges.{BlocksAreReadInOrder, ClustersAreCut, ClustersAreCutAgain, ClustersHoldAll, FileBlocksAreRead, FoundBlocksAreOfTheirKind, LanesAreKept, LanesAreReadAgain, MergedClustersAreSound, MergedIsInOrder, PlacedBlocksAreSound, TicksAreKept};
 
-/// The merged list has the blocks of each output track, each once and in order.
+/// Law: the merged list has the blocks of each output track, each once and in order.
 pub fn lanes_are_kept()
     ensures { LanesAreKept }
 {}
 
-/// The merged list is in order: by order number, then output track.
+/// Law: the merged list is in order: by order number, then output track.
 pub fn merged_is_in_order()
     ensures { MergedIsInOrder }
 {}
 
-/// Clusters hold the blocks from which they are cut, in order.
+/// Law: Clusters hold the blocks that are divided into them, in order.
 pub fn clusters_hold_all()
     ensures { ClustersHoldAll }
 {}
 
-/// A Cluster ends if and only if the next block doesn't join it.
+/// Law: a Cluster ends if and only if the next block may not join it.
 pub fn clusters_are_cut()
     ensures { ClustersAreCut }
 {}
 
-/// A block that is found in a file has only fields of its kind, and its kept children can be written.
+/// Law: a block that is found in a file has only fields of its kind, and its kept children can be written.
 pub fn found_blocks_are_of_their_kind()
     ensures { FoundBlocksAreOfTheirKind }
 {}
@@ -34,32 +34,32 @@ pub fn file_blocks_are_read()
     ensures { FileBlocksAreRead }
 {}
 
-/// A placed block is valid if a reader finds it.
+/// Law: a block that a reader with limits finds can be written and read back as it is placed in an output.
 pub fn placed_blocks_are_sound()
     ensures { PlacedBlocksAreSound }
 {}
 
-/// Valid blocks are merged and cut into valid Clusters.
+/// Law: blocks that can be written are merged and divided into Clusters that can be written.
 pub fn merged_clusters_are_sound()
     ensures { MergedClustersAreSound }
 {}
 
-/// A block that was written and read is written as before.
+/// Law: a block that was written and read is written as before.
 pub fn ticks_are_kept()
     ensures { TicksAreKept }
 {}
 
-/// The blocks of an output are read in the order in which they were merged.
+/// Law: the blocks of an output are read in the order of the merged list.
 pub fn blocks_are_read_in_order()
     ensures { BlocksAreReadInOrder }
 {}
 
-/// The tracks of an output that is read again are the output tracks that were merged.
+/// Law: the tracks of an output that is read again are the output tracks that were merged.
 pub fn lanes_are_read_again()
     ensures { LanesAreReadAgain }
 {}
 
-/// An output that is merged again is cut into the same Clusters.
+/// Law: an output that is merged again is divided into the same Clusters.
 pub fn clusters_are_cut_again()
     ensures { ClustersAreCutAgain }
 {}

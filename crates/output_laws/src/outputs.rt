@@ -4,32 +4,32 @@
 
 ghost use Rattle.output_laws.specs.Outputs.{BlocksAreRead, ClustersAreRead, FramesCanBeWritten, KeptCanBeWritten, PointsAreRead, SegmentsAreRead};
 
-/// A written block is read as that block, at any place.
+/// Law: a written block is read as that block, at any place.
 pub fn blocks_are_read()
     ensures { BlocksAreRead }
 {}
 
-/// A written Cluster gives its blocks, with any bytes after it.
+/// Law: a written Cluster gives its blocks, with any bytes after it.
 pub fn clusters_are_read()
     ensures { ClustersAreRead }
 {}
 
-/// A written Segment has its Elements at level 1, and gives the blocks of its Clusters, without damage.
+/// Law: a written Segment has its Elements at level 1, and gives the blocks of its Clusters, without damage.
 pub fn segments_are_read()
     ensures { SegmentsAreRead }
 {}
 
-/// Each cue point of a written Segment points at its block.
+/// Law: each cue point of a written Segment points at its block.
 pub fn points_are_read()
     ensures { PointsAreRead }
 {}
 
-/// The kept children of a BlockGroup that was read can be written again.
+/// Law: the kept children of a BlockGroup that was read can be written again.
 pub fn kept_can_be_written()
     ensures { KeptCanBeWritten }
 {}
 
-/// The frames of a block that was read can be written again, with bytes before each.
+/// Law: the frames of a block that was read can be written again, with bytes before each.
 pub fn frames_can_be_written()
     ensures { FramesCanBeWritten }
 {}
