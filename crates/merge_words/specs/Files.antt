@@ -1,4 +1,4 @@
--- Options of each input file of a merge, collected from its items. All of it is this project's, after mkvmerge(1).
+-- Options of each input of a merge, collected from the items of its command line. All of it is this project's, after mkvmerge(1).
 use Rattle.std.specs.Prelude.{ℕ, ℤ, Bool, not, ◌==◌, if◌then◌else◌, List, [], ◌∷◌, ◌++◌, map, Option, Some, None, unwrap_or, option_and_then}
 use Rattle.std.specs.List.{filter, flat_map, list_any, slice_split, zip}
 use Rattle.requests.specs.declared.track.Select.{Select}
@@ -17,56 +17,56 @@ use Rattle.merge_words.specs.declared.files.Texts.{Texts}
 use Rattle.merge_words.specs.Items.{is_file, stands, track_in}
 use Rattle.merge_words.specs.Said.{value_in, said_about, file_of, tracks_of, delay_of, track_text_of, track_language_of, track_language_tag_of, track_flag_of, track_cues_of, track_file_of}
 
--- the tracks that a selection or exclusion names
+-- the tracks that a selection or an exclusion names, by index, counted from 0
 abbrev pub ids_of_select : Select → List ℕ
 ids_of_select All = []
 ids_of_select (These ids) = ids
 ids_of_select (AllBut ids) = ids
 ids_of_select Off = []
 
--- the number as a list, or an empty list if there is none
+-- the optional track number as a list of one or none
 abbrev pub one : Option ℕ → List ℕ
 one None = []
 one (Some id) = id ∷ []
 
--- the track numbers that the value of an option names
+-- the tracks that the value of an option names, by index, counted from 0
 abbrev pub ids_of : Value → List ℕ
 ids_of (Tracks select) = ids_of_select select
 ids_of value = one (track_in value)
 
--- the selection of tracks of one type
+-- the selection of tracks of one type, named by `subject`, that the options in `items` give; all by default
 abbrev pub tracks_in : Subject → List Item → Select
 tracks_in subject items = unwrap_or (option_and_then tracks_of (value_in subject items)) All
 
--- the delays that the options of a file give, by track number
+-- the delays in nanoseconds that the options in `items` give, each with the index of its track, counted from 0
 abbrev pub delays_in : List Item → List (ℕ × ℤ)
 delays_in items = said_about delay_of subject.Sync items
 
--- the names that the options of a file give, by track number
+-- the names that the options in `items` give, each with the index of its track, counted from 0
 abbrev pub names_in : List Item → List (ℕ × List ℕ)
 names_in items = said_about track_text_of subject.TrackName items
 
--- the languages that the options of a file give, by track number
+-- the languages that the options in `items` give, each with the index of its track, counted from 0
 abbrev pub languages_in : List Item → List (ℕ × List ℕ)
 languages_in items = said_about track_language_of subject.Language items
 
--- the language tags of tracks
+-- the language tags that the options in `items` give, each with the index of its track, counted from 0
 abbrev pub language_tags_in : List Item → List (ℕ × List ℕ)
 language_tags_in items = said_about track_language_tag_of subject.LanguageTag items
 
--- the values of the flag `subject` of tracks
+-- the values of the flag `subject` that the options in `items` give, each with the index of its track, counted from 0
 abbrev pub flags_in : Subject → List Item → List (ℕ × Bool)
 flags_in subject items = said_about track_flag_of subject items
 
--- the selections of blocks that get a cue point, by track
+-- the choices of blocks with a cue point that the options in `items` give, each with the index of its track, counted from 0
 abbrev pub cues_in : List Item → List (ℕ × CueWord)
 cues_in items = said_about track_cues_of subject.Cues items
 
--- the timestamp files that the options of a file give, by track number
+-- the names of timestamp files that the options in `items` give, each with the index of its track, counted from 0
 abbrev pub times_in : List Item → List (ℕ × List ℕ)
 times_in items = said_about track_file_of subject.Times items
 
--- the selected tracks of each type that the options of a file give
+-- the selection of the tracks of each type that the options in `items` give for an input
 abbrev pub choice_in : List Item → Choice
 choice_in items = record {
   video = tracks_in subject.Video items;
@@ -74,11 +74,11 @@ choice_in items = record {
   subtitles = tracks_in subject.Subtitles items;
 }
 
--- the names and languages of tracks, and their timestamp files, that the options of a file give
+-- the names, languages and timestamp files of tracks that the options in `items` give for an input
 abbrev pub texts_in : List Item → Texts
 texts_in items = record { names = names_in items; languages = languages_in items; language_tags = language_tags_in items; times = times_in items }
 
--- the flags that say for whom a track is
+-- the values of the six flags for the intended viewers of tracks that the options in `items` give for an input
 abbrev pub flag_words_in : List Item → FlagWords
 flag_words_in items = record {
   enabled = flags_in subject.EnabledFlag items;
@@ -89,7 +89,7 @@ flag_words_in items = record {
   commentary = flags_in subject.CommentaryFlag items;
 }
 
--- the delays, flags and cue points of tracks that the options of a file give
+-- the delays, flags and choices of cue points of tracks that the options in `items` give for an input
 abbrev pub marks_in : List Item → Marks
 marks_in items = record {
   syncs = delays_in items;
@@ -99,29 +99,29 @@ marks_in items = record {
   cues = cues_in items;
 }
 
--- the track numbers except `id`
+-- the track numbers `ids` except `id`
 abbrev pub without : ℕ → List ℕ → List ℕ
 without id ids = filter (λ k. not (k == id)) ids
 
--- the numbers in their order, each once
+-- the numbers of the list in their order, each once
 abbrev pub once : List ℕ → List ℕ
 once [] = []
 once (id ∷ ids) = id ∷ without id (once ids)
 
--- the numbers in `list`, followed by the other numbers that aren't in it yet
+-- the numbers in `list`, followed by the numbers of the second list that aren't in it yet
 abbrev pub with_new : List ℕ → List ℕ → List ℕ
 with_new list [] = list
 with_new list (id ∷ ids) = with_new (if list_any (λ k. k == id) list then list else list ++ id ∷ []) ids
 
--- the tracks that the items name, in their order, each once
+-- the tracks that the options in `items` name, by index, counted from 0, in the options' order, each once
 unfoldable pub named_in : List Item → List ℕ
 named_in items = once (flat_map (λ (i : Item). ids_of i.value) items)
 
--- the file name of the item that ends the options of a file
+-- the name of an input, which is the value of the item that ends its options
 abbrev pub file_name : Value → List ℕ
 file_name value = unwrap_or (file_of value) []
 
--- the file `name` with the options in `items`, the items before it
+-- the input with the name in `name`, and the options in `items`, the items before it and after the previous input
 unfoldable pub file : List Item → Value → FileWords
 file items name = record {
   name = file_name name;
@@ -146,6 +146,6 @@ file items name = record {
   named = named_in items;
 }
 
--- each file with the options of the items between the previous file and itself
+-- the inputs that the items of a merge's command line name, each with the options of the items between the previous input and itself
 abbrev pub files : List Item → List FileWords
 files items = map (λ (f : List Item × Item). file f.0 f.1.value) (zip (slice_split is_file items) (filter is_file items))

@@ -14,7 +14,7 @@ use Rattle.word_values.specs.declared.values.ValueForm.TheVariants as f
 use Rattle.merge_words.specs.declared.options.Meaning.{Meaning}
 use Rattle.merge_words.specs.declared.options.OptionRow.{OptionRow}
 
--- an option: its short and its long spelling, its subject, its scope, and the form of its value
+-- row of the options' table: the short and the long spelling, the subject, the scope, and the form of the value
 pub record Row : Type 0 where
   pub short : List ℕ
   pub long : List ℕ
@@ -22,11 +22,11 @@ pub record Row : Type 0 where
   pub scope : Scope
   pub form : ValueForm
 
--- the row of an option
+-- the row of the options' table with these fields
 abbrev pub option : List ℕ → List ℕ → Subject → Scope → ValueForm → Row
 option short long subject scope form = record { short = short; long = long; subject = subject; scope = scope; form = form }
 
--- the options for the whole output, then those for the next file
+-- all options of `merge`: the ones for the whole output, then the ones for the next input
 unfoldable pub table : List Row
 table =
     option (codes "-o") (codes "--output") s.Output Output f.Name ∷
@@ -66,26 +66,26 @@ table =
     option (codes "") (codes "--cues") s.Cues Track f.TrackCues ∷
     option (codes "") (codes "--timestamps") s.Times Track f.TrackFile ∷ []
 
--- a row of the code's table
+-- the row `r` of the code's table, as a value
 abbrev pub shown : OptionRow → Row
 shown r = record { short = r.0.now; long = r.1.now; subject = r.2; scope = r.3; form = r.4 }
 
--- The word is one of the two spellings.
+-- The argument `word` is one of the two spellings of the option in the row `r`.
 abbrev pub spelled : List ℕ → Row → Bool
 spelled word r = bytes_eq r.short word || bytes_eq r.long word
 
--- the meaning of an option's row, without its spellings
+-- the meaning of the option in the row `r`, without its spellings
 abbrev pub meaning : Row → Meaning
 meaning r = record { subject = r.subject; scope = r.scope; form = r.form }
 
--- the meaning of the first row with this spelling
+-- the meaning of the first option in `rows` that has `word` as a spelling, if there is one
 abbrev pub meaning_among : List Row → List ℕ → Option Meaning
 meaning_among rows word = option_map meaning (find (spelled word) rows)
 
--- the meaning of an option of `merge`
+-- the meaning of `word` as an option of `merge`, in either spelling, if it is one
 unfoldable pub meaning_of : List ℕ → Option Meaning
 meaning_of word = if is_option word then meaning_among table word else None
 
--- Both options have the same subject.
+-- The subjects `a` and `b` are the same.
 abbrev pub same : Subject → Subject → Bool
 same a b = sameb the_type a b

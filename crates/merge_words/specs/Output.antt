@@ -1,4 +1,4 @@
--- Options of the whole output of a merge, collected from its items. All of it is this project's, after mkvmerge(1).
+-- Options of the whole output of a merge, collected from the items of its command line. All of it is this project's, after mkvmerge(1).
 use Rattle.std.specs.Prelude.{ℕ, List, [], Option, unwrap_or, option_and_then}
 use Rattle.requests.specs.declared.split.SplitWords.{SplitWords}
 use Rattle.merge_words.specs.declared.options.Subject.TheVariants as subject
@@ -9,35 +9,35 @@ use Rattle.merge_words.specs.Items.{stands}
 use Rattle.merge_words.specs.Said.{value_in, file_in, text_of, scale_of, blocks_of, span_of, split_of, uuids_of}
 use Rattle.merge_words.specs.Files.{files}
 
--- the name of the output, or empty if it is missing
+-- the name of the output, the value of `-o` among `items`, or an empty text without it
 abbrev pub output_in : List Item → List ℕ
 output_in items = unwrap_or (file_in subject.Output items) []
 
--- the title, if one is given
+-- the title of the output, the value of `--title` among `items`, if it is given
 abbrev pub title_in : List Item → Option (List ℕ)
 title_in items = option_and_then text_of (value_in subject.Title items)
 
--- the nanoseconds in a tick, or the default
+-- the nanoseconds per tick of the output, the value of `--timestamp-scale` among `items`, or the default
 abbrev pub scale_in : List Item → ℕ
 scale_in items = unwrap_or (option_and_then scale_of (value_in subject.Scale items)) DEFAULT_SCALE
 
--- the greatest number of blocks in a Cluster, or the default
+-- the maximum number of blocks in a Cluster that `--cluster-length` among `items` gives, or the default
 abbrev pub blocks_in : List Item → ℕ
 blocks_in items = unwrap_or (option_and_then blocks_of (value_in subject.ClusterLength items)) DEFAULT_BLOCKS
 
--- the greatest distance in nanoseconds of a Cluster's last block from its timestamp, or the default
+-- the maximum distance in nanoseconds from a Cluster's Timestamp to its last block that `--cluster-length` among `items` gives, or the default
 abbrev pub span_in : List Item → ℕ
 span_in items = unwrap_or (option_and_then span_of (value_in subject.ClusterLength items)) DEFAULT_SPAN
 
--- the split of the output, if one is given
+-- the rule for parts of the output that `--split` among `items` gives, if it is given
 abbrev pub split_in : List Item → Option SplitWords
 split_in items = option_and_then split_of (value_in subject.Split items)
 
--- the SegmentUUIDs of the parts; none if none are given
+-- the SegmentUUIDs that `--segment-uid` among `items` gives, or none
 abbrev pub uuids_in : List Item → List ℕ
 uuids_in items = unwrap_or (option_and_then uuids_of (value_in subject.Uuids items)) []
 
--- the merge that the parsed arguments `items` ask for
+-- the request of the merge that the items `items` of a complete command line ask for
 unfoldable pub merge_words : List Item → MergeWords
 merge_words items = record {
   output = output_in items;

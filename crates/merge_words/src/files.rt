@@ -1,4 +1,4 @@
-//! Options of each input file of a merge, collected from its items.
+//! Options of each input of a merge, collected from the items of its command line.
 
 ghost use Rattle.std.specs.Prelude.{◌≡◌, [], ◌∷◌, IfOk, OnOk};
 ghost use Rattle.merge_words.specs.Files as spec;
@@ -12,7 +12,8 @@ use requests::{CueWord, FileWords, FlagWords, Select};
 use std::alloc::{AllocError, Global};
 use word_values::{Value, name};
 
-/// Returns each file with the options of the items between the previous file and itself.
+/// Collects the inputs that the items of a merge's command line name. Each has the options of the items between the
+/// previous input and itself.
 pub(crate) fn files(alloc: Global, items: &[Item]) -> Result<List<FileWords>, AllocError>
     ensures { IfOk result (λ files. files ≡ spec.files items.now) }
 {
@@ -27,7 +28,7 @@ pub(crate) fn files(alloc: Global, items: &[Item]) -> Result<List<FileWords>, Al
     Ok(files)
 }
 
-/// Selection of tracks of each type.
+/// Selection of the tracks of each type, for an input.
 #[derive(Drop)]
 struct Choice {
     video: Select,
@@ -35,7 +36,7 @@ struct Choice {
     subtitles: Select,
 }
 
-/// Names and languages of tracks, and their timestamp files.
+/// Texts of an input's tracks: names, languages, and timestamp files, each with the index of its track, counted from 0.
 #[derive(Drop)]
 struct Texts {
     names: List<(u64, Text)>,
@@ -44,7 +45,8 @@ struct Texts {
     times: List<(u64, Text)>,
 }
 
-/// Delays of tracks, their flags and their cue points.
+/// Delays in nanoseconds, flags, and choices of cue points of an input's tracks, each with the index of its track,
+/// counted from 0.
 #[derive(Drop)]
 struct Marks {
     syncs: List<(u64, i64)>,
@@ -54,7 +56,8 @@ struct Marks {
     cues: List<(u64, CueWord)>,
 }
 
-/// Returns the file `name` with the options in `items`, the items before it.
+/// Returns the input with the name in `name`, and the options in `items`, the items before it and after the previous
+/// input.
 #[tactic(auto, unfolding(crate::specs::Files::file))]
 fn file(alloc: Global, items: &[Item], name: &Value) -> Result<FileWords, AllocError>
     ensures { IfOk result (λ file. file ≡ spec.file items.now name.now) }
@@ -88,7 +91,7 @@ fn file(alloc: Global, items: &[Item], name: &Value) -> Result<FileWords, AllocE
     })
 }
 
-/// Returns the selected tracks of each type that the options of a file give.
+/// Returns the selection of the tracks of each type that the options in `items` give for an input.
 fn choice_in(alloc: Global, items: &[Item]) -> Result<Choice, AllocError>
     ensures { IfOk result (λ choice. choice ≡ spec.choice_in items.now) }
 {
@@ -99,7 +102,7 @@ fn choice_in(alloc: Global, items: &[Item]) -> Result<Choice, AllocError>
     })
 }
 
-/// Returns the names and languages of tracks, and their timestamp files, that the options of a file give.
+/// Returns the names, languages and timestamp files of tracks that the options in `items` give for an input.
 fn texts_in(alloc: Global, items: &[Item]) -> Result<Texts, AllocError>
     ensures { IfOk result (λ texts. texts ≡ spec.texts_in items.now) }
 {
@@ -111,7 +114,7 @@ fn texts_in(alloc: Global, items: &[Item]) -> Result<Texts, AllocError>
     })
 }
 
-/// Returns the delays, flags and cue points of tracks that the options of a file give.
+/// Returns the delays, flags and choices of cue points of tracks that the options in `items` give for an input.
 fn marks_in(alloc: Global, items: &[Item]) -> Result<Marks, AllocError>
     ensures { IfOk result (λ marks. marks ≡ spec.marks_in items.now) }
 {
@@ -124,6 +127,8 @@ fn marks_in(alloc: Global, items: &[Item]) -> Result<Marks, AllocError>
     })
 }
 
+/// Returns the values of the six flags for the intended viewers of tracks that the options in `items` give for an
+/// input.
 fn flag_words_in(alloc: Global, items: &[Item]) -> Result<FlagWords, AllocError>
     ensures { IfOk result (λ flags. flags ≡ spec.flag_words_in items.now) }
 {
@@ -137,7 +142,7 @@ fn flag_words_in(alloc: Global, items: &[Item]) -> Result<FlagWords, AllocError>
     })
 }
 
-/// Returns the name of the file that ends its options.
+/// Returns the name of an input, which is the value of the item that ends its options.
 fn file_name(alloc: Global, value: &Value) -> Result<Text, AllocError>
     ensures { IfOk result (λ name. name ≡ spec.file_name value.now) }
 {
@@ -147,7 +152,8 @@ fn file_name(alloc: Global, value: &Value) -> Result<Text, AllocError>
     }
 }
 
-/// Returns the selection of tracks of one type.
+/// Returns the selection of the tracks of one type, named by `subject`, that the options in `items` give; all by
+/// default.
 fn tracks_in(alloc: Global, subject: Subject, items: &[Item]) -> Result<Select, AllocError>
     ensures { IfOk result (λ select. select ≡ spec.tracks_in subject items.now) }
 {
@@ -157,7 +163,7 @@ fn tracks_in(alloc: Global, subject: Subject, items: &[Item]) -> Result<Select, 
     }
 }
 
-/// Returns a copy of a selection of tracks.
+/// Returns a copy of the selection of tracks `select`.
 fn select_copy(alloc: Global, select: &Select) -> Result<Select, AllocError>
     ensures { IfOk result (λ copy. copy ≡ select.now) }
 {
@@ -173,7 +179,8 @@ fn select_copy(alloc: Global, select: &Select) -> Result<Select, AllocError>
     }
 }
 
-/// Returns the delays of tracks that the options of a file give, by track number.
+/// Returns the delays of tracks in nanoseconds that the options in `items` give, each with the index of its track,
+/// counted from 0.
 fn delays_in(alloc: Global, items: &[Item]) -> Result<List<(u64, i64)>, AllocError>
     ensures { IfOk result (λ list. list ≡ spec.delays_in items.now) }
 {
@@ -188,7 +195,7 @@ fn delays_in(alloc: Global, items: &[Item]) -> Result<List<(u64, i64)>, AllocErr
     Ok(list)
 }
 
-/// Returns the names of tracks that the options of a file give, by track number.
+/// Returns the names of tracks that the options in `items` give, each with the index of its track, counted from 0.
 fn names_in(alloc: Global, items: &[Item]) -> Result<List<(u64, Text)>, AllocError>
     ensures { IfOk result (λ list. list ≡ spec.names_in items.now) }
 {
@@ -203,7 +210,7 @@ fn names_in(alloc: Global, items: &[Item]) -> Result<List<(u64, Text)>, AllocErr
     Ok(list)
 }
 
-/// Returns the languages of tracks that the options of a file give, by track number.
+/// Returns the languages of tracks that the options in `items` give, each with the index of its track, counted from 0.
 fn languages_in(alloc: Global, items: &[Item]) -> Result<List<(u64, Text)>, AllocError>
     ensures { IfOk result (λ list. list ≡ spec.languages_in items.now) }
 {
@@ -218,6 +225,8 @@ fn languages_in(alloc: Global, items: &[Item]) -> Result<List<(u64, Text)>, Allo
     Ok(list)
 }
 
+/// Returns the language tags of tracks that the options in `items` give, each with the index of its track, counted from
+/// 0.
 fn language_tags_in(alloc: Global, items: &[Item]) -> Result<List<(u64, Text)>, AllocError>
     ensures { IfOk result (λ list. list ≡ spec.language_tags_in items.now) }
 {
@@ -232,7 +241,8 @@ fn language_tags_in(alloc: Global, items: &[Item]) -> Result<List<(u64, Text)>, 
     Ok(list)
 }
 
-/// Returns the timestamp files that the options of a file give, by track number.
+/// Returns the names of timestamp files that the options in `items` give, each with the index of its track, counted
+/// from 0.
 fn times_in(alloc: Global, items: &[Item]) -> Result<List<(u64, Text)>, AllocError>
     ensures { IfOk result (λ list. list ≡ spec.times_in items.now) }
 {
@@ -247,7 +257,8 @@ fn times_in(alloc: Global, items: &[Item]) -> Result<List<(u64, Text)>, AllocErr
     Ok(list)
 }
 
-/// Returns the flags of the subject `subject` that the options of a file give, by track number.
+/// Returns the values of the flag `subject` that the options in `items` give, each with the index of its track, counted
+/// from 0.
 fn flags_in(
     alloc: Global,
     subject: Subject,
@@ -266,7 +277,8 @@ fn flags_in(
     Ok(list)
 }
 
-/// Returns the choices of cue points that the options of a file give, by track number.
+/// Returns the choices of cue points that the options in `items` give, each with the index of its track, counted from
+/// 0.
 fn cues_in(alloc: Global, items: &[Item]) -> Result<List<(u64, CueWord)>, AllocError>
     ensures { IfOk result (λ list. list ≡ spec.cues_in items.now) }
 {
@@ -281,7 +293,8 @@ fn cues_in(alloc: Global, items: &[Item]) -> Result<List<(u64, CueWord)>, AllocE
     Ok(list)
 }
 
-/// Returns the tracks that the items name, in their order, each once.
+/// Returns the tracks that the options in `items` name, by index, counted from 0, in the options' order, each once. A
+/// merge warns of the ones that its input doesn't have.
 fn named_in(alloc: Global, items: &[Item]) -> Result<List<u64>, AllocError>
     ensures { IfOk result (λ list. list ≡ spec.named_in items.now) }
 {
@@ -292,7 +305,7 @@ fn named_in(alloc: Global, items: &[Item]) -> Result<List<u64>, AllocError>
     Ok(List::from_vec(Vec::from_slice(alloc, named.as_slice())?))
 }
 
-/// Appends the tracks that `value` names, unless they are in `named` already.
+/// Appends to `named` the tracks that the option value `value` names, unless they are in it already.
 fn add_ids(named: &mut IndexSet<u64>, value: &Value) -> Result<(), AllocError>
     ensures { OnOk result (named.new.keys ≡ spec.with_new named.old.keys (spec.ids_of value.now)) }
 {
@@ -305,7 +318,7 @@ fn add_ids(named: &mut IndexSet<u64>, value: &Value) -> Result<(), AllocError>
     }
 }
 
-/// Appends the tracks that `select` names, unless they are in `named` already.
+/// Appends to `named` the tracks that the selection `select` names, unless they are in it already.
 fn add_selected(named: &mut IndexSet<u64>, select: &Select) -> Result<(), AllocError>
     ensures { OnOk result (named.new.keys ≡ spec.with_new named.old.keys (spec.ids_of_select select.now)) }
 {
@@ -316,7 +329,7 @@ fn add_selected(named: &mut IndexSet<u64>, select: &Select) -> Result<(), AllocE
     }
 }
 
-/// Appends the numbers of `ids` that aren't in `named` yet.
+/// Appends to `named` the track numbers `ids` that aren't in it yet.
 fn add_all(named: &mut IndexSet<u64>, ids: &[u64]) -> Result<(), AllocError>
     ensures { OnOk result (named.new.keys ≡ spec.with_new named.old.keys ids.now) }
 {
@@ -326,7 +339,7 @@ fn add_all(named: &mut IndexSet<u64>, ids: &[u64]) -> Result<(), AllocError>
     Ok(())
 }
 
-/// Appends `id`, unless it is in `named` already.
+/// Appends to `named` the track number `id`, unless it is in it already.
 fn add(named: &mut IndexSet<u64>, id: u64) -> Result<(), AllocError>
     ensures { OnOk result (named.new.keys ≡ spec.with_new named.old.keys (id ∷ [])) }
 {

@@ -1,4 +1,4 @@
-//! Items of a merge's command line: an option with its value, `+`, or the name of a file.
+//! Items of a merge's command line: an option with its value, `+`, or the name of an input.
 
 ghost use Rattle.std.specs.Prelude.{◌≡◌, ◌+◌, ◌<◌, length, slice_get};
 ghost use Rattle.word_values.specs.Answers.{Tells};
@@ -11,21 +11,22 @@ use word_values::{
     ArgsEnd, Value, ValueEnd, ValueForm, Why, flag_of, is_option, name, refused, value_of, word_at,
 };
 
-/// Greatest number of files of a merge.
+/// Maximum number of inputs of a merge.
 const MAX_FILES: usize = 64;
 
-/// One option with its value, one `+`, or one file name.
+/// Item of a merge's command line: an option with its value, a `+`, or the name of an input.
 #[derive(Drop)]
 pub(crate) struct Item {
-    /// Number of its first argument.
+    /// Number of its first argument; `merge` has number 0.
     pub(crate) at: usize,
     pub(crate) subject: Subject,
     pub(crate) scope: Scope,
     pub(crate) value: Value,
 }
 
-/// Reads the item that begins with the argument `word`, number `at`, after the items before it. `means` is its
-/// meaning as an option, if any.
+/// Reads the item that begins with the argument `word`, whose number is `at`, after the items `before`. `means` is its
+/// meaning as an option, if it has one. `merge` is argument 0. Fails with the number of the wrong argument and the
+/// reason.
 #[tactic(auto, unfolding(crate::specs::Items::item_at))]
 pub(crate) fn item_at(
     alloc: Global,
@@ -50,7 +51,8 @@ pub(crate) fn item_at(
     }
 }
 
-/// Reads `+`, which needs a file before it and may be given once before the next file.
+/// Reads the `+` at argument number `at`. It needs an input before it, and is allowed once before the next input.
+/// `before` are the items before it.
 #[tactic(auto, unfolding(crate::specs::Items::append_at))]
 fn append_at(at: usize, before: &[Item]) -> Result<Item, ArgsEnd>
     ensures { Tells result (spec.append_at before.now at) }
@@ -69,7 +71,8 @@ fn append_at(at: usize, before: &[Item]) -> Result<Item, ArgsEnd>
     })
 }
 
-/// Reads the name of a file. A merge has at most 64.
+/// Reads the name of an input, `word`, at argument number `at`. A merge has at most 64 inputs. `before` are the items
+/// before it.
 #[tactic(auto, unfolding(crate::specs::Items::file_at))]
 fn file_at(alloc: Global, at: usize, word: &str, before: &[Item]) -> Result<Item, ArgsEnd>
     ensures { Tells result (spec.file_at before.now at word.now) }
@@ -85,7 +88,8 @@ fn file_at(alloc: Global, at: usize, word: &str, before: &[Item]) -> Result<Item
     })
 }
 
-/// Reads an option with its value. If it may be given only once, a repetition is refused before its value is read.
+/// Reads the option at argument number `at`, which means `means`, with its value. If it is allowed only once, a
+/// repetition among the items `before` is refused before its value is read.
 #[tactic(auto, unfolding(crate::specs::Items::option_at))]
 fn option_at(
     alloc: Global,
@@ -120,7 +124,8 @@ fn option_at(
     })
 }
 
-/// Reads the argument with number `at` as a value of the form `form`.
+/// Reads the argument with number `at` as an option value of the form `form`. Fails if it is missing or doesn't have
+/// this form.
 fn value_at(alloc: Global, words: &[String], at: usize, form: ValueForm) -> Result<Value, ArgsEnd>
     ensures { Tells result (spec.value_at at form (slice_get (texts words.now) at) (length words.now)) }
 {
@@ -134,7 +139,8 @@ fn value_at(alloc: Global, words: &[String], at: usize, form: ValueForm) -> Resu
     }
 }
 
-/// Checks whether an option that may be given only once is given again, whatever its value is.
+/// Checks whether an option that means `means` is allowed only once and is among the items `before` already, whatever
+/// its value is.
 fn repeats(means: Meaning, before: &[Item]) -> bool
     ensures { result ≡ spec.repeats means before.now }
 {
@@ -145,21 +151,21 @@ fn repeats(means: Meaning, before: &[Item]) -> bool
     }
 }
 
-/// Checks whether an item has this subject.
+/// Checks whether one of `items` has the subject `subject`.
 pub(crate) fn stands(subject: Subject, items: &[Item]) -> bool
     ensures { result ≡ spec.stands subject items.now }
 {
     items.iter().any(|item| item.subject.is(subject))
 }
 
-/// Checks whether an item has this subject for the track `id`.
+/// Checks whether one of `items` has the subject `subject` and is for the track with the index `id`, counted from 0.
 fn stands_for(subject: Subject, id: u64, items: &[Item]) -> bool
     ensures { result ≡ spec.stands_for subject id items.now }
 {
     items.iter().any(|item| item.subject.is(subject) && track_in(&item.value) == Some(id))
 }
 
-/// Returns the track that `value` is for.
+/// Returns the index, counted from 0, of the track that the option value `value` is for, if it is for one track.
 pub(crate) fn track_in(value: &Value) -> Option<u64>
     ensures { result ≡ spec.track_in value.now }
 {
@@ -175,7 +181,7 @@ pub(crate) fn track_in(value: &Value) -> Option<u64>
     }
 }
 
-/// Returns the number of files that the items name.
+/// Returns the number of inputs that the items `items` name.
 pub(crate) fn files_in(items: &[Item]) -> usize
     ensures { result ≡ spec.files_in items.now }
 {
@@ -185,7 +191,7 @@ pub(crate) fn files_in(items: &[Item]) -> usize
         .count()
 }
 
-/// Returns the items after the last file. It looks at no others.
+/// Returns the items after the last input, which are options for the next one. Looks at no others.
 #[tactic(auto, using(crate::proofs::ItemsLemmas::since_latest))]
 pub(crate) fn since_file(items: &[Item]) -> &[Item]
     ensures { result.now ≡ spec.since_file items.now }

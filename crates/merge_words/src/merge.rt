@@ -1,4 +1,4 @@
-//! Command line of a merge: its items, missing parts, and the request.
+//! Command line of a merge: its items, the check that it is complete, and the request.
 
 ghost use Rattle.std.specs.Prelude.{◌≡◌, if◌then◌else◌};
 ghost use Rattle.merge_words.specs.Merge as spec;
@@ -13,8 +13,8 @@ use requests::MergeWords;
 use std::alloc::Global;
 use word_values::{ArgsEnd, Why, flag_of, refused, word_at};
 
-/// Reads the arguments after `merge`. It fails with the first one that is wrong. Arguments are counted from `merge`,
-/// which has number 0.
+/// Reads the arguments of `merge`, and returns the request. Fails with the number of the first wrong argument and the
+/// reason. `merge` itself is argument 0 of `words`.
 #[tactic(auto, unfolding(crate::specs::Merge::merged))]
 pub fn read_merge(alloc: Global, words: &[String]) -> Result<MergeWords, ArgsEnd>
     ensures { Tells result (spec.merged (texts words.now)) }
@@ -24,7 +24,7 @@ pub fn read_merge(alloc: Global, words: &[String]) -> Result<MergeWords, ArgsEnd
     Ok(merge_words(alloc, items.as_slice())?)
 }
 
-/// Reads the items of the arguments after `merge`.
+/// Reads the items of a merge's command line `words`, from argument 1 onwards, or fails with the first wrong argument.
 #[tactic(auto, unfolding(crate::specs::Merge::items))]
 fn items(alloc: Global, words: &[String]) -> Result<List<Item>, ArgsEnd>
     ensures { Tells result (spec.items (texts words.now)) }
@@ -40,7 +40,8 @@ fn items(alloc: Global, words: &[String]) -> Result<List<Item>, ArgsEnd>
     Ok(items)
 }
 
-/// Returns the number of arguments of an item: an option whose form needs a value takes the next one.
+/// Returns the number of arguments of an item that means `means` as an option: 2 for an option with a value, otherwise
+/// 1.
 fn width(means: Option<Meaning>) -> usize
     ensures { result ≡ (if spec.takes_next means then 2 else 1) }
 {
@@ -50,7 +51,8 @@ fn width(means: Option<Meaning>) -> usize
     }
 }
 
-/// Refuses items that aren't a complete merge.
+/// Refuses the items of a command line with `count` arguments if they aren't a complete merge. The reasons are a `+` or
+/// an option without an input after it, no output, no input, and `--link` without identifiers.
 #[tactic(auto, unfolding(crate::specs::Merge::complete))]
 fn complete(count: usize, items: &[Item]) -> Result<(), ArgsEnd>
     ensures { Tells result (spec.complete count items.now) }
@@ -63,7 +65,7 @@ fn complete(count: usize, items: &[Item]) -> Result<(), ArgsEnd>
     refuse_at(unlinked(items), Why::NeedsUuids)
 }
 
-/// Refuses the argument with number `word` if `test` holds.
+/// Refuses the argument with number `word` for the reason `why` if `test` holds; a helper of `complete`.
 fn refuse_if(test: bool, word: usize, why: Why) -> Result<(), ArgsEnd>
     ensures { Tells result (spec.wrong_if test word why) }
 {
@@ -73,7 +75,7 @@ fn refuse_if(test: bool, word: usize, why: Why) -> Result<(), ArgsEnd>
     Ok(())
 }
 
-/// Refuses the argument with number `word`, if there is one.
+/// Refuses the argument with number `word`, if there is one, for the reason `why`; a helper of `complete`.
 fn refuse_at(word: Option<usize>, why: Why) -> Result<(), ArgsEnd>
     ensures { Tells result (spec.wrong_at word why) }
 {
@@ -83,7 +85,8 @@ fn refuse_at(word: Option<usize>, why: Why) -> Result<(), ArgsEnd>
     }
 }
 
-/// Returns the number of the first option for a file.
+/// Returns the argument number of the first option for an input among `items`, the items after the last input; no input
+/// follows it.
 fn dangling(items: &[Item]) -> Option<usize>
     ensures { result ≡ spec.dangling items.now }
 {
@@ -91,7 +94,7 @@ fn dangling(items: &[Item]) -> Option<usize>
     Some(item.at)
 }
 
-/// Returns the number of the option that links parts.
+/// Returns the argument number of the option `--link`, if it is given.
 fn linking(items: &[Item]) -> Option<usize>
     ensures { result ≡ spec.linking items.now }
 {
@@ -99,7 +102,7 @@ fn linking(items: &[Item]) -> Option<usize>
     Some(item.at)
 }
 
-/// Returns the number of the option that links parts, if they have no identifiers.
+/// Returns the argument number of the option `--link`, if it is given without `--segment-uid`.
 fn unlinked(items: &[Item]) -> Option<usize>
     ensures { result ≡ spec.unlinked items.now }
 {

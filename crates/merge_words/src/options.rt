@@ -5,7 +5,7 @@ ghost use Rattle.merge_words.specs.Options as spec;
 
 use word_values::{ValueForm, is_option};
 
-/// Subject of an option. A selection and an exclusion of one type have the same subject.
+/// Subject of an option of `merge`. A selection and an exclusion of one type of tracks have the same subject.
 #[derive(Clone, Copy, Debug, PartialEq, Eq)]
 pub enum Subject {
     Output,
@@ -41,24 +41,25 @@ pub enum Subject {
     CommentaryFlag,
     Cues,
     Times,
-    /// The argument `+`.
+    /// Argument `+`.
     Append,
-    /// Name of a file.
+    /// Name of an input.
     File,
 }
 
 /// Part of the command line that may have an option only once.
 #[derive(Clone, Copy, Debug, PartialEq, Eq)]
 pub enum Scope {
-    /// The whole command line.
+    /// Whole command line.
     Output,
-    /// The options of each file.
+    /// Options of one input.
     File,
-    /// The options of each file, for each track.
+    /// Options of one input, for one track.
     Track,
 }
 
-/// Meaning of an option.
+/// Meaning of an option of `merge`: its subject, the part of the command line that may have it once, and the form of
+/// its value.
 #[derive(Clone, Copy, Debug, PartialEq, Eq)]
 pub struct Meaning {
     pub subject: Subject,
@@ -66,8 +67,8 @@ pub struct Meaning {
     pub form: ValueForm,
 }
 
-/// An option: its short spelling, its long one, its subject, its scope, and the form of its value. A missing spelling
-/// is empty.
+/// Row of the options' table: the short spelling, the long one, the subject, the scope, and the form of the value. A
+/// missing spelling is empty.
 #[derive(Clone, Copy, Debug)]
 pub struct OptionRow(
     pub &'static str,
@@ -117,7 +118,7 @@ static MERGE_OPTIONS: [OptionRow; 36] = [
     OptionRow("", "--timestamps", Subject::Times, Scope::Track, ValueForm::TrackFile),
 ];
 
-/// Returns the options of `merge`: first those for the whole output, then those for the next file.
+/// Returns all options of `merge`: first the ones for the whole output, then the ones for the next input.
 #[tactic(auto, unfolding(crate::specs::Options::table))]
 pub fn merge_options() -> &'static [OptionRow]
     ensures { map spec.shown result.now ≡ spec.table }
@@ -125,7 +126,7 @@ pub fn merge_options() -> &'static [OptionRow]
     &MERGE_OPTIONS
 }
 
-/// Returns the meaning of an option of `merge`, by either spelling.
+/// Returns the meaning of `word` as an option of `merge`, in either spelling, if it is one.
 #[tactic(auto, unfolding(crate::specs::Options::meaning_of))]
 pub fn meaning_of(word: &str) -> Option<Meaning>
     ensures { result ≡ spec.meaning_of word.now }

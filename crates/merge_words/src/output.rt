@@ -18,7 +18,7 @@ const DEFAULT_BLOCKS: u32 = 65_535;
 
 const DEFAULT_SPAN: u64 = 5_000_000_000;
 
-/// Returns the merge that the parsed arguments `items` ask for.
+/// Returns the request of the merge that the items `items` of a complete command line ask for.
 #[tactic(auto, unfolding(crate::specs::Output::merge_words))]
 pub(crate) fn merge_words(alloc: Global, items: &[Item]) -> Result<MergeWords, AllocError>
     ensures { IfOk result (λ words. words ≡ spec.merge_words items.now) }
@@ -39,7 +39,7 @@ pub(crate) fn merge_words(alloc: Global, items: &[Item]) -> Result<MergeWords, A
     })
 }
 
-// Returns the name of the output.
+// Returns the name of the output, the value of `-o` among `items`, or an empty text without it.
 fn output_in(alloc: Global, items: &[Item]) -> Result<Text, AllocError>
     ensures { IfOk result (λ name. name ≡ spec.output_in items.now) }
 {
@@ -49,7 +49,7 @@ fn output_in(alloc: Global, items: &[Item]) -> Result<Text, AllocError>
     }
 }
 
-// Returns the title of the output, if an option gives it.
+// Returns the title of the output, the value of `--title` among `items`, if it is given.
 fn title_in(alloc: Global, items: &[Item]) -> Result<Option<Text>, AllocError>
     ensures { IfOk result (λ title. title ≡ spec.title_in items.now) }
 {
@@ -59,7 +59,8 @@ fn title_in(alloc: Global, items: &[Item]) -> Result<Option<Text>, AllocError>
     }
 }
 
-// Returns the nanoseconds per tick of the output, or the default.
+// Returns the nanoseconds per tick of the output, the value of `--timestamp-scale` among `items`, or the default,
+// 1,000,000.
 fn scale_in(items: &[Item]) -> u64
     ensures { result ≡ spec.scale_in items.now }
 {
@@ -69,7 +70,8 @@ fn scale_in(items: &[Item]) -> u64
     }
 }
 
-// Returns the maximum number of blocks in a Cluster, or the default.
+// Returns the maximum number of blocks in a Cluster that `--cluster-length` among `items` gives, or the default,
+// 65,535.
 fn blocks_in(items: &[Item]) -> u32
     ensures { result ≡ spec.blocks_in items.now }
 {
@@ -79,7 +81,8 @@ fn blocks_in(items: &[Item]) -> u32
     }
 }
 
-// Returns the maximum duration of a Cluster in nanoseconds, or the default.
+// Returns the maximum duration of a Cluster in nanoseconds that `--cluster-length` among `items` gives, or the default,
+// 5 seconds.
 fn span_in(items: &[Item]) -> u64
     ensures { result ≡ spec.span_in items.now }
 {
@@ -89,7 +92,7 @@ fn span_in(items: &[Item]) -> u64
     }
 }
 
-// Returns the values of `--segment-uid`.
+// Returns the SegmentUUIDs that `--segment-uid` among `items` gives, or none.
 fn uuids_in(alloc: Global, items: &[Item]) -> Result<List<u128>, AllocError>
     ensures { IfOk result (λ uuids. uuids ≡ spec.uuids_in items.now) }
 {
@@ -99,7 +102,7 @@ fn uuids_in(alloc: Global, items: &[Item]) -> Result<List<u128>, AllocError>
     }
 }
 
-// Returns the split of the output, if an option gives it.
+// Returns the rule for parts of the output that `--split` among `items` gives, if it is given.
 fn split_in(alloc: Global, items: &[Item]) -> Result<Option<SplitWords>, AllocError>
     ensures { IfOk result (λ split. split ≡ spec.split_in items.now) }
 {
@@ -109,7 +112,7 @@ fn split_in(alloc: Global, items: &[Item]) -> Result<Option<SplitWords>, AllocEr
     }
 }
 
-// Returns a copy of a split.
+// Returns a copy of the rule for parts `split`.
 fn split_copy(alloc: Global, split: &SplitWords) -> Result<SplitWords, AllocError>
     ensures { IfOk result (λ copy. copy ≡ split.now) }
 {

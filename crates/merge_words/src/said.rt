@@ -1,4 +1,4 @@
-//! Values of items with a given subject.
+//! Values of the items of a merge's command line, by subject.
 
 ghost use Rattle.std.specs.Prelude.{◌≡◌, IfOk};
 ghost use Rattle.std.specs.Option.{option_copied};
@@ -10,7 +10,7 @@ use mkv_io::{List, Text};
 use std::alloc::{AllocError, Global};
 use word_values::{Value, name};
 
-/// Returns the value of the first item with this subject.
+/// Returns the value of the first of `items` that has the subject `subject`, if there is one.
 pub(crate) fn value_in(subject: Subject, items: &[Item]) -> Option<&Value>
     ensures { option_copied result ≡ spec.value_in subject items.now }
 {
@@ -18,7 +18,7 @@ pub(crate) fn value_in(subject: Subject, items: &[Item]) -> Option<&Value>
     Some(&item.value)
 }
 
-/// Returns the file name in the first item with this subject.
+/// Returns the file name that is the value of the first of `items` with the subject `subject`, if there is one.
 pub(crate) fn file_in(
     alloc: Global,
     subject: Subject,
@@ -32,7 +32,7 @@ pub(crate) fn file_in(
     }
 }
 
-/// Returns a copy of a list of numbers.
+/// Returns a copy of the list `numbers`.
 pub(crate) fn numbers_copy(alloc: Global, numbers: &List<u64>) -> Result<List<u64>, AllocError>
     ensures { IfOk result (λ copy. copy ≡ numbers.now) }
 {

@@ -4,24 +4,24 @@ use Rattle.std.specs.List.{find}
 use Rattle.std.specs.Str.{bytes_eq}
 use Rattle.mkv_args.specs.declared.entry.Entry as code
 
--- word of a table: its short spelling (may be empty), its long spelling, and its meaning
+-- row of a table of arguments: the short spelling (may be empty), the long one, and the meaning
 pub record Entry (T : Type 0) : Type 0 where
   pub short : List ℕ
   pub long : List ℕ
   pub means : T
 
--- the word of a table with these spellings and this meaning
+-- the row of a table of arguments with these spellings and this meaning
 abbrev pub entry : {T : Type 0} → List ℕ → List ℕ → T → Entry T
 entry short long means = record { short = short; long = long; means = means }
 
--- The entry `e` of the code, as a value.
+-- the row `e` of a table of the code, as a value
 abbrev pub shown : {T : Type 0} → code.Entry T → Entry T
 shown e = record { short = e.0.now; long = e.1.now; means = e.2 }
 
--- `word` isn't empty and is one of the two spellings of `e`.
+-- The argument `word` isn't empty and is one of the two spellings in the row `e`.
 abbrev pub spelled : {T : Type 0} → List ℕ → Entry T → Bool
 spelled word e = nat_lt 0 (length word) && (bytes_eq e.short word || bytes_eq e.long word)
 
--- the meaning of the first of `entries` that has `word` as a spelling
+-- the meaning of the first of `entries` that has `word` as one of its spellings, if there is one
 abbrev pub meant : {T : Type 0} → List (Entry T) → List ℕ → Option T
 meant {T} entries word = option_map (λ (e : Entry T). e.means) (find (spelled word) entries)

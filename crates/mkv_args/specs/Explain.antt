@@ -12,7 +12,7 @@ use Rattle.mkv_args.specs.declared.topics.TheConstants.{TOPIC_LIST, WORD_TOPICS,
 use Rattle.mkv_args.specs.declared.command.Command.{Command}
 use Rattle.mkv_args.specs.declared.command.Command.TheVariants as commands
 
--- word of a message, and the lines of its page
+-- word of a message that has a page, and the lines of its page
 pub record Topic : Type 0 where
   pub name : List ℕ
   pub lines : List (List ℕ)
@@ -66,20 +66,20 @@ topic_list = map (λ line. line.now) TOPIC_LIST
 abbrev pub is_same_name : List ℕ → List ℕ → Bool
 is_same_name a b = bytes_eq (map to_ascii_lowercase a) (map to_ascii_lowercase b)
 
--- the page of the first of `topics` with the name `name`
+-- the page of the first of `topics` with the name `name`, in upper or lower case, if there is one
 abbrev pub page_among : List Topic → List ℕ → Option (List (List ℕ))
 page_among topics name = option_map (λ (t : Topic). t.lines) (find (λ (t : Topic). is_same_name t.name name) topics)
 
--- the page of `name`, in upper or lower case
+-- the page of the word `name`, in upper or lower case, if it has one
 abbrev pub page_of : List ℕ → Option (List (List ℕ))
 page_of name = page_among topics name
 
--- the lines that `explain` prints: the page of `name`, or the list of all names
+-- the lines that `explain` prints: the page of the given word, or the list of all words that have a page
 abbrev pub explained : Option (List ℕ) → List (List ℕ)
 explained None = topic_list
 explained (Some name) = unwrap_or (page_of name) []
 
--- the command `explain`, without a name or with a name that has a page
+-- the command `explain` for the given argument 1 of `words`: none, or a word that must have a page
 abbrev pub explain_named : Option (List ℕ) → List (List ℕ) → Result Command Usage
 explain_named None words = Ok (commands.Explain None)
 explain_named (Some word) words = do
@@ -87,6 +87,6 @@ explain_named (Some word) words = do
   _ ← end_at words 2
   Ok (commands.Explain (Some word))
 
--- the command that the arguments `words` ask for; word 0 is `explain`, and word 1, if present, the name to explain
+-- the command that the command line `words` asks for; argument 0 is `explain`, and argument 1, if present, the word to explain
 unfoldable pub explain : List (List ℕ) → Result Command Usage
 explain words = explain_named (slice_get words 1) words

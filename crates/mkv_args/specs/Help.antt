@@ -4,7 +4,7 @@ use Rattle.mkv_args.specs.declared.pages.TheConstants.{OVERVIEW, INFO_PAGE, MERG
 use Rattle.mkv_args.specs.declared.commands.Verb.{Verb}
 use Rattle.mkv_args.specs.declared.commands.Verb.TheVariants as verb
 
--- the lines of `--help`: the page of a command, or the overview of all commands
+-- the lines of `--help`: the page of the given command, or the overview of all commands
 unfoldable pub usage_lines : Option Verb → List (List ℕ)
 usage_lines (Some verb.Info) = map (λ line. line.now) INFO_PAGE
 usage_lines (Some verb.Merge) = map (λ line. line.now) MERGE_PAGE

@@ -13,7 +13,7 @@ use Rattle.requests.specs.Sound.{IsSoundMerge}
 use Rattle.mkv_args.specs.declared.command.Command.{Command}
 use Rattle.mkv_args.specs.declared.command.Command.TheVariants as command
 
--- the names of the files that targets are written to
+-- the names of the outputs of `targets`
 abbrev pub names_of : List Target → List (List ℕ)
 names_of targets = map (λ (t : Target). t.name) targets
 
@@ -23,14 +23,14 @@ pub record AreTargets (least : ℕ) (targets : List Target) : Type 0 where
   pub apart : AreApart (names_of targets)
   pub from : All (λ (t : Target). least ≤ t.id) targets
 
--- A job has sound targets. Attached files are counted from 1, and tracks from 0.
+-- The targets of an extraction are valid. Attached files count from 1, and tracks from 0.
 abbrev pub IsSoundJob : Job → Type 0
 IsSoundJob (jobs.Tracks form list) = AreTargets 0 list
 IsSoundJob (jobs.Cues list) = AreTargets 0 list
 IsSoundJob (jobs.Attachments list) = AreTargets 1 list
 IsSoundJob (jobs.Chapters name) = ⊤
 
--- A position among TrackEntries is counted from 1.
+-- A position among TrackEntries in a selector is counted from 1, and so isn't 0.
 abbrev pub IsSoundPlace : Selector → Type 0
 IsSoundPlace selector.Info = ⊤
 IsSoundPlace (selector.Nth n) = 1 ≤ n
@@ -38,7 +38,7 @@ IsSoundPlace (selector.Typed kind n) = 1 ≤ n
 IsSoundPlace (selector.Uid uid) = ⊤
 IsSoundPlace (selector.Number number) = ⊤
 
--- There are one or more `edits`, each of a section with such a position.
+-- There are one or more `edits`, and positions of tracks in them are counted from 1.
 pub record AreEdits (edits : List Edit) : Type 0 where
   pub some : 0 < length edits
   pub each : All (λ (e : Edit). IsSoundPlace e.place) edits

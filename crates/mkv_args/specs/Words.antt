@@ -18,44 +18,44 @@ use Rattle.mkv_args.specs.Extract.{extract}
 use Rattle.mkv_args.specs.Propedit.{propedit}
 use Rattle.mkv_args.specs.Merge.{merge, is_word}
 
--- a file's name as the last word
+-- the name in argument 1 of `words`, which must be the last one, for a command with only a FILE
 unfoldable pub only_file : List (List ℕ) → Result (List ℕ) Usage
 only_file words = do
   file ← file_at words 1
   _ ← end_at words 2
   Ok file
 
--- the command `command`, if its name is the only argument
+-- the command `command`, if its name is the only argument of `words`
 unfoldable pub alone : Command → List (List ℕ) → Result Command Usage
 alone command words = do
   _ ← end_at words 1
   Ok command
 
--- the command that the arguments `info FILE` ask for
+-- the command that the command line `info FILE` asks for
 unfoldable pub info : List (List ℕ) → Result Command Usage
 info words = do
   file ← only_file words
   Ok (commands.Info file)
 
--- the command that the arguments `recover FILE` ask for
+-- the command that the command line `recover FILE` asks for
 unfoldable pub recover : List (List ℕ) → Result Command Usage
 recover words = do
   file ← only_file words
   Ok (commands.Recover file)
 
--- the command that the arguments `reindex FILE` ask for
+-- the command that the command line `reindex FILE` asks for
 unfoldable pub reindex : List (List ℕ) → Result Command Usage
 reindex words = do
   file ← only_file words
   Ok (commands.Reindex file)
 
--- the number in argument `at`, from 1 to 100000
+-- the number in argument `at` of `words`, the N of `generate`, from 1 to 100000
 unfoldable pub blocks_at : List (List ℕ) → ℕ → Result ℕ Usage
 blocks_at words at = do
   word ← due_at words at
   read_value at (below 100001 (from 1 (number word)))
 
--- `generate N PREFIX`: the number of video frames, and the prefix of the names of the files
+-- the command that the command line `generate N PREFIX` asks for: the number of video frames, and the start of the names of the files
 unfoldable pub generate : List (List ℕ) → Result Command Usage
 generate words = do
   n ← blocks_at words 1
@@ -63,7 +63,7 @@ generate words = do
   _ ← end_at words 3
   Ok (commands.Generate n prefix)
 
--- the command that the first word names, with the arguments in `words`
+-- the command that the command line `words` asks for, given the command that argument 0 names
 unfoldable pub command_named : Option Verb → List (List ℕ) → Result Command Usage
 command_named None words = wrong 0 UnknownCommand
 command_named (Some verb.Info) words = info words
@@ -77,28 +77,28 @@ command_named (Some verb.Explain) words = explain words
 command_named (Some verb.Help) words = alone (commands.Help None) words
 command_named (Some verb.Version) words = alone commands.Version words
 
--- the command of a command line that isn't a call of help for one command
+-- the command that the command line asks for, if it isn't `-h` or `COMMAND --help`
 unfoldable pub first_command : List (List ℕ) → Result Command Usage
 first_command [] = wrong 0 NoCommand
 first_command (first ∷ rest) = command_named (meant verbs first) (first ∷ rest)
 
--- The only argument is `-h`.
+-- The only argument of `words` is `-h`.
 abbrev pub is_short_help : List (List ℕ) → Bool
 is_short_help words = is_word (codes "-h") (slice_get words 0) && is_none (slice_get words 1)
 
--- the command with the name `word`, unless `word` looks like an option
+-- the command with the name `word`, if there is one, unless `word` looks like an option
 abbrev pub named : List ℕ → Option Verb
 named word = if is_option word then None else meant verbs word
 
--- the command before `--help`, if these are the only two words
+-- the command that `COMMAND --help` asks the page of, if these are the only two arguments of `words`
 abbrev pub helped : List (List ℕ) → Option Verb
 helped words = if is_word (codes "--help") (slice_get words 1) && is_none (slice_get words 2) then option_and_then named (slice_get words 0) else None
 
--- the help for `verb`, if there is one, or else the command of `words`
+-- the command `--help` for the given command, if there is one, or else the command that `words` ask for
 abbrev pub help_or : Option Verb → List (List ℕ) → Result Command Usage
 help_or (Some verb) words = Ok (commands.Help (Some verb))
 help_or None words = first_command words
 
--- the command that `words` ask for, or the first wrong word
+-- the command that the arguments `words` ask for, or the first wrong argument and the reason; the command is argument 0
 unfoldable pub command : List (List ℕ) → Result Command Usage
 command words = if is_short_help words then Ok (commands.Help None) else help_or (helped words) words

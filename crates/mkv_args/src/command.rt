@@ -4,7 +4,7 @@ use crate::commands::Verb;
 use mkv_io::{List, Text};
 use requests::{Edit, Job, MergeWords};
 
-/// Command with the values of all its arguments.
+/// Command that a command line asks for, with the values of all its arguments.
 #[derive(Debug, Drop)]
 pub enum Command {
     /// Print the page of `--help` of the command `about`, or the overview of all commands.
@@ -19,11 +19,11 @@ pub enum Command {
     Recover { file: Text },
     /// Rebuild the Cues and SeekHead of `file`.
     Reindex { file: Text },
-    /// Make two test files of at least `n` blocks, merge them and split the result.
+    /// Write two test files, with `n` video frames and 2`n` audio blocks, merge them, and cut the result into parts.
     Generate { n: u32, prefix: Text },
     /// Explain the word `name` of a message, or list all words that have a page.
     Explain { name: Option<Text> },
-    /// Extract `job` from `file`.
+    /// Extract from `file` the content that `job` names.
     Extract { file: Text, job: Job },
     /// Change properties of `file` in place.
     Propedit { file: Text, edits: List<Edit> },

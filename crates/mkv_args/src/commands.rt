@@ -6,7 +6,7 @@ ghost use Rattle.mkv_args.specs.Entry as words;
 
 use crate::entry::{Entry, meant};
 
-/// Command that the first argument names.
+/// Command that the first argument of a command line names.
 #[derive(Clone, Copy, Debug, PartialEq, Eq)]
 pub enum Verb {
     Info,
@@ -35,7 +35,7 @@ static COMMANDS: [Entry<Verb>; 10] = [
     Entry("", "--version", Verb::Version),
 ];
 
-/// Returns the commands with their names.
+/// Returns the names of all commands, as a table with their meanings.
 #[tactic(auto, unfolding(crate::specs::Commands::commands))]
 pub(crate) fn commands() -> &'static [Entry<Verb>]
     ensures { map words.shown result.now ≡ spec.commands }
@@ -43,7 +43,7 @@ pub(crate) fn commands() -> &'static [Entry<Verb>]
     &COMMANDS
 }
 
-/// Returns the command with the name `word`.
+/// Returns the command with the name `word`, if there is one.
 pub(crate) fn verb_of(word: &str) -> Option<Verb>
     ensures { result ≡ words.meant spec.commands word.now }
 {

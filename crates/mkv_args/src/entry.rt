@@ -1,9 +1,9 @@
-//! Tables of words with their meanings.
+//! Tables of arguments with their meanings: commands, modes and options.
 
 ghost use Rattle.std.specs.Prelude.{◌≡◌, map};
 ghost use Rattle.mkv_args.specs.Entry as spec;
 
-/// Word of a table: its short spelling (may be empty), its long spelling, and its meaning.
+/// Row of a table of arguments: the short spelling (may be empty), the long one, and the meaning.
 #[derive(Clone, Copy)]
 pub(crate) struct Entry<T>(
     pub(crate) &'static str,
@@ -11,7 +11,7 @@ pub(crate) struct Entry<T>(
     pub(crate) T,
 );
 
-/// Returns the meaning of the first entry that has `word` as a spelling.
+/// Returns the meaning of the first of `entries` that has `word` as one of its spellings, if there is one.
 pub(crate) fn meant<T: Copy>(entries: &[Entry<T>], word: &str) -> Option<T>
     ensures { result ≡ spec.meant (map spec.shown entries.now) word.now }
 {

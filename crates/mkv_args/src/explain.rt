@@ -13,10 +13,10 @@ use crate::topics::{
 use std::alloc::Global;
 use word_values::{ArgsEnd, Why, end_at, name, refused, word_at};
 
-/// Name with the lines of its page.
+/// Word of a message, with the lines of its page.
 type Topic = (&'static str, &'static [&'static str]);
 
-/// Returns the lines that `explain` prints: the page of the word `name`, or the list of all names.
+/// Returns the lines that `explain` prints: the page of the word `name`, or the list of all words that have a page.
 pub fn explained(name: Option<&str>) -> &'static [&'static str]
     ensures { map (λ line. line.now) result.now ≡ spec.explained (option_map (λ n. n.now) name.entry) }
 {
@@ -26,7 +26,7 @@ pub fn explained(name: Option<&str>) -> &'static [&'static str]
     }
 }
 
-/// Returns the list of all names that `explain` knows.
+/// Returns the lines of the list of all words that `explain` knows.
 #[tactic(auto, unfolding(crate::specs::Explain::topic_list))]
 fn topic_list() -> &'static [&'static str]
     ensures { map (λ line. line.now) result.now ≡ spec.topic_list }
@@ -34,7 +34,7 @@ fn topic_list() -> &'static [&'static str]
     &TOPIC_LIST
 }
 
-/// Returns the page of `name`, in upper or lower case.
+/// Returns the page of the word `name`, in upper or lower case, if it has one.
 fn page_of(name: &str) -> Option<&'static [&'static str]>
     ensures { option_map spec.lines_of result ≡ spec.page_of name.now }
 {
@@ -47,7 +47,7 @@ fn page_of(name: &str) -> Option<&'static [&'static str]>
         .or(page_among(general_topics(), name))
 }
 
-/// Returns the lines of the page with the name `name`, in upper or lower case, among `topics`.
+/// Returns the page of the word `name`, in upper or lower case, if one of `topics` has this name.
 fn page_among(topics: &[Topic], name: &str) -> Option<&'static [&'static str]>
     ensures { option_map spec.lines_of result ≡ spec.page_among (map spec.shown topics.now) name.now }
 {
@@ -122,7 +122,7 @@ fn general_topics() -> &'static [Topic]
     &GENERAL_TOPICS
 }
 
-/// Parses the arguments of `explain [NAME]`.
+/// Parses the command line `explain [NAME]`; `explain` is argument 0 of `words`. Fails if NAME has no page.
 #[tactic(auto, unfolding(crate::specs::Explain::explain))]
 pub(crate) fn explain(alloc: Global, words: &[String]) -> Result<Command, ArgsEnd>
     ensures { Tells result (spec.explain (texts words.now)) }

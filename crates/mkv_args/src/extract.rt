@@ -17,7 +17,8 @@ use word_values::{
     ArgsEnd, Why, due_at, end_at, file_at, is_option, name, refused, track_and_rest, word_at,
 };
 
-/// Parses the arguments of `extract FILE MODE ARGS`.
+/// Parses the command line `extract FILE MODE ARGS`; `extract` is argument 0 of `words`. Fails with the number of the
+/// first wrong argument and the reason.
 #[tactic(auto, unfolding(crate::specs::Extract::extract))]
 pub(crate) fn extract(alloc: Global, words: &[String]) -> Result<Command, ArgsEnd>
     ensures { Tells result (spec.extract (texts words.now)) }
@@ -31,7 +32,7 @@ pub(crate) fn extract(alloc: Global, words: &[String]) -> Result<Command, ArgsEn
     })
 }
 
-/// Part of a file that `extract` writes.
+/// Mode of `extract`: the content that it writes.
 #[derive(Clone, Copy, PartialEq, Eq)]
 pub(crate) enum Mode {
     Tracks,
@@ -58,14 +59,14 @@ pub(crate) fn modes() -> &'static [Entry<Mode>]
     &MODES
 }
 
-/// Returns the mode with the name `word`.
+/// Returns the mode of `extract` with the name `word`, if there is one.
 fn mode_of(word: &str) -> Option<Mode>
     ensures { result ≡ entry.meant spec.modes word.now }
 {
     meant(modes(), word)
 }
 
-/// Reads the arguments after the mode, `mode`.
+/// Parses the arguments of `extract` after the mode `mode`, which is argument 2 of `words`.
 #[tactic(auto, unfolding(crate::specs::Extract::job, crate::specs::Extract::job_of))]
 fn job(alloc: Global, mode: &str, words: &[String]) -> Result<Job, ArgsEnd>
     ensures { Tells result (spec.job mode.now (texts words.now)) }
@@ -87,7 +88,7 @@ fn job(alloc: Global, mode: &str, words: &[String]) -> Result<Job, ArgsEnd>
     }
 }
 
-/// Reads `[--raw or --fullraw] TID:OUT..`.
+/// Parses `[--raw or --fullraw] ID:OUT..`, the arguments of `extract` from argument 3 onwards, for the mode `tracks`.
 #[tactic(auto, unfolding(crate::specs::Extract::tracks))]
 fn tracks(alloc: Global, words: &[String]) -> Result<Job, ArgsEnd>
     ensures { Tells result (spec.tracks (texts words.now)) }
@@ -109,7 +110,7 @@ fn tracks(alloc: Global, words: &[String]) -> Result<Job, ArgsEnd>
     }
 }
 
-/// Parses `--simple OUT`, the arguments after the mode `chapters`.
+/// Parses `--simple OUT`, the arguments of `extract` from argument 3 onwards, for the mode `chapters`.
 #[tactic(auto, unfolding(crate::specs::Extract::chapters))]
 fn chapters(alloc: Global, words: &[String]) -> Result<Job, ArgsEnd>
     ensures { Tells result (spec.chapters (texts words.now)) }
@@ -127,7 +128,8 @@ fn chapters(alloc: Global, words: &[String]) -> Result<Job, ArgsEnd>
     }
 }
 
-/// Reads one or more targets `ID:OUT` from argument `start` on, with IDs of at least `least`.
+/// Parses one or more targets `ID:OUT`, from argument number `start` of `words` to the last one, with IDs of at least
+/// `least`. Track IDs count from 0, IDs of attached files from 1.
 #[tactic(auto, unfolding(crate::specs::Extract::targets))]
 fn targets(
     alloc: Global,
@@ -149,8 +151,8 @@ fn targets(
     Ok(list)
 }
 
-/// Reads `word`, argument number `at`, as a target `ID:OUT`, and adds `OUT` to `names`, the names of the targets before.
-/// Refuses an ID less than `least` and a name that is one of `names`.
+/// Parses `word`, argument number `at`, as a target `ID:OUT`, and adds `OUT` to `names`, the names of earlier targets.
+/// Refuses an ID less than `least`, and a name that is one of `names`.
 #[tactic(auto, unfolding(crate::specs::Extract::target))]
 fn target<'a>(
     alloc: Global,
@@ -176,7 +178,7 @@ fn target<'a>(
     })
 }
 
-/// Adds `out` to `names`. Returns whether it is new.
+/// Adds the name `out` of an output to `names`, and returns true if it is new.
 fn add<'a>(names: &mut IndexSet<&'a str>, out: &'a str) -> Result<bool, AllocError>
     ensures { IfOk result (AddsName names.old.keys names.new.keys out.now) }
 {

@@ -25,7 +25,7 @@ pub fn usage_lines(about: Option<Verb>) -> &'static [&'static str]
     lines_of(about)
 }
 
-// Returns the lines of `--help`, for a command or for the program.
+// Returns the lines of `--help`: the page of the command `about`, or the overview of all commands.
 #[tactic(auto, unfolding(crate::specs::Help::usage_lines))]
 fn lines_of(about: Option<Verb>) -> &'static [&'static str]
     ensures { map (λ line. line.now) result.now ≡ spec.usage_lines about }

@@ -1,6 +1,6 @@
 #![tactic(auto)]
 
-//! The words of a command line: what they ask for, or the first word that is wrong, and why.
+//! The command line: the command that it asks for, or the first wrong argument and the reason.
 
 mod command;
 mod commands;

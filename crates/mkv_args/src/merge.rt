@@ -10,7 +10,7 @@ use merge_words::{meaning_of, read_merge};
 use std::alloc::Global;
 use word_values::{ArgsEnd, Why, is_option, name, refused, word_at};
 
-/// Reads `merge` with its options and files, or `merge -J FILE`.
+/// Parses the command line of `merge` with its options and files, or `merge -J FILE`; `merge` is argument 0 of `words`.
 #[tactic(auto, unfolding(crate::specs::Merge::merge))]
 pub(crate) fn merge(alloc: Global, words: &[String]) -> Result<Command, ArgsEnd>
     ensures { Tells result (spec.merge (texts words.now)) }
@@ -23,7 +23,7 @@ pub(crate) fn merge(alloc: Global, words: &[String]) -> Result<Command, ArgsEnd>
     })
 }
 
-/// Reads `merge -J FILE`; no other argument is allowed.
+/// Parses the command line `merge -J FILE`, which asks for the identification of FILE; no other argument is allowed.
 #[tactic(auto, unfolding(crate::specs::Merge::identify))]
 fn identify(alloc: Global, words: &[String]) -> Result<Command, ArgsEnd>
     ensures { Tells result (spec.identify (texts words.now)) }
@@ -42,7 +42,8 @@ fn identify(alloc: Global, words: &[String]) -> Result<Command, ArgsEnd>
     })
 }
 
-/// Refuses `word`, argument number `at`: an unknown option, or an argument that `merge -J FILE` doesn't take.
+/// Refuses `word`, argument number `at` of `merge -J FILE`, which can't be there. The reason is an unknown option or an
+/// argument too many.
 #[tactic(auto, unfolding(crate::specs::Merge::beside))]
 fn beside(at: usize, word: &str) -> Result<Command, ArgsEnd>
     ensures { Tells result (spec.beside at word.now) }

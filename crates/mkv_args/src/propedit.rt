@@ -22,7 +22,7 @@ pub const AUDIO_TRACK: u64 = 2;
 /// TrackType that a section names by `s`: subtitle (RFC 9559, section 5.1.4.1.3).
 pub const SUBTITLE_TRACK: u64 = 17;
 
-/// Kind of an option of `propedit`: it starts a section, or it changes a property.
+/// Kind of an option of `propedit`: it begins a section, or changes a property of the section.
 #[derive(Clone, Copy, PartialEq, Eq)]
 pub enum EditOptionKind {
     Section,
@@ -32,9 +32,9 @@ pub enum EditOptionKind {
 /// Option of `propedit` with its value.
 #[derive(Drop)]
 pub enum EditOption {
-    /// Section of the edits that follow.
+    /// Section that the edits after it are for.
     Section(Selector),
-    /// Change of a property of the last section before it.
+    /// Change of a property in the last section before it.
     Change {
         change: Change,
         name: Text,
@@ -42,7 +42,7 @@ pub enum EditOption {
     },
 }
 
-/// Reads `propedit FILE`, then sections with their edits.
+/// Parses the command line `propedit FILE` with sections and their edits; `propedit` is argument 0 of `words`.
 #[tactic(auto, unfolding(crate::specs::Propedit::propedit))]
 pub(crate) fn propedit(alloc: Global, words: &[String]) -> Result<Command, ArgsEnd>
     ensures { Tells result (spec.propedit (texts words.now)) }
@@ -55,7 +55,8 @@ pub(crate) fn propedit(alloc: Global, words: &[String]) -> Result<Command, ArgsE
     })
 }
 
-/// Returns the edits of all sections, in order.
+/// Parses the options of `propedit`, from argument 2 of `words` onwards, and returns the edits of all sections, in
+/// order. Each section must have an edit.
 #[tactic(auto, unfolding(crate::specs::Propedit::edits))]
 fn edits(alloc: Global, words: &[String]) -> Result<List<Edit>, ArgsEnd>
     ensures { Tells result (spec.edits (texts words.now)) }
@@ -92,7 +93,8 @@ fn edits(alloc: Global, words: &[String]) -> Result<List<Edit>, ArgsEnd>
     Ok(list)
 }
 
-/// Reads the first section, which must be the first option after FILE.
+/// Parses the first section of `propedit`, at the arguments 2 and 3 of `words`; the first option after FILE must be
+/// `--edit`.
 #[tactic(auto, unfolding(crate::specs::Propedit::first_section))]
 fn first_section(words: &[String]) -> Result<Selector, ArgsEnd>
     ensures { Tells result (spec.first_section (texts words.now)) }
@@ -106,8 +108,8 @@ fn first_section(words: &[String]) -> Result<Selector, ArgsEnd>
     }
 }
 
-/// Reads the option `word`, argument number `at`, with its value. `edited` is whether the section before it has an
-/// edit.
+/// Parses the option `word` of `propedit`, argument number `at`, with its value, the next argument. `edited` is true if
+/// the section before it has an edit.
 fn said(
     alloc: Global,
     words: &[String],
@@ -124,8 +126,8 @@ fn said(
     }
 }
 
-/// Checks whether an option of the kind `step` is allowed here. A section must have an edit (`edited`) before the
-/// next section.
+/// Checks whether an option of the kind `step` is allowed after the options before it. A section must have an edit
+/// (`edited`) before the next section begins.
 fn may_follow(edited: bool, step: EditOptionKind) -> bool
     ensures { result ≡ spec.may_follow edited step }
 {
@@ -143,7 +145,7 @@ static STEPS: [Entry<EditOptionKind>; 4] = [
     Entry("-d", "--delete", EditOptionKind::Edit(Change::Delete)),
 ];
 
-/// Returns the options of `propedit` with their spellings.
+/// Returns the options of `propedit` with their spellings, as a table.
 #[tactic(auto, unfolding(crate::specs::Propedit::steps))]
 pub(crate) fn steps() -> &'static [Entry<EditOptionKind>]
     ensures { map entry.shown result.now ≡ spec.steps }
@@ -151,7 +153,7 @@ pub(crate) fn steps() -> &'static [Entry<EditOptionKind>]
     &STEPS
 }
 
-/// Returns the kind of the option `word`.
+/// Returns the kind of the option `word` of `propedit`, if it is one.
 #[tactic(auto, unfolding(crate::specs::Propedit::step_of))]
 fn step_of(word: &str) -> Option<EditOptionKind>
     ensures { result ≡ spec.step_of word.now }
@@ -159,7 +161,8 @@ fn step_of(word: &str) -> Option<EditOptionKind>
     meant(steps(), word)
 }
 
-/// Reads the value of an option of the kind `step`, argument number `at`.
+/// Parses the argument with number `at` as the value of an option of the kind `step`. Fails if it is missing or doesn't
+/// have the form.
 fn saying_at(
     alloc: Global,
     words: &[String],
@@ -175,7 +178,7 @@ fn saying_at(
     }
 }
 
-/// Reads `word` as the value of an option of the kind `step`.
+/// Parses `word` as the value of an option of the kind `step`: a section, the name of a property, or `NAME=VALUE`.
 fn meaning(alloc: Global, step: EditOptionKind, word: &str) -> Result<EditOption, ValueEnd>
     ensures { ReadsValue result (spec.meaning step word.now) }
 {
@@ -193,7 +196,7 @@ fn meaning(alloc: Global, step: EditOptionKind, word: &str) -> Result<EditOption
     }
 }
 
-/// Reads `NAME=VALUE`; the name ends at the first `=`.
+/// Parses `word` as `NAME=VALUE`, for the change `change`; the name ends at the first `=`.
 fn changed(alloc: Global, change: Change, word: &str) -> Result<EditOption, ValueEnd>
     ensures { ReadsValue result (spec.changed change word.now) }
 {
@@ -207,7 +210,7 @@ fn changed(alloc: Global, change: Change, word: &str) -> Result<EditOption, Valu
     })
 }
 
-/// Reads `info`, `track:n`, `track:vN`, `track:aN`, `track:sN`, `track:=UID` or `track:@number`.
+/// Parses `word` as a section: `info`, `track:N`, `track:vN`, `track:aN`, `track:sN`, `track:=UID` or `track:@NUMBER`.
 #[tactic(auto, unfolding(crate::specs::Propedit::selector))]
 fn selector(word: &[u8]) -> Option<Selector>
     ensures { result ≡ spec.selector word.now }
@@ -219,8 +222,8 @@ fn selector(word: &[u8]) -> Option<Selector>
     }
 }
 
-/// Returns the selector that follows `track:`: a position, a letter of a type and a position, `=` and a TrackUID, or
-/// `@` and a TrackNumber.
+/// Parses `word`, the part of a section after `track:`. It is a position, a letter of a type and a position, `=` and a
+/// TrackUID, or `@` and a TrackNumber.
 #[tactic(auto, unfolding(crate::specs::Propedit::track))]
 fn track(word: &[u8]) -> Option<Selector>
     ensures { result ≡ spec.track word.now }
@@ -237,7 +240,8 @@ fn track(word: &[u8]) -> Option<Selector>
     }
 }
 
-/// Returns the selector of the track with the TrackType `kind` whose position, counted from 1, is in `word`.
+/// Returns the selector of a track by its position among the tracks with the TrackType `kind`; `word` is the position,
+/// counted from 1.
 #[tactic(auto, unfolding(crate::specs::Propedit::typed))]
 fn typed(kind: u64, word: &[u8]) -> Option<Selector>
     ensures { result ≡ spec.typed kind word.now }
@@ -248,7 +252,7 @@ fn typed(kind: u64, word: &[u8]) -> Option<Selector>
     })
 }
 
-/// Reads a position among the tracks, counted from 1.
+/// Parses `word` as a position of a track, counted from 1.
 #[tactic(auto, unfolding(crate::specs::Propedit::place))]
 fn place(word: &[u8]) -> Option<u64>
     ensures { result ≡ spec.place word.now }

@@ -17,8 +17,8 @@ use requests::number;
 use std::alloc::Global;
 use word_values::{ArgsEnd, Why, due_at, end_at, file_at, is_option, name, refused, word_at};
 
-/// Returns the command that `words` ask for, or the first wrong word. Words are counted from 0, without the program's
-/// own name.
+/// Returns the command that the arguments `words` ask for, or the first wrong argument and the reason. Arguments count
+/// from 0, without the program's own name, so that the command is argument 0.
 pub fn read_words(alloc: Global, words: &Vec<String>) -> Result<Command, ArgsEnd>
     ensures exact { Tells result (spec.command (texts words.now.items)) }
 
@@ -28,7 +28,8 @@ pub fn read_words(alloc: Global, words: &Vec<String>) -> Result<Command, ArgsEnd
     command(alloc, words.as_slice())
 }
 
-/// Parses the arguments, or returns the first wrong one with the reason.
+/// Returns the command that the arguments `words` ask for, or the first wrong argument and the reason, as `read_words`
+/// promises.
 #[tactic(auto, unfolding(crate::specs::Words::command))]
 fn command(alloc: Global, words: &[String]) -> Result<Command, ArgsEnd>
     ensures { Tells result (spec.command (texts words.now)) }
@@ -42,14 +43,14 @@ fn command(alloc: Global, words: &[String]) -> Result<Command, ArgsEnd>
     }
 }
 
-/// Checks whether `-h` is the only word.
+/// Checks whether `-h` is the only argument.
 fn is_short_help(words: &[String]) -> bool
     ensures { result ≡ spec.is_short_help (texts words.now) }
 {
     word_at(words, 0) == Some("-h") && word_at(words, 1).is_none()
 }
 
-/// Returns the command before `--help`, if these are the only two words.
+/// Returns the command that `COMMAND --help` asks the page of, if these are the only two arguments.
 fn helped(words: &[String]) -> Option<Verb>
     ensures { result ≡ spec.helped (texts words.now) }
 {
@@ -60,14 +61,14 @@ fn helped(words: &[String]) -> Option<Verb>
     }
 }
 
-/// Returns the command with the name `word`, unless `word` looks like an option.
+/// Returns the command with the name `word`, if there is one, unless `word` looks like an option.
 fn named(word: &str) -> Option<Verb>
     ensures { result ≡ spec.named word.now }
 {
     if is_option(word) { None } else { verb_of(word) }
 }
 
-/// Reads the command that the first word names.
+/// Parses the command line `words` for the command that argument 0 names.
 #[tactic(auto, unfolding(crate::specs::Words::first_command, crate::specs::Words::command_named))]
 fn first_command(alloc: Global, words: &[String]) -> Result<Command, ArgsEnd>
     ensures { Tells result (spec.first_command (texts words.now)) }
@@ -90,7 +91,7 @@ fn first_command(alloc: Global, words: &[String]) -> Result<Command, ArgsEnd>
     }
 }
 
-/// Parses the arguments of `--help`, which may name a command.
+/// Parses the command line `--help`, which has no other argument.
 #[tactic(auto, unfolding(crate::specs::Words::alone))]
 fn help(words: &[String]) -> Result<Command, ArgsEnd>
     ensures { Tells result (spec.alone (Command.Help None) (texts words.now)) }
@@ -99,7 +100,7 @@ fn help(words: &[String]) -> Result<Command, ArgsEnd>
     Ok(Command::Help { about: None })
 }
 
-/// Parses the arguments of `--version`, which takes none.
+/// Parses the command line `--version`, which has no other argument.
 #[tactic(auto, unfolding(crate::specs::Words::alone))]
 fn version(words: &[String]) -> Result<Command, ArgsEnd>
     ensures { Tells result (spec.alone Command.Version (texts words.now)) }
@@ -108,7 +109,7 @@ fn version(words: &[String]) -> Result<Command, ArgsEnd>
     Ok(Command::Version)
 }
 
-/// Parses the arguments of `info FILE`.
+/// Parses the command line `info FILE`; `info` is argument 0 of `words`.
 #[tactic(auto, unfolding(crate::specs::Words::info))]
 fn info(alloc: Global, words: &[String]) -> Result<Command, ArgsEnd>
     ensures { Tells result (spec.info (texts words.now)) }
@@ -119,7 +120,7 @@ fn info(alloc: Global, words: &[String]) -> Result<Command, ArgsEnd>
     })
 }
 
-/// Parses the arguments of `recover FILE`.
+/// Parses the command line `recover FILE`; `recover` is argument 0 of `words`.
 #[tactic(auto, unfolding(crate::specs::Words::recover))]
 fn recover(alloc: Global, words: &[String]) -> Result<Command, ArgsEnd>
     ensures { Tells result (spec.recover (texts words.now)) }
@@ -130,7 +131,7 @@ fn recover(alloc: Global, words: &[String]) -> Result<Command, ArgsEnd>
     })
 }
 
-/// Parses the arguments of `reindex FILE`.
+/// Parses the command line `reindex FILE`; `reindex` is argument 0 of `words`.
 #[tactic(auto, unfolding(crate::specs::Words::reindex))]
 fn reindex(alloc: Global, words: &[String]) -> Result<Command, ArgsEnd>
     ensures { Tells result (spec.reindex (texts words.now)) }
@@ -141,7 +142,7 @@ fn reindex(alloc: Global, words: &[String]) -> Result<Command, ArgsEnd>
     })
 }
 
-/// Reads `generate N PREFIX`, with N from 1 to 100000.
+/// Parses the command line `generate N PREFIX`, with N from 1 to 100000; `generate` is argument 0 of `words`.
 #[tactic(auto, unfolding(crate::specs::Words::generate))]
 fn generate(alloc: Global, words: &[String]) -> Result<Command, ArgsEnd>
     ensures { Tells result (spec.generate (texts words.now)) }
@@ -155,7 +156,7 @@ fn generate(alloc: Global, words: &[String]) -> Result<Command, ArgsEnd>
     })
 }
 
-/// Returns the argument `at` of `generate`: the number of video frames, from 1 to 100000.
+/// Returns the number in argument `at` of `words`, the N of `generate`, from 1 to 100000.
 #[tactic(auto, unfolding(crate::specs::Words::blocks_at))]
 fn blocks_at(words: &[String], at: usize) -> Result<u32, ArgsEnd>
     ensures { Tells result (spec.blocks_at (texts words.now) at) }
@@ -166,7 +167,7 @@ fn blocks_at(words: &[String], at: usize) -> Result<u32, ArgsEnd>
     }
 }
 
-/// Reads a file's name as the last word.
+/// Returns the name in argument 1, which must be the last one, for a command with only a FILE.
 #[tactic(auto, unfolding(crate::specs::Words::only_file))]
 fn only_file(words: &[String]) -> Result<&str, ArgsEnd>
     ensures { TellsOf (λ w. w.now) result (spec.only_file (texts words.now)) }
