@@ -15,20 +15,20 @@ use Rattle.output_model.specs.declared.places.Seek.{Seek}
 abbrev pub data_place : List Node → ℕ
 data_place ns = position_or_len (λ n. id_of n == FILE_DATA) ns
 
--- the length of the body of an AttachedFile with its data
+-- the length in bytes of the content of the AttachedFile of `a`, with its data
 abbrev pub attached_body : Attachment → ℕ
 attached_body a = length (flat_map octets (without FILE_DATA (children a.entry))) + (length (header_octets FILE_DATA a.len) + a.len)
 
--- the length of the AttachedFile with its data
+-- the length in bytes of the AttachedFile of `a`, with its data
 abbrev pub attached_total : Attachment → ℕ
 attached_total a = length (header_octets ATTACHED_FILE (attached_body a)) + attached_body a
 
--- the header of Attachments, or nothing without attachments
+-- the header of the Attachments with these attached files, or nothing without any
 abbrev pub attachments_header : List Attachment → List ℕ
 attachments_header [] = []
 attachments_header (a ∷ attachments) = header_octets ATTACHMENTS (sum_by attached_total (a ∷ attachments))
 
--- the Seek of Attachments at the position `position`, or nothing without attachments
+-- the Seek of the Attachments at the position `position`, or nothing without attached files
 abbrev pub attachments_seeks : ℕ → List Attachment → List Seek
 attachments_seeks position [] = []
 attachments_seeks position (a ∷ attachments) = record { id = ATTACHMENTS; position = position } ∷ []
@@ -44,10 +44,10 @@ before_data a =
 abbrev pub behind_data : Attachment → List ℕ
 behind_data a = flat_map octets (without FILE_DATA (drop (data_place (children a.entry)) (children a.entry)))
 
--- The data of each attachment have its length.
+-- The data of each of `attachments` in `files` have the length that it states.
 abbrev pub HaveData : LiveFiles → List Attachment → Type 0
 HaveData files attachments = All (λ (a : Attachment). length (data_of files a) ≡ a.len) attachments
 
--- the Seek of Attachments after the bytes `out`, which begin `at` bytes inside the Segment
+-- the Seek of the Attachments after the bytes `out`, which begin `at` bytes inside the Segment, or nothing without `attachments`
 abbrev pub seeks_behind : ℕ → List ℕ → List Attachment → List Seek
 seeks_behind at out attachments = attachments_seeks (at + length out) attachments

@@ -13,17 +13,18 @@ use Rattle.cues_seekhead.specs.declared.ending.Ending.{Ending}
 use Rattle.output_model.specs.declared.TheConstants.{AREA}
 use Rattle.ebml_numbers.specs.Number.{size_octets}
 
--- The name of the draft `d` has a content that is possible while it is written, and other names have their content in `before`.
+-- In `now` the file of the draft `d` has a content that is possible while it is written. Other names have the content that they have in `before`.
 pub record StandsDrafted (before now : Names) (d : Draft) : Type 0 where
   pub output : Output
   pub drafted : IsDrafted output d
   pub names : now ≡ with_content before output.name output.content
 
--- the area of the Segment's body, which begins at byte `start`, and the eight bytes of the Segment's size before it
+-- the two last writes of an output. They are the area at the start of the Segment's content, at the offset `start`, and the Segment's size in the
+-- eight bytes before it.
 abbrev pub patches_at : ℕ → List ℕ → List ℕ → List Patch
 patches_at start area size = record { at = start; octets = area } ∷ record { at = start - 8; octets = size } ∷ []
 
--- an output before its size and its area are known, and the two writes of them
+-- the output `name` with the document `d` as a draft: its content before its last two writes, and these writes
 abbrev pub draft_of : List ℕ → Document → Draft
 draft_of name d = record {
   name = name;
@@ -31,8 +32,8 @@ draft_of name d = record {
   patches = patches_at (body_start d.front.webm) (joined (area_elements (seeks_of d))) (segment_size (length (joined (elements_behind_area d))));
 }
 
--- The bytes `back` were appended to the content of the file's name, and then the patches were written. After an error the content is one of the
--- draft.
+-- From `old` to `new` the bytes `back` were appended to the live file `file`, and then the patches were written. After an error the content is one
+-- that the draft may have.
 abbrev pub Drafts : {S T E : Type 0} → Ghosts S → FileId → ℕ → List ℕ → List Patch → S → S → Result T E → Type 0
 Drafts f file least back patches old new (Ok _) =
     (before : Names) (content : List ℕ) → least ≤ length content → f.names old ≡ with_content before (f.holder old file.n) content
@@ -41,6 +42,6 @@ Drafts f file least back patches old new (Err _) =
     (before : Names) (content : List ℕ) → least ≤ length content → f.names old ≡ with_content before (f.holder old file.n) content
     → StandsDrafted before (f.names new) (record { name = f.holder old file.n; appended = content ++ back; patches = patches })
 
--- The last writes of an output were done, whose Segment's body begins at byte `start`.
+-- From `old` to `new` the last writes `e` of an output were done in the live file `file`. The Segment's content begins at the offset `start`.
 abbrev pub DraftsEnd : {S T E : Type 0} → Ghosts S → FileId → ℕ → Ending → S → S → Result T E → Type 0
 DraftsEnd f file start e old new result = Drafts f file (start + AREA) e.back (patches_at start e.area (size_octets e.total 8)) old new result

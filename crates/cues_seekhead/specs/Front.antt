@@ -10,7 +10,7 @@ use Rattle.cues_seekhead.specs.Attached.{attached_total, attachments_header, att
 use Rattle.output_model.specs.declared.front.Front as given
 use Rattle.cues_seekhead.specs.declared.front.Opening.{Opening}
 
--- the number of bytes before the Segment's body: an EBML header of 36 or 40 bytes, the Segment's ID and its size
+-- the number of bytes before the Segment's content: an EBML header of 36 or 40 bytes, the Segment's ID and its size; `webm` is true for WebM
 abbrev pub body_start : Bool → ℕ
 body_start webm = if webm then 48 else 52
 
@@ -18,7 +18,7 @@ body_start webm = if webm then 48 else 52
 abbrev pub records_of : given.Front → List Element
 records_of f = tree_element f.info ∷ tree_element f.tracks ∷ []
 
--- Info and Tracks, and the header of Attachments
+-- the bytes of Info and Tracks, and the header of Attachments, if there are attached files
 abbrev pub front_head : given.Front → List ℕ
 front_head f = joined (records_of f) ++ attachments_header f.attachments
 
@@ -26,7 +26,8 @@ front_head f = joined (records_of f) ++ attachments_header f.attachments
 abbrev pub front_seeks : given.Front → List Seek
 front_seeks f = seeks_from AREA (records_of f) ++ attachments_seeks (AREA + length (joined (records_of f))) f.attachments
 
--- `o` has the first bytes of an open output up to its first AttachedFile, the Seeks of the elements before the Clusters, and their length.
+-- `o` is the start of an output with the Elements `f` before its first Cluster. It has the bytes up to the first AttachedFile, the Seeks, and the
+-- length.
 pub record IsOpening (f : given.Front) (o : Opening) : Type 0 where
   pub octets : o.octets ≡ file_with f.webm unknown_size open_area (front_head f)
   pub seeks : o.seeks.items ≡ front_seeks f

@@ -19,7 +19,8 @@ use Rattle.mkv_outputs.specs.Starts.{ArePrefixes}
 use Rattle.output_model.specs.Front.{front_with}
 use Rattle.output_model.specs.declared.front.Front.{Front as GivenFront}
 
--- the file, whether it is WebM, the length of the Segment's body, the places of the elements before the Clusters, and the cue points
+-- an output that is being written. It has its file, whether it is WebM, and the length of the Segment's content. It has the positions of the Elements
+-- before the Clusters, and the cue points.
 pub record OpenOutput : Type 0 where
   pub file : FileId
   pub webm : Bool
@@ -27,33 +28,34 @@ pub record OpenOutput : Type 0 where
   pub seeks : List Seek
   pub cues : List CuePoint
 
--- The open output `o` keeps its invariants.
+-- The open output `o` is within its limits: numbers of cue points and Seeks, valid IDs, and a length that includes the area.
 pub record HasBegun (o : OpenOutput) : Type 0 where
   pub cues : length o.cues ≤ MAX_CUES
   pub seeks : length o.seeks ≤ 3
   pub ids : AreIds o.seeks
   pub area : AREA ≤ o.len
 
--- the open output with one more cue point
+-- the open output `o` with the cue point `point` after its own
 abbrev pub with_cue : OpenOutput → CuePoint → OpenOutput
 with_cue o point = record o { cues = o.cues ++ point ∷ [] }
 
--- the open output with `more` bytes more
+-- the open output `o` after `more` bytes were appended to it
 abbrev pub grown : OpenOutput → ℕ → OpenOutput
 grown o more = record o { len = o.len + more }
 
--- The file of `o` is live, and has the length that `o` expects.
+-- The file of the open output `o` is live, and has the length that `o` expects.
 pub record IsOpen {S : Type 0} (r : Ghosts S) (files : S) (o : OpenOutput) : Type 0 where
   pub live : IsLive r files o.file
   pub size : file_size r files o.file ≡ body_start o.webm + o.len
 
--- `o` agrees with an output that has `front` before the Clusters, and the bytes `behind` after that.
+-- The fields of the open output `o` are right. It has the Elements `front` before its first Cluster, and the bytes `behind` after them.
 pub record Knows (front : Front) (behind : List ℕ) (o : OpenOutput) : Type 0 where
   pub webm : o.webm ≡ front.webm
   pub len : o.len ≡ clusters_at front + length behind
   pub seeks : o.seeks ≡ seeks_from AREA (front_elements front)
 
--- `o` is open, and its name has `front` and then the bytes `behind`. Other names have their content in `before`.
+-- The output `o` is open, and its file `name` has the Elements `front` and then the bytes `behind`. Other names have the content that they have in
+-- `before`.
 pub record StandsOpen {S : Type 0} (r : Ghosts S) (f : writing.Ghosts S) (before : Names) (name : List ℕ) (front : Front) (behind : List ℕ) (files : S) (o : OpenOutput) : Type 0 where
   pub is_open : IsOpen r files o
   pub holder : f.holder files o.file.n ≡ name
@@ -68,16 +70,17 @@ pub record CanAttach {S : Type 0} (r : Ghosts S) (f : writing.Ghosts S) (files :
   pub inside : a.at + a.len ≤ file_size r files a.file
   pub apart : f.holder files a.file.n ≢ name
 
--- An output with the name `name` was begun, and its content is the elements before the Clusters.
+-- From `old` to `new` the output `name` was begun: `out` is open, and its content is the Elements before the first Cluster.
 abbrev pub BeginsOutput : {S : Type 0} → Ghosts S → writing.Ghosts S → List ℕ → GivenFront → S → S → OpenOutput → Type 0
 BeginsOutput r f name front old new out = StandsOpen r f (f.names old) name (front_with (live_files r old) front) [] new out
 
--- An output with the name `name` was begun and its creation failed: some prefix of the elements before its Clusters may be there.
+-- From `old` to `new` the output `name` was begun, but failed: its content may be a prefix of the Elements before the first Cluster.
 abbrev pub BeginsInPart : {S : Type 0} → Ghosts S → writing.Ghosts S → List ℕ → GivenFront → S → S → Type 0
 BeginsInPart r f name front old new =
     ArePrefixes (f.names old) (f.names new) (record { name = name; content = opened_with (front_with (live_files r old) front) [] } ∷ [])
 
--- `new` is `old` with a cue point at the next place, unless there are too many.
+-- The open output `new` is `old` with a cue point in the next Cluster, for a block at `tick` on the output track `lane`. It is `old` if there are too
+-- many.
 abbrev pub KeepsPoint : ℕ → ℕ → ℕ → OpenOutput → OpenOutput → Type 0
 KeepsPoint tick lane relative old new =
     length old.cues < MAX_CUES → new ≡ with_cue old (record { tick = tick; lane = lane; cluster = old.len; relative = relative })

@@ -9,19 +9,21 @@ use Rattle.output_model.specs.Document.{back_with}
 use Rattle.output_model.specs.declared.places.CuePoint.{CuePoint}
 use Rattle.tree_format.specs.Node.{Node}
 
--- The elements `es` were appended to `out`, which begins `at` bytes inside the Segment, and their Seeks to `seeks`.
+-- The Elements `es` were appended to the bytes `out`, which begin `at` bytes inside the Segment, and their Seeks to `seeks`. The results are `out'`
+-- and `seeks'`.
 pub record Adds (at : ℕ) (es : List Element) (out out' : List ℕ) (seeks seeks' : List Seek) : Type 0 where
   pub octets : out' ≡ out ++ joined es
   pub places : seeks' ≡ seeks ++ seeks_from (at + length out) es
 
--- The IDs of the Seeks are valid.
+-- The IDs in `seeks` are valid.
 abbrev pub AreIds : List Seek → Type 0
 AreIds seeks = All (λ s. is_id s.id ≡ true) seeks
 
--- a Void of `len` zeros, with a size of `width` bytes
+-- a Void with `len` zeros as content and a size of `width` bytes
 abbrev pub filled_void : ℕ → ℕ → Element
 filled_void len width = record { id = VOID; width = width; body = replicate len 0 }
 
--- The elements after the Clusters were appended, with their Seeks.
+-- The bytes `out` are the Elements after the Clusters, which begin `at` bytes inside the Segment. Their Seeks were appended to `seeks`, with the
+-- result `seeks'`.
 abbrev pub AddsBack : ℕ → List CuePoint → Option Node → Option Node → List Seek → List Seek → List ℕ → Type 0
 AddsBack at points chapters tags seeks seeks' out = Adds at (back_with points chapters tags) [] out seeks seeks'

@@ -13,7 +13,7 @@ use mkv_schema::ids::{SEEK, SEEK_HEAD, SEEK_ID, SEEK_POSITION, VOID};
 use output_model::{AREA, Seek};
 use std::alloc::{AllocError, Global};
 
-// Appends the Seek of an element, with its position in eight bytes.
+// Appends the Seek Element for `seek`, with its position in eight bytes.
 #[tactic(auto, unfolding(ebml_numbers::specs::Number::is_id))]
 fn put_seek(out: &mut Bytes, seek: &Seek) -> Result<(), AllocError>
     requires { IsTrue (is_id seek.now.id) }
@@ -33,7 +33,7 @@ fn put_seek(out: &mut Bytes, seek: &Seek) -> Result<(), AllocError>
     Ok(())
 }
 
-/// Appends Seeks in sequence.
+/// Appends the Seek Elements for all `seeks`, in sequence.
 pub fn put_seeks(out: &mut Bytes, seeks: &[Seek]) -> Result<(), AllocError>
     requires { AreIds seeks.now }
     ensures ok { OnOk result (out.new ≡ out.old ++ joined (map seek_element seeks.now)) }
@@ -44,7 +44,7 @@ pub fn put_seeks(out: &mut Bytes, seeks: &[Seek]) -> Result<(), AllocError>
     Ok(())
 }
 
-// Returns the length of an ID in bytes.
+// Returns the length in bytes of the Element ID `id`.
 fn id_len(id: u32) -> u64
     requires { IsTrue (is_id id) }
     ensures exact { result ≡ length (id_octets id) }
@@ -53,7 +53,7 @@ fn id_len(id: u32) -> u64
     u64::from(put_id(id).len)
 }
 
-// Returns the length of a Seek in bytes.
+// Returns the length in bytes of the Seek Element for `seek`.
 #[tactic(auto, unfolding(ebml_numbers::specs::Number::is_id))]
 fn seek_len(seek: &Seek) -> u64
     requires { IsTrue (is_id seek.now.id) }
@@ -67,7 +67,7 @@ fn seek_len(seek: &Seek) -> u64
     )
 }
 
-// Returns the length of Seeks in bytes.
+// Returns the length in bytes of the Seek Elements for `seeks`.
 fn seeks_len(seeks: &[Seek]) -> u64
     requires few { length seeks.now ≤ 6 }
     requires ids { AreIds seeks.now }
@@ -94,7 +94,7 @@ pub(crate) fn put_void(out: &mut Bytes, total: u64) -> Result<(), AllocError>
     }
 }
 
-// Appends a Void of `len` zeros, with a size of `width` bytes.
+// Appends a Void with `len` zeros as content and a size of `width` bytes.
 #[tactic(auto, unfolding(ebml_numbers::specs::Number::is_id))]
 fn put_filled(out: &mut Bytes, len: u64, width: u8) -> Result<(), AllocError>
     requires some { 1 ≤ width }
@@ -118,7 +118,8 @@ fn put_zeros(out: &mut Bytes, count: u64) -> Result<(), AllocError>
     Ok(())
 }
 
-/// Returns the area with at most six Seeks.
+/// Returns the bytes of the area at the start of a Segment. It has the SeekHead with at most six `seeks`, and a Void
+/// that fills the rest.
 #[tactic(auto, unfolding(ebml_numbers::specs::Number::is_id))]
 pub fn area_octets(alloc: Global, seeks: &[Seek]) -> Result<Bytes, AllocError>
     requires few { length seeks.now ≤ 6 }

@@ -24,7 +24,7 @@ fn first_data(children: &[Tree]) -> Option<usize>
     children.iter().position(|child| child.id() == FILE_DATA)
 }
 
-// Splits the children of an AttachedFile at its first FileData.
+// Splits the children of an AttachedFile before its first FileData. The writer puts the data there.
 fn split_at_file_data(children: &[Tree]) -> (&[Tree], &[Tree])
     ensures front { result.0.now ≡ take (data_place children.now) children.now }
     ensures back { result.1.now ≡ drop (data_place children.now) children.now }
@@ -35,7 +35,7 @@ fn split_at_file_data(children: &[Tree]) -> (&[Tree], &[Tree])
     }
 }
 
-// Returns the length of the children without FileData.
+// Returns the length in bytes of the children of an AttachedFile, without FileData.
 #[tactic(auto, using(ebml_tree::proofs::LoopLemmas::others))]
 fn others_len(children: &[Tree]) -> Result<u64, AllocError>
     ensures exact { IfOk result (λ len. len ≡ length (flat_map octets (without FILE_DATA_ID children.now))) }
@@ -50,7 +50,7 @@ fn others_len(children: &[Tree]) -> Result<u64, AllocError>
     Ok(total)
 }
 
-// Appends trees in their normal form.
+// Appends the trees `children` in their normal form.
 fn put_children(out: &mut Bytes, children: &[Tree]) -> Result<(), AllocError>
     ensures { OnOk result (out.new ≡ out.old ++ flat_map octets children.now) }
 {
@@ -60,7 +60,7 @@ fn put_children(out: &mut Bytes, children: &[Tree]) -> Result<(), AllocError>
     Ok(())
 }
 
-// Appends the children of an AttachedFile except FileData.
+// Appends the children of an AttachedFile, except FileData.
 fn put_others(out: &mut Bytes, children: &[Tree]) -> Result<(), AllocError>
     ensures { OnOk result (out.new ≡ out.old ++ flat_map octets (without FILE_DATA_ID children.now)) }
 {
@@ -72,7 +72,7 @@ fn put_others(out: &mut Bytes, children: &[Tree]) -> Result<(), AllocError>
     Ok(())
 }
 
-// Returns the length of an AttachedFile's body, with its data.
+// Returns the length in bytes of the content of an AttachedFile, with its data.
 #[tactic(auto, unfolding(ebml_numbers::specs::Number::is_id))]
 fn body_len(attachment: &Attachment) -> Result<u64, AllocError>
     ensures exact { IfOk result (λ len. len ≡ attached_body attachment.now) }
@@ -84,7 +84,7 @@ fn body_len(attachment: &Attachment) -> Result<u64, AllocError>
     sized(others + data)
 }
 
-/// Returns the length of an AttachedFile with its data.
+/// Returns the length in bytes of the AttachedFile of `attachment`, with its data.
 #[tactic(auto, unfolding(ebml_numbers::specs::Number::is_id))]
 pub fn attached_len(attachment: &Attachment) -> Result<u64, AllocError>
     ensures exact { IfOk result (λ len. len ≡ attached_total attachment.now) }
@@ -94,7 +94,7 @@ pub fn attached_len(attachment: &Attachment) -> Result<u64, AllocError>
     Ok(element_len(ATTACHED_FILE, len))
 }
 
-/// Returns the bytes of an AttachedFile before its data.
+/// Returns the bytes of the AttachedFile of `attachment` before its data.
 #[tactic(auto, unfolding(ebml_numbers::specs::Number::is_id))]
 pub fn octets_before_data(alloc: Global, attachment: &Attachment) -> Result<Bytes, AllocError>
     ensures { IfOk result (λ out. out ≡ before_data attachment.now) }
@@ -107,7 +107,7 @@ pub fn octets_before_data(alloc: Global, attachment: &Attachment) -> Result<Byte
     Ok(out)
 }
 
-/// Returns the bytes of an AttachedFile after its data.
+/// Returns the bytes of the AttachedFile of `attachment` after its data.
 pub fn octets_behind_data(alloc: Global, attachment: &Attachment) -> Result<Bytes, AllocError>
     ensures { IfOk result (λ out. out ≡ behind_data attachment.now) }
 {

@@ -18,8 +18,8 @@ use std::alloc::Global;
 // Number of bytes of data that are copied at once
 const CHUNK: usize = 65_536;
 
-/// Appends the AttachedFile of `attachment` to the output `file`. Its data are copied from their own file through
-/// `buffer`.
+/// Appends the AttachedFile of `attachment` to the output `file`. Its data are copied from the input that has them,
+/// through `buffer`.
 fn add_attachment<F: Files>(
     alloc: Global,
     files: &mut F,
@@ -46,7 +46,7 @@ fn add_attachment<F: Files>(
     append(files, file, behind.as_slice())
 }
 
-// Appends AttachedFiles with their data, through `buffer`.
+// Appends the AttachedFiles of all `attachments`, with their data, to the output `file`, through `buffer`.
 fn add_each<F: Files>(
     alloc: Global,
     files: &mut F,
@@ -65,7 +65,7 @@ fn add_each<F: Files>(
     Ok(())
 }
 
-/// Appends AttachedFiles with their data, in sequence.
+/// Appends the AttachedFiles of all `attachments`, with their data, in sequence, to the output `file`.
 pub(crate) fn add_attachments<F: Files>(
     alloc: Global,
     files: &mut F,

@@ -17,7 +17,8 @@ use mkv_schema::ids::CUES;
 use output_model::{CuePoint, Seek};
 use std::alloc::{AllocError, Global};
 
-// Appends the Cues of `points`, if there are any, and its Seek. `out` begins `at` bytes inside the Segment.
+// Appends the Cues with `points`, if there are any, to `out`, and their Seek to `seeks`. `out` begins `at` bytes inside
+// the Segment.
 fn add_cues(
     out: &mut Bytes,
     seeks: &mut Vec<Seek>,
@@ -35,7 +36,8 @@ fn add_cues(
     Ok(())
 }
 
-// Appends a tree with the ID `id`, if there is one, and its Seek. `out` begins `at` bytes inside the Segment.
+// Appends the record `tree` with the ID `id`, if present, to `out`, and its Seek to `seeks`. `out` begins `at` bytes
+// inside the Segment.
 fn add_tree_of(
     out: &mut Bytes,
     seeks: &mut Vec<Seek>,
@@ -53,8 +55,8 @@ fn add_tree_of(
     Ok(())
 }
 
-/// Returns the elements after the Clusters: the Cues of `points`, Chapters and Tags, if present. The first one begins
-/// `at` bytes inside the Segment. Their Seeks are appended to `seeks`.
+/// Returns the bytes of the Elements after the Clusters: the Cues with `points`, Chapters and Tags, if present. The
+/// first one begins `at` bytes inside the Segment. Appends their Seeks to `seeks`.
 pub fn back_octets(
     alloc: Global,
     at: u64,

@@ -13,7 +13,7 @@ use mkv_schema::ids::{
 use output_model::CuePoint;
 use std::alloc::AllocError;
 
-// Returns the length of the body of a point's CueTrackPositions.
+// Returns the length in bytes of the content of the CueTrackPositions for `point`.
 #[tactic(auto, unfolding(ebml_numbers::specs::Number::is_id))]
 fn positions_len(point: &CuePoint) -> u64
     ensures exact { result ≡ length (positions_element point.now).body }
@@ -24,7 +24,7 @@ fn positions_len(point: &CuePoint) -> u64
         + uint_len(CUE_RELATIVE_POSITION, point.relative)
 }
 
-// Returns the length of the body of a CuePoint.
+// Returns the length in bytes of the content of the CuePoint for `point`.
 #[tactic(auto, unfolding(ebml_numbers::specs::Number::is_id))]
 fn point_body_len(point: &CuePoint) -> u64
     ensures exact { result ≡ length (point_element point.now).body }
@@ -33,7 +33,7 @@ fn point_body_len(point: &CuePoint) -> u64
     uint_len(CUE_TIME, point.tick) + element_len(CUE_TRACK_POSITIONS, positions_len(point))
 }
 
-// Returns the length of a CuePoint in bytes.
+// Returns the length in bytes of the CuePoint Element for `point`.
 #[tactic(auto, unfolding(ebml_numbers::specs::Number::is_id))]
 fn point_len(point: &CuePoint) -> u64
     ensures exact { result ≡ length (octets_of (point_element point.now)) }
@@ -42,7 +42,7 @@ fn point_len(point: &CuePoint) -> u64
     element_len(CUE_POINT, point_body_len(point))
 }
 
-// Appends the CueTrackPositions of a cue point.
+// Appends the CueTrackPositions for `point`.
 #[tactic(auto, unfolding(ebml_numbers::specs::Number::is_id))]
 fn put_positions(out: &mut Bytes, point: &CuePoint) -> Result<(), AllocError>
     ensures ok { OnOk result (out.new ≡ out.old ++ octets_of (positions_element point.now)) }
@@ -54,7 +54,7 @@ fn put_positions(out: &mut Bytes, point: &CuePoint) -> Result<(), AllocError>
     Ok(())
 }
 
-// Appends a CuePoint.
+// Appends the CuePoint Element for `point`.
 #[tactic(auto, unfolding(ebml_numbers::specs::Number::is_id))]
 fn put_point(out: &mut Bytes, point: &CuePoint) -> Result<(), AllocError>
     ensures ok { OnOk result (out.new ≡ out.old ++ octets_of (point_element point.now)) }
@@ -65,7 +65,7 @@ fn put_point(out: &mut Bytes, point: &CuePoint) -> Result<(), AllocError>
     Ok(())
 }
 
-// Returns the length of CuePoints in bytes.
+// Returns the length in bytes of the CuePoint Elements for `points`.
 fn points_len(points: &[CuePoint]) -> u64
     requires { length points.now ≤ 2 ^ 20 }
     ensures exact { result ≡ length (joined (map point_element points.now)) }
@@ -78,7 +78,7 @@ fn points_len(points: &[CuePoint]) -> u64
     total
 }
 
-// Appends CuePoints in sequence.
+// Appends the CuePoint Elements for `points`, in sequence.
 fn put_points(out: &mut Bytes, points: &[CuePoint]) -> Result<(), AllocError>
     ensures ok { OnOk result (out.new ≡ out.old ++ joined (map point_element points.now)) }
 {

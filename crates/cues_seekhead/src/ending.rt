@@ -25,7 +25,7 @@ use mkv_io::{Bytes, FileId, Files, Reads, RemuxEnd as OutEnd};
 use output_model::{CuePoint, Seek};
 use std::alloc::{AllocError, Global};
 
-/// Bytes of an output's last writes
+/// Bytes of the last writes of an output, which finish it
 #[derive(Drop)]
 pub(crate) struct Ending {
     // elements after the Clusters
@@ -36,8 +36,8 @@ pub(crate) struct Ending {
 }
 
 impl Ending {
-    /// Returns the bytes after the Clusters, the area, and the Segment's size. The first byte is `len` bytes inside
-    /// the Segment. An output longer than a size can express fails like out of memory.
+    /// Computes the bytes after the Clusters, the area at the Segment's start, and the Segment's size. The first byte
+    /// is `len` bytes inside the Segment. An output longer than a size can express fails as if memory ran out.
     pub(crate) fn new(
         alloc: Global,
         len: u64,
@@ -60,8 +60,8 @@ impl Ending {
         Ok(Ending { back, area, total })
     }
 
-    /// Appends the elements after the Clusters, and then writes the area and the size. The Segment's body begins at
-    /// byte `start` of the file.
+    /// Appends the Elements after the Clusters to `file`, and then writes the area and the Segment's size. The
+    /// Segment's content begins at the offset `start` of the file.
     pub(crate) fn write<F: Files>(
         &self,
         files: &mut F,

@@ -21,14 +21,14 @@ use mkv_schema::ids::{ATTACHMENTS, INFO, TRACKS};
 use output_model::{AREA, Attachment, Front, Seek};
 use std::alloc::{AllocError, Global};
 
-/// Start of an output
+/// Start of an output, which is written first
 #[derive(Drop)]
 pub struct Opening {
-    /// First bytes, up to the first AttachedFile or else up to the Clusters
+    /// First bytes, up to the first AttachedFile or else up to the first Cluster
     pub octets: Bytes,
-    /// Places of the elements before the Clusters
+    /// Positions of the Elements before the first Cluster, for the SeekHead
     pub seeks: Vec<Seek>,
-    /// Length of the Segment's body before the Clusters, AttachedFiles included
+    /// Length in bytes of the Segment's content before the first Cluster, AttachedFiles included
     pub len: u64,
 }
 
@@ -71,7 +71,8 @@ fn put_segment(out: &mut Bytes) -> Result<(), AllocError>
     Ok(())
 }
 
-/// Returns the number of bytes before the Segment's body: the EBML header, the Segment's ID and its size.
+/// Returns the number of bytes before the Segment's content: the EBML header, the Segment's ID and its size. `webm` is
+/// true if the output is WebM.
 pub fn body_start(webm: bool) -> u64
     ensures { result ≡ body_start webm }
 {
@@ -79,7 +80,7 @@ pub fn body_start(webm: bool) -> u64
     (ebml + SEGMENT_HEADER.len()) as u64
 }
 
-// Returns the length of all AttachedFiles with their data.
+// Returns the length in bytes of all AttachedFiles of `attachments`, with their data.
 fn attachments_len(attachments: &[Attachment]) -> Result<u64, AllocError>
     ensures exact { IfOk result (λ len. len ≡ sum_by attached_total attachments.now) }
     ensures most { IfOk result (λ len. len ≤ longest) }
@@ -91,8 +92,8 @@ fn attachments_len(attachments: &[Attachment]) -> Result<u64, AllocError>
     Ok(total)
 }
 
-// Appends the header of Attachments and its Seek, if there are any. Returns the length of the AttachedFiles, which
-// follow.
+// Appends the header of Attachments, if there are any, to `out`, and its Seek to `seeks`. `out` begins `at` bytes
+// inside the Segment. Returns the length in bytes of the AttachedFiles, which follow.
 #[tactic(auto, unfolding(ebml_numbers::specs::Number::is_id))]
 fn add_attachments(
     out: &mut Bytes,
@@ -114,7 +115,8 @@ fn add_attachments(
     Ok(len)
 }
 
-// Returns an open output up to its Clusters, with `rest` after its area.
+// Returns the bytes of an output before its first Cluster, whose size isn't known yet, with `rest` after the area for
+// its SeekHead.
 fn head_octets(alloc: Global, webm: bool, rest: &Bytes) -> Result<Bytes, AllocError>
     ensures { IfOk result (λ out. out ≡ file_with webm unknown_size open_area rest.now) }
 {
@@ -126,8 +128,8 @@ fn head_octets(alloc: Global, webm: bool, rest: &Bytes) -> Result<Bytes, AllocEr
     Ok(out)
 }
 
-/// Returns the start of an output with the elements `front` before its Clusters. An output longer than a size can
-/// express fails like out of memory.
+/// Returns the start of an output with the Elements `front` before its first Cluster. An output longer than a size can
+/// express fails as if memory ran out.
 pub fn open_octets(alloc: Global, front: &Front) -> Result<Opening, AllocError>
     requires info { id_of front.now.info ≡ INFO_ID }
     requires tracks { id_of front.now.tracks ≡ TRACKS_ID }

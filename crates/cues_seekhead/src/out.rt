@@ -55,8 +55,8 @@ impl Model for OutFile {
 }
 
 impl OutFile {
-    /// Creates an output, and writes the elements before its Clusters. Only the data of attached files are read, 64
-    /// KiB at once. If it fails, no file of the output is open.
+    /// Creates the output `name`, and writes the Elements before its first Cluster. Only the data of attached files are
+    /// read, 64 KiB at once. If it fails, no file of the output is open.
     pub fn begin<F: Files>(
         alloc: Global,
         files: &mut F,
@@ -92,8 +92,9 @@ impl OutFile {
         }
     }
 
-    /// Adds a cue point to a block of the next Cluster. The block's element begins `relative` bytes after the
-    /// Cluster's header. Only the first 1,048,576 points are kept.
+    /// Adds a cue point for a block of the next Cluster, at the tick `tick` of the output track `lane`, counted from 1.
+    /// The block's Element begins `relative` bytes after the Cluster's header. Only the first 1,048,576 points are
+    /// kept.
     pub fn cue(&mut self, tick: u64, lane: u8, relative: u64) -> Result<(), AllocError>
         ensures ok { OnOk result (KeepsPoint tick lane relative self.old self.new) }
         ensures err { OnErr result (self.new ≡ self.old) }
@@ -164,7 +165,7 @@ impl OutFile {
         done
     }
 
-    // Does the work of `finish` except closing the file.
+    // Appends Chapters, Tags and Cues and does the last writes, as `finish`, but doesn't close the file.
     fn write_end<F: Files>(
         self,
         files: &mut F,
@@ -201,7 +202,8 @@ impl OutFile {
     }
 }
 
-// Writes the elements before the Clusters. `octets` has their bytes up to the first AttachedFile.
+// Writes the Elements `front` before the first Cluster to `file`. `octets` has their bytes up to the first
+// AttachedFile.
 fn write_front<F: Files>(
     alloc: Global,
     files: &mut F,

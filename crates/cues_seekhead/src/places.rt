@@ -15,7 +15,7 @@ use std::alloc::AllocError;
 // Maximum number that a size of eight bytes can express: RFC 8794, section 6.2 (Unknown Data Size)
 const LONGEST: u64 = 0xFF_FFFF_FFFF_FFFE;
 
-/// Returns `len`, or fails like out of memory if a size can't express it.
+/// Returns the length `len`, or fails as if memory ran out if a size can't express it.
 pub fn sized(len: u64) -> Result<u64, AllocError>
     ensures { IfOk result (λ same. (same ≡ len) × (same ≤ longest)) }
 {
@@ -25,15 +25,16 @@ pub fn sized(len: u64) -> Result<u64, AllocError>
     Ok(len)
 }
 
-// Returns the place of the next element: after `out`, which begins `at` bytes inside the Segment. Fails like out of
-// memory if the place is too large.
+// Returns the position of the next Element in the Segment: after `out`, which begins `at` bytes inside it. Fails as if
+// memory ran out if the position is too large.
 fn place_behind(at: u64, out: &Bytes) -> Result<u64, AllocError>
     ensures { IfOk result (λ place. place ≡ at + length out.now) }
 {
     at.checked_add(out.len() as u64).ok_or(AllocError)
 }
 
-/// Appends the Seek of the next element.
+/// Appends to `seeks` the Seek of the next Element, which has the ID `id` and follows `out`. `out` begins `at` bytes
+/// inside the Segment.
 pub(crate) fn add_seek(
     seeks: &mut Vec<Seek>,
     id: u32,
@@ -47,7 +48,8 @@ pub(crate) fn add_seek(
     Ok(())
 }
 
-/// Appends a tree with the ID `id`, and its Seek.
+/// Appends the record `tree` with the ID `id` to `out`, and its Seek to `seeks`. `out` begins `at` bytes inside the
+/// Segment.
 pub(crate) fn add_tree(
     out: &mut Bytes,
     seeks: &mut Vec<Seek>,

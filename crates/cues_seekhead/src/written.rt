@@ -12,7 +12,7 @@ use ebml_tree::Tree;
 use mkv_io::Bytes;
 use std::alloc::AllocError;
 
-/// Appends the shortest header of an element with `len` bytes after it.
+/// Appends the shortest header of an Element with the ID `id` and `len` bytes of content.
 pub(crate) fn put_header(out: &mut Bytes, id: u32, len: u64) -> Result<(), AllocError>
     requires id { IsTrue (is_id id) }
     requires len { len < all_ones 8 }
@@ -23,7 +23,7 @@ pub(crate) fn put_header(out: &mut Bytes, id: u32, len: u64) -> Result<(), Alloc
     Ok(())
 }
 
-/// Returns the length of an element with `len` bytes after its header.
+/// Returns the length in bytes of an Element with the ID `id` and `len` bytes of content, with the shortest header.
 pub(crate) fn element_len(id: u32, len: u64) -> u64
     requires id { IsTrue (is_id id) }
     requires len { len < all_ones 8 }

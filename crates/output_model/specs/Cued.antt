@@ -11,13 +11,13 @@ use Rattle.output_model.specs.Document.{Front, Document, cues_for}
 use Rattle.output_model.specs.declared.rule.CueRule.{CueRule}
 use Rattle.output_model.specs.declared.rule.CueRule.TheVariants.{Never, Key, All}
 
--- A block gets a cue point by the rule of its output track; `key` is true if it is a keyframe.
+-- A block gets a cue point by the given rule of its output track; `key` is true if it is a keyframe.
 abbrev pub is_cue_by : CueRule → Bool → Bool
 is_cue_by Never key = false
 is_cue_by Key key = key
 is_cue_by All key = true
 
--- The block gets a cue point by the rule of its output track; the rules are in the order of the tracks from 1 on.
+-- The block `b` gets a cue point; `rules` has the rule of each output track, in their order from track 1 onwards.
 abbrev pub is_cue : List CueRule → OutputBlock → Bool
 is_cue rules b = is_cue_by (unwrap_or (slice_get rules (b.lane - 1)) Never) b.key
 

@@ -9,11 +9,12 @@ use Rattle.output_model.specs.Cluster.{OutputCluster, timestamp_element, cluster
 
 -- ---- the points of blocks
 
--- the cue point of a block. Its Cluster is at the offset `cluster` in the Segment, and its Element at the offset `relative` in the Cluster.
+-- the cue point for the block `b`. Its Cluster is at the offset `cluster` in the Segment's content, and its Element at the offset `relative` in the
+-- Cluster's.
 abbrev pub point_of : ℕ → ℕ → OutputBlock → CuePoint
 point_of cluster relative b = record { tick = b.tick; lane = b.lane; cluster = cluster; relative = relative }
 
--- the cue point, if the block gets one
+-- the cue point `point`, if its block gets one (`cued`)
 abbrev pub points_where : Bool → CuePoint → List CuePoint
 points_where cued point = if cued then point ∷ [] else []
 

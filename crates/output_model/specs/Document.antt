@@ -14,14 +14,14 @@ use Rattle.output_model.specs.Cluster.{OutputCluster, cluster_element}
 use Rattle.output_model.specs.Cues.{points_from, cues_elements}
 use Rattle.output_model.specs.SeekHead.{area_elements, open_area, seeks_from}
 
--- the part before the Clusters: whether it is WebM, the Info, the Tracks, and the AttachedFiles, each with its FileData
+-- the Elements before the first Cluster of an output: whether it is WebM, the Info, the Tracks, and the AttachedFiles, each with its FileData
 pub record Front : Type 0 where
   pub webm : Bool
   pub info : Node
   pub tracks : Node
   pub attachments : List Node
 
--- an output: the part before the Clusters; the Clusters; the cue points, in the order of their blocks; Chapters and Tags, if there are any
+-- an output: the Elements before its first Cluster, the Clusters, the cue points in the order of their blocks, and Chapters and Tags, if present
 pub record Document : Type 0 where
   pub front : Front
   pub clusters : List OutputCluster
@@ -31,7 +31,7 @@ pub record Document : Type 0 where
 
 -- ---- the EBML header
 
--- the DocType of an output, WebM or Matroska
+-- the DocType of an output; the argument is true for WebM
 abbrev pub doc_type : Bool → List ℕ
 doc_type webm = if webm then codes "webm" else codes "matroska"
 
@@ -44,25 +44,25 @@ ebml_element webm = master_element EBML (
 
 -- ---- the Elements in the Segment after the area
 
--- a tree as an Element in its normal form
+-- the tree `n` as an Element in its normal form
 abbrev pub tree_element : Node → Element
 tree_element n = element (id_of n) (content n)
 
--- a tree as an Element, or nothing if there is none
+-- the given tree as an Element, or nothing if there is none
 abbrev pub tree_elements : Option Node → List Element
 tree_elements None = []
 tree_elements (Some n) = tree_element n ∷ []
 
--- the Attachments Element, or nothing without attachments
+-- the Attachments with the given AttachedFiles, or nothing without any
 abbrev pub attachments_elements : List Node → List Element
 attachments_elements [] = []
 attachments_elements (n ∷ ns) = master_element ATTACHMENTS (map tree_element (n ∷ ns)) ∷ []
 
--- the Elements before the Clusters
+-- the Elements before the first Cluster, after the area for the SeekHead
 abbrev pub front_elements : Front → List Element
 front_elements f = tree_element f.info ∷ tree_element f.tracks ∷ attachments_elements f.attachments
 
--- the Clusters of an output as Elements
+-- the Clusters `cs` as Elements
 abbrev pub clusters_elements : List OutputCluster → List Element
 clusters_elements cs = map cluster_element cs
 
@@ -81,47 +81,48 @@ elements_behind_area d = front_elements d.front ++ (clusters_elements d.clusters
 
 -- ---- offsets in bytes in the Segment
 
--- the offset of the first Cluster in the Segment
+-- the offset of the first Cluster in the Segment's content, after the area and the Elements `f`
 abbrev pub clusters_at : Front → ℕ
 clusters_at f = AREA + length (joined (front_elements f))
 
--- the offset of the Elements after the Clusters
+-- the offset in the Segment's content of the Elements after the Clusters of the document `d`
 abbrev pub back_at : Document → ℕ
 back_at d = clusters_at d.front + length (joined (clusters_elements d.clusters))
 
--- the offsets of the Elements other than Clusters, for the SeekHead
+-- the positions of the Elements of the document `d` other than Clusters, for its SeekHead
 abbrev pub seeks_of : Document → List Seek
 seeks_of d = seeks_from AREA (front_elements d.front) ++ seeks_from (back_at d) (back_elements d)
 
--- the cue points of the blocks that pass the test, up to the limit
+-- the cue points for the blocks of the Clusters `cs` that `cued` chooses, up to the maximum number; the Elements `front` precede the Clusters
 abbrev pub cues_for : (OutputBlock → Bool) → Front → List OutputCluster → List CuePoint
 cues_for cued front cs = take MAX_CUES (points_from cued (clusters_at front) cs)
 
 -- ---- the file
 
--- the EBML header; a Segment whose size has the bytes `size`; the area; and the bytes `rest` after it
+-- the content of an output: the EBML header, the Segment's ID, its size with the bytes `size`, the area, and the bytes `rest` after it
 abbrev pub file_with : Bool → List ℕ → List Element → List ℕ → List ℕ
 file_with webm size area rest = octets_of (ebml_element webm) ++ (id_octets SEGMENT ++ (size ++ (joined area ++ rest)))
 
--- the size of a Segment with `rest` bytes after its area
+-- the Segment's size as eight bytes, with `rest` bytes after the area
 abbrev pub segment_size : ℕ → List ℕ
 segment_size rest = size_octets (AREA + rest) 8
 
--- an unknown size, whose data bits are all 1
+-- an unknown size in eight bytes, whose data bits are all 1
 abbrev pub unknown_size : List ℕ
 unknown_size = size_octets (all_ones 8) 8
 
--- the bytes of an output: its EBML header, and its Segment
+-- the content of the document `d`: its EBML header, and its Segment
 abbrev pub layout : Document → List ℕ
 layout d =
     let rest = joined (elements_behind_area d) in
     file_with d.front.webm (segment_size (length rest)) (area_elements (seeks_of d)) rest
 
--- an output that is being written, with the bytes `rest` after the part before the Clusters. Its size is unknown, and its area is one Void.
+-- the content of an output that is being written, with the bytes `rest` after the Elements `f` before its first Cluster. Its size is unknown, and its
+-- area is one Void.
 abbrev pub opened_with : Front → List ℕ → List ℕ
 opened_with f rest = file_with f.webm unknown_size open_area (joined (front_elements f) ++ rest)
 
--- an output that is complete except for its Segment's size and its SeekHead. All Clusters and the Elements after them are written, the size is
--- unknown, and the area is one Void.
+-- the content of the document `d` before its last two writes. All Clusters and the Elements after them are written, the Segment's size is unknown,
+-- and the area is one Void.
 abbrev pub opened : Document → List ℕ
 opened d = opened_with d.front (joined (clusters_elements d.clusters) ++ joined (back_elements d))

@@ -7,25 +7,25 @@ use Rattle.mkv_schema.specs.declared.element.Header.{Header}
 use Rattle.mkv_schema.specs.Element.{octets_between}
 use Rattle.mkv_schema.specs.Elements.{Run}
 
--- an Element as it is written: its ID, the width of its size in bytes, and its body
+-- an Element as it is written: its ID, the width of its size in bytes, and its content
 pub record Element : Type 0 where
   pub id : ℕ
   pub width : ℕ
   pub body : List ℕ
 
--- the header of an Element: its ID and its size
+-- the header of the Element `e`: its ID and its size
 abbrev pub header_of : Element → List ℕ
 header_of e = id_octets e.id ++ size_octets (length e.body) e.width
 
--- the bytes of an Element: its header and its body
+-- the bytes of the Element `e`: its header and its content
 abbrev pub octets_of : Element → List ℕ
 octets_of e = header_of e ++ e.body
 
--- the bytes of Elements in sequence
+-- the bytes of the Elements `es`, in sequence
 abbrev pub joined : List Element → List ℕ
 joined es = flat_map octets_of es
 
--- The Element has a valid ID. Its width can hold its size, which isn't an unknown one.
+-- The Element `e` can be written: it has a valid ID, and its width can hold its size, which isn't an unknown one.
 pub record IsElement (e : Element) : Type 0 where
   pub id_stands : is_id e.id ≡ true
   pub some : 1 ≤ e.width
@@ -34,15 +34,15 @@ pub record IsElement (e : Element) : Type 0 where
 
 -- ---- Elements with the shortest header
 
--- the Element with this ID and body, with the shortest size
+-- the Element with the ID `id` and the content `body`, with the shortest size
 abbrev pub element : ℕ → List ℕ → Element
 element id body = record { id = id; width = least_size_width (length body); body = body }
 
--- the Element `id` with an unsigned integer in its fewest bytes
+-- the Element with the ID `id` and the unsigned integer `value` in its fewest bytes
 abbrev pub uint_element : ℕ → ℕ → Element
 uint_element id value = element id (uint_octets value)
 
--- the master `id` with the children `children`
+-- the master Element with the ID `id` and the children `children`
 abbrev pub master_element : ℕ → List Element → Element
 master_element id children = element id (joined children)
 
@@ -54,19 +54,19 @@ void_element total =
 
 -- ---- its place
 
--- The content has the bytes `octets` at the offset `p`.
+-- The content `bytes` has the bytes `octets` at the offset `p`.
 abbrev pub HoldsAt : List ℕ → ℕ → List ℕ → Type 0
 HoldsAt bytes p octets = octets_between bytes p (p + length octets) ≡ octets
 
--- the header of an Element at the offset `p`
+-- the header of the Element `e` at the offset `p` of a file
 abbrev pub header_in_place : ℕ → Element → Header
 header_in_place p e = record { id = e.id; offset = p; body = p + length (header_of e); size = Known (length e.body) }
 
--- the headers of Elements in sequence from the offset `p` on
+-- the headers of Elements in sequence from the offset `p` of a file onwards
 abbrev pub headers_in_place : ℕ → List Element → List Header
 headers_in_place p [] = []
 headers_in_place p (e ∷ es) = header_in_place p e ∷ headers_in_place (p + length (octets_of e)) es
 
--- the run with the Elements `hs` before it
+-- the run `run` of Elements with the Elements `hs` before it
 abbrev pub all_in_front : List Header → Run → Run
 all_in_front hs run = record { list = hs ++ run.list; damage = run.damage; end = run.end }

@@ -5,6 +5,6 @@ use Rattle.output_model.specs.Attached.{attached_file}
 use Rattle.output_model.specs.Document.{Front}
 use Rattle.output_model.specs.declared.front.Front as given
 
--- the part before the Clusters, with the data in the files
+-- the Elements `f` before the first Cluster of an output, with the data of attached files in `files`
 abbrev pub front_with : LiveFiles → given.Front → Front
 front_with files f = record { webm = f.webm; info = f.info; tracks = f.tracks; attachments = map (attached_file files) f.attachments }

@@ -6,13 +6,13 @@ use Rattle.mkv_schema.specs.Element.{Setting, in_master}
 use Rattle.mkv_schema.specs.Elements.{children_in}
 use Rattle.output_model.specs.Element.{Element, IsElement, HoldsAt, joined, headers_in_place}
 
--- If the body of a master is Elements in sequence, its children are these Elements, at their offsets.
+-- If the content of a master is Elements in sequence, its children are read as these Elements, at their offsets.
 abbrev pub ElementsAreRead : Type 0
 ElementsAreRead =
     (s : Setting) (bytes : List ℕ) (es : List Element) (p : ℕ) → s.display ≡ false → All IsElement es → HoldsAt bytes p (joined es)
     → children_in s bytes p (p + length (joined es)) ≡ record { list = headers_in_place p es; damage = None; end = p + length (joined es) }
 
--- The headers are headers of Elements that the content has from the offset `p` up to `e`.
+-- The headers `hs` belong to Elements in the content `bytes`, in sequence from the offset `p` up to the offset `e`.
 pub record AreWritten (bytes : List ℕ) (p e : ℕ) (hs : List Header) : Type 0 where
   pub elements : List Element
   pub headers : hs ≡ headers_in_place p elements

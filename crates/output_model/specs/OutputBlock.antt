@@ -7,9 +7,9 @@ use Rattle.block_format.specs.Content.{frames_cut}
 use Rattle.output_model.specs.declared.TheConstants.{MAX_PREFIX_LEN}
 use Rattle.output_model.specs.declared.heads.OutHead.{OutHead}
 
--- a block of an output. It has the number of its output track, from 1 on, or 0 if it isn't in an output yet, and its tick. Four flags follow: it
--- is a keyframe, it isn't shown, it may be discarded, it is a group. Then the kind of its lacing, its frames, its duration in ticks, if it has
--- one, and the ticks from it to referenced blocks. `kept` has the copied bytes of other Elements of the group.
+-- a block of an output. `lane` is the number of its output track, counted from 1, or 0 if it isn't in an output yet, and `tick` its tick. Four flags
+-- follow: it is a keyframe, it isn't shown, it may be discarded, it is a group. Then come its lacing, its frames, its duration in ticks if it has
+-- one, and the ticks from it to referenced blocks. `kept` has the bytes of other Elements of its group.
 pub record OutputBlock : Type 0 where
   pub lane : ℕ
   pub tick : ℕ
@@ -25,8 +25,8 @@ pub record OutputBlock : Type 0 where
 
 -- ---- a borrowed block of an output track
 
--- the parts of a block that an output track returns by reference. These are its header fields, the bytes before each frame, the bytes and the
--- sizes of the frames, the referenced ticks, and the copied bytes of the group.
+-- a borrowed block of an output track. It has its head, the bytes before each frame, and the bytes and sizes of the frames. It also has the
+-- references in ticks, and the kept bytes of its group.
 pub record Lent : Type 0 where
   pub head : OutHead
   pub prefix : List ℕ
@@ -35,11 +35,11 @@ pub record Lent : Type 0 where
   pub references : List ℤ
   pub kept : List ℕ
 
--- the frames with the bytes `prefix` before each
+-- the frames `frames`, each with the bytes `prefix` before it
 abbrev pub prefixed : List ℕ → List (List ℕ) → List (List ℕ)
 prefixed prefix frames = map (λ frame. prefix ++ frame) frames
 
--- the block with these parts
+-- the borrowed block `l` as a block of an output; its output track isn't known yet
 abbrev pub lent_block : Lent → OutputBlock
 lent_block l = record {
   lane = 0;
@@ -55,12 +55,12 @@ lent_block l = record {
   kept = l.kept;
 }
 
--- the block in an output, on the output track `lane` at the tick `tick` of its part
+-- the block `b` as it is in an output, on the output track number `lane` at the tick `tick` of its part
 abbrev pub in_output : ℕ → ℕ → OutputBlock → OutputBlock
 in_output lane tick b = record b { lane = lane; tick = tick }
 
--- A block has 1 to 256 frames whose sizes its lace can express, at most 32 MiB together. It has a prefix of at most 4,096 bytes, at most 64
--- references, and at most 32 MiB of other Elements.
+-- A block with these parts is within the limits. It has 1 to 256 frames whose sizes its lacing can express, at most 32 MiB together. Each has a
+-- prefix of at most 4,096 bytes. It has at most 64 references, and at most 32 MiB of kept bytes.
 pub record CanBeLent (kind : Lace) (prefix : ℕ) (sizes : List ℕ) (references kept : ℕ) : Type 0 where
   pub some : 1 ≤ length sizes
   pub most : length sizes ≤ 256
@@ -70,7 +70,7 @@ pub record CanBeLent (kind : Lace) (prefix : ℕ) (sizes : List ℕ) (references
   pub references_most : references ≤ MAX_REFERENCES
   pub kept_most : kept ≤ MAX_BLOCK_LEN
 
--- The block keeps these limits, and its sizes divide its bytes.
+-- The borrowed block `l` is within the limits of a block, and its sizes divide its bytes into frames.
 pub record IsLent (l : Lent) : Type 0 where
   pub limits : CanBeLent l.head.lace (length l.prefix) l.sizes (length l.references) (length l.kept)
   pub whole : length l.body ≡ sum l.sizes
