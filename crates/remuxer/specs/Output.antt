@@ -54,18 +54,19 @@ pub record HasRecords {S : Type 0} (r : Ghosts S) (f : writing.Ghosts S) (files 
   pub chapters : IfSome its_chapters (IsRead CHAPTERS)
   pub tags : IfSome its_tags (λ n. id_of n ≡ TAGS)
 
--- No file of the link was opened with a name that may be written.
+-- The file of the link wasn't opened with a name that an output may have. `holder` has the name of each live file; `split` and `output` are the
+-- command line's.
 abbrev pub IsUnwrittenLink : (ℕ → List ℕ) → Bool → List ℕ → Link → Type 0
 IsUnwrittenLink holder split output (Track t) = may_be_written split output (holder t.file.n) ≡ false
 IsUnwrittenLink holder split output (Entries e) = ⊤
 
--- No file of the merge `m` was opened with a name that may be written. `holder` has the name of each file, and `output` is the name on the
--- command line.
+-- No file of the merge `m` was opened with a name that an output may have. `holder` has the name of each live file; `split` and `output` are the
+-- command line's.
 abbrev pub IsUnwritten : (ℕ → List ℕ) → Bool → List ℕ → MergeSeen → Type 0
 IsUnwritten holder split output m = All (λ (q : Queue). All (IsUnwrittenLink holder split output) q.lane.links) m.queues
 
--- An output with the name `name` can be written for the current part. Its blocks can be taken with the output's ticks, and no file of a link has
--- this name. The elements outside the Clusters can be written.
+-- An output `name` with the description `o` can be written for the current part of `b`. Its blocks can be read, and have the output's ticks. No file
+-- of a link has this name, and the Elements around the Clusters can be written.
 pub record CanWrite {S : Type 0} (r : Ghosts S) (f : writing.Ghosts S) (files : S) (o : OutputSpec) (name : List ℕ) (b : PlacedBlocks) : Type 0 where
   pub gives : CanGive (live_files r files) b
   pub begun : IsPartBegun b
@@ -73,7 +74,7 @@ pub record CanWrite {S : Type 0} (r : Ghosts S) (f : writing.Ghosts S) (files : 
   pub apart : IsApart (f.holder files) (name ∷ []) b.merge
   pub records : HasRecords r f files name o.front o.chapters o.tags
 
--- the length of the data of the attachments of an output
+-- the number of bytes of data of the attached files of the output `o`
 abbrev pub data_of : OutputSpec → ℕ
 data_of o = sum_by (λ (a : Attachment). a.len) o.front.attachments
 
@@ -83,39 +84,41 @@ data_of o = sum_by (λ (a : Attachment). a.len) o.front.attachments
 abbrev pub IsShort : Document → Type 0
 IsShort d = length (layout d) ≤ LONGEST_FILE
 
--- The name has the layout of `d`, which is the result of its draft, and other names are unchanged. If names are visible to the proof, it is at
--- most the maximum length of a file.
+-- The file `name` has the content of the document `d`, as its draft leaves it, and other names are unchanged from `old` to `new`. If the names are
+-- visible to the proof, the content isn't longer than a file may be.
 pub record WritesLayout (old new : Names) (name : List ℕ) (d : Document) : Type 0 where
   pub names : new ≡ with_content old name (layout d)
   pub becomes : output_of (draft_of name d) ≡ record { name = name; content = layout d }
   pub short : IfVisible old (λ world. IsShort d)
 
--- The name has the layout of `d`; after an error its content is one of the draft, or unchanged. Other names are unchanged.
+-- From `old` to `new` the document `d` was written to the file `name`. After an error its content is one that its draft may have, or unchanged. Other
+-- names are unchanged.
 abbrev pub Writes : {T : Type 0} → Names → Names → List ℕ → Document → Result T RemuxEnd → Type 0
 Writes old new name d (Ok _) = WritesLayout old new name d
 Writes old new name d (Err _) = AreWrittenInOrder old new (draft_of name d ∷ [])
 
--- The output has the blocks of the current part, if the links' files are visible to the proof.
+-- From `old` to `new` the current part of `b` was written to the file `name`, as `Writes` requires. The links' files must be visible to the proof.
 abbrev pub WritesPart : {S T : Type 0} → Ghosts S → writing.Ghosts S → S → S → OutputSpec → List ℕ → PlacedBlocks → Result T RemuxEnd → Type 0
 WritesPart r f old new o name b result =
     IsTold (live_files r old) b.merge → Writes (f.names old) (f.names new) name (document_with (live_files r old) o (part_in (live_files r old) b)) result
 
--- the Chapters cut to a part from the tick `start` to `end`, if the output is split
+-- the Chapters of a part from the tick `start` to the tick `end`, if the output `o` is cut into parts; otherwise none
 abbrev pub chapters_cut : OutputSpec → ℕ → Option ℕ → Option Node
 chapters_cut o start end = if o.split then option_and_then (cut (stretch_of o.limits.scale start end)) o.chapters else None
 
--- the Chapters of a part: `part` if the output is split, otherwise all
+-- the Chapters that are written to a part of the output `o`: `part`, the ones in its period, or without cuts all
 abbrev pub chapters_in : OutputSpec → Option Node → Option Node
 chapters_in o part = if o.split then part else o.chapters
 
--- The output in `w` can take the current part.
+-- The output in `w` can get the blocks of the current part of `b`, and its last Cluster.
 pub record CanFill {S : Type 0} (r : Ghosts S) (f : writing.Ghosts S) (files : S) (o : OutputSpec) (w : BlockWriter) (b : PlacedBlocks) : Type 0 where
   pub can : CanTake r f files w b
   pub begun : IsPartBegun b
   pub scale : b.cuts.scale ≡ o.limits.scale
   pub chapters : IfSome o.chapters (IsRead CHAPTERS)
 
--- The output has all its Clusters with the part's blocks, its Chapters were cut, and the parts after it are left.
+-- The output in `w` has all its Clusters in `w'`, with the blocks of the current part of `b`. Its Chapters are `chapters`, and `b'` has the later
+-- parts left.
 pub record FillsPart {S : Type 0} (r : Ghosts S) (f : writing.Ghosts S) (o : OutputSpec) (old new : S) (w w' : BlockWriter) (b b' : PlacedBlocks) (chapters : Option Node) : Type 0 where
   pub all : GetsAll r f o.rules (part_in (live_files r old) b).blocks old new w w'
   pub chapters_are : chapters ≡ chapters_cut o (part_in (live_files r old) b).start (part_in (live_files r old) b).end
@@ -123,59 +126,61 @@ pub record FillsPart {S : Type 0} (r : Ghosts S) (f : writing.Ghosts S) (o : Out
   pub few : w.blocks ≤ last_count → w'.blocks ≤ last_count
   pub behind : parts_left (live_files r new) b' ≡ parts_left (live_files r old) b
 
--- The output is filled; after an error its content is one of the draft.
+-- The output was filled as `FillsPart` requires. After an error its content is one that its draft may have.
 abbrev pub FillsOrStaysDraft : {S : Type 0} → Ghosts S → writing.Ghosts S → OutputSpec → S → S → BlockWriter → BlockWriter → PlacedBlocks → PlacedBlocks → Result (Option Node) RemuxEnd → Type 0
 FillsOrStaysDraft r f o old new w w' b b' (Ok chapters) = FillsPart r f o old new w w' b b' chapters
 FillsOrStaysDraft r f o old new w w' b b' (Err _) = StaysDraft r f o.rules (part_in (live_files r old) b).blocks old new w
 
--- The output is filled, if the links' files are visible to the proof.
+-- The output was filled as `FillsOrStaysDraft` requires, if the links' files are visible to the proof.
 abbrev pub Fills : {S : Type 0} → Ghosts S → writing.Ghosts S → OutputSpec → S → S → BlockWriter → BlockWriter → PlacedBlocks → PlacedBlocks → Result (Option Node) RemuxEnd → Type 0
 Fills r f o old new w w' b b' result = IsTold (live_files r old) b.merge → FillsOrStaysDraft r f o old new w w' b b' result
 
--- `w` has the numbers of the part's blocks, Clusters and cue points, and the parts after it are left.
+-- `w` has the numbers of blocks, Clusters and cue points of the current part of `b`, and `b'` has the later parts left. The files were `f` and are
+-- `h`.
 pub record CountsPart (f h : LiveFiles) (o : OutputSpec) (b b' : PlacedBlocks) (w : WrittenPart) : Type 0 where
   pub count : w.blocks ≡ counted 0 (length (part_in f b).blocks)
   pub counts : AreCounts (document_with f o (part_in f b)).clusters (length (document_with f o (part_in f b)).cues) w.counts
   pub behind : parts_left h b' ≡ parts_left f b
 
--- `w` has the numbers of the part, if the links' files are visible to the proof, and the block ahead is after the part.
+-- `w` has the numbers of the current part of `b`, as `CountsPart` requires, if the links' files are visible to the proof. In `b'` the block ahead is
+-- after the part.
 pub record HasWritten (f h : LiveFiles) (o : OutputSpec) (b b' : PlacedBlocks) (w : WrittenPart) : Type 0 where
   pub told : IsTold f b.merge → CountsPart f h o b b' w
   pub over : IsOver b b'
 
--- A part was written as in `HasWritten`, unless the call failed.
+-- Unless the call failed, a part was written with the numbers in its result, as `HasWritten` requires.
 abbrev pub FindsWritten : {S E : Type 0} → Ghosts S → S → S → OutputSpec → PlacedBlocks → PlacedBlocks → Result WrittenPart E → Type 0
 FindsWritten r old new o b b' result = IfOk result (HasWritten (live_files r old) (live_files r new) o b b')
 
 -- ---- all outputs
 
--- the current part, if there is one, and the parts that are left
+-- the current part of `b`, if there is one (`true`), and the parts after it
 abbrev pub parts_begun : LiveFiles → PlacedBlocks → Bool → List Part
 parts_begun f b true = part_in f b ∷ parts_left f b
 parts_begun f b false = []
 
--- an upper bound on the turns that are left, with one more if there is a current part
+-- an upper bound on the turns that `b` has left, with one more if there is a current part (`true`)
 abbrev pub turns_left : PlacedBlocks → Bool → ℕ
 turns_left b true = way b.merge + 1
 turns_left b false = way b.merge
 
--- There is a current part, or all output tracks have ended.
+-- There is a current part of `b` (`true`), or all its output tracks have ended.
 abbrev pub CanBeNext : PlacedBlocks → Bool → Type 0
 CanBeNext b true = IsPartBegun b
 CanBeNext b false = IsEnded b.merge
 
--- The next part was begun, or none is left, and at most `turns` turns are left. The parts `parts` are left, if the links' files are visible to
--- the proof.
+-- The next part was begun from `b` to `b'`, or none is left, and at most `turns` turns are left. The parts `parts` are then left, if the links' files
+-- are visible to the proof.
 pub record FindsPart (f h : LiveFiles) (turns : ℕ) (parts : List Part) (b b' : PlacedBlocks) (begun : Bool) : Type 0 where
   pub begins : CanBeNext b' begun
   pub on : turns_left b' begun ≤ turns
   pub found : IsTold f b.merge → parts_begun h b' begun ≡ parts
 
--- The next remaining part was begun, if any, unless the call failed.
+-- Unless the call failed, the next part was begun from `b` to `b'`, or none is left.
 abbrev pub FindsBehind : {S : Type 0} → Ghosts S → S → S → PlacedBlocks → PlacedBlocks → Result Bool ReadEnd → Type 0
 FindsBehind r old new b b' result = IfOk result (FindsPart (live_files r old) (live_files r new) (turns b) (parts_left (live_files r old) b) b b')
 
--- The first part of all was begun, unless the call failed.
+-- Unless the call failed, the first part of all was begun from `b` to `b'`, or there is none.
 abbrev pub FindsFirst : {S : Type 0} → Ghosts S → S → S → PlacedBlocks → PlacedBlocks → Result Bool ReadEnd → Type 0
 FindsFirst r old new b b' result =
     IfOk result (FindsPart (live_files r old) (live_files r new) (way b.merge + 1) (parts (split_in b) (left (live_files r old) b.merge)) b b')
@@ -184,45 +189,46 @@ FindsFirst r old new b b' result =
 abbrev pub own_name : OutputSpec → ℕ → List ℕ
 own_name o number = name_of o.split o.name number
 
--- the specification of the output `number`, counted from 1, with its own identifiers
+-- the description of the output with the number `number`, counted from 1, with its own identifiers
 abbrev pub own_spec : OutputSpec → ℕ → OutputSpec
 own_spec o number = record o { front = record o.front { info = with_uuids (uuids_at o.uuids o.link number) o.front.info } }
 
--- the output `number` with the part `part`
+-- the output with the number `number`, counted from 1, for the part `part`
 abbrev pub own_output : LiveFiles → OutputSpec → ℕ → Part → PlannedOutput
 own_output f o number part = record { name = own_name o number; blocks = part.blocks; document = document_with f (own_spec o number) part }
 
--- the name of the output after those in `written`
+-- the name of the output after the outputs in `written`
 abbrev pub next_name : OutputSpec → List Written → List ℕ
 next_name o written = own_name o (length written + 1)
 
--- the specification of the output after those in `written`
+-- the description of the output after the outputs in `written`, with its own identifiers
 abbrev pub next_spec : OutputSpec → List Written → OutputSpec
 next_spec o written = own_spec o (length written + 1)
 
--- the output after those in `written`, with the blocks of the part `part`
+-- the output after the outputs in `written`, for the part `part`
 abbrev pub next_output : LiveFiles → OutputSpec → List Written → Part → PlannedOutput
 next_output f o written part = own_output f o (length written + 1) part
 
--- The output `number` has the current part and its own identifiers, if the links' files are visible to the proof.
+-- From `old` to `new` the current part of `b` was written as the output with the number `number`, counted from 1. The links' files must be visible to
+-- the proof.
 abbrev pub WritesOwn : {S T : Type 0} → Ghosts S → writing.Ghosts S → S → S → OutputSpec → ℕ → PlacedBlocks → Result T RemuxEnd → Type 0
 WritesOwn r f old new o number b result = WritesPart r f old new (own_spec o number) (own_name o number) b result
 
--- `w` is the summary of the output, and the parts after it are left.
+-- `w` is the summary of the output with the number `number`, counted from 1, for the current part of `b`. `b'` has the later parts left.
 pub record TellsOwn (f h : LiveFiles) (o : OutputSpec) (number : ℕ) (b b' : PlacedBlocks) (w : Written) : Type 0 where
   pub says : w ≡ written_of (own_output f o number (part_in f b))
   pub behind : parts_left h b' ≡ parts_left f b
 
--- `w` is the summary of the output, if the links' files are visible to the proof, and the block ahead is after the part.
+-- `w` is the summary of the output, as `TellsOwn` requires, if the links' files are visible to the proof. In `b'` the block ahead is after the part.
 pub record HasOwn (f h : LiveFiles) (o : OutputSpec) (number : ℕ) (b b' : PlacedBlocks) (w : Written) : Type 0 where
   pub told : IsTold f b.merge → TellsOwn f h o number b b' w
   pub over : IsOver b b'
 
--- An output was written as in `HasOwn`, unless the call failed.
+-- Unless the call failed, an output was written with the summary in its result, as `HasOwn` requires.
 abbrev pub FindsOwn : {S E : Type 0} → Ghosts S → S → S → OutputSpec → ℕ → PlacedBlocks → PlacedBlocks → Result Written E → Type 0
 FindsOwn r old new o number b b' result = IfOk result (HasOwn (live_files r old) (live_files r new) o number b b')
 
--- The current part can be written as the next output, and no file of a link has a name that may be written.
+-- The current part of `b` can be written as the output after the ones in `written`. No file of a link has a name that an output may have.
 pub record CanWriteNext {S : Type 0} (r : Ghosts S) (f : writing.Ghosts S) (files : S) (o : OutputSpec) (written : List Written) (b : PlacedBlocks) : Type 0 where
   pub gives : CanGive (live_files r files) b
   pub begun : IsPartBegun b
@@ -230,50 +236,52 @@ pub record CanWriteNext {S : Type 0} (r : Ghosts S) (f : writing.Ghosts S) (file
   pub apart : IsUnwritten (f.holder files) o.split o.name b.merge
   pub records : HasRecords r f files (next_name o written) o.front o.chapters o.tags
 
--- One more output was written and is in `written'`, and the parts that were left follow.
+-- The current part of `b` was written as the next output, and is in `written'` after the ones in `written`. `b'` has the later parts left.
 pub record WritesOne {S : Type 0} (r : Ghosts S) (f : writing.Ghosts S) (old new : S) (o : OutputSpec) (b b' : PlacedBlocks) (written written' : List Written) (begun : Bool) : Type 0 where
   pub writes : WritesLayout (f.names old) (f.names new) (next_name o written) (document_with (live_files r old) (next_spec o written) (part_in (live_files r old) b))
   pub added : written' ≡ written ++ written_of (next_output (live_files r old) o written (part_in (live_files r old) b)) ∷ []
   pub behind : parts_begun (live_files r new) b' begun ≡ parts_left (live_files r old) b
 
--- One more output was written; after an error its content is one of the draft, complete or unchanged.
+-- One more output was written, as `WritesOne` requires. After an error its content is one that its draft may have, or complete, or unchanged.
 abbrev pub WritesTold : {S : Type 0} → Ghosts S → writing.Ghosts S → S → S → OutputSpec → PlacedBlocks → PlacedBlocks → List Written → List Written → Result Bool RemuxEnd → Type 0
 WritesTold r f old new o b b' written written' (Ok begun) = WritesOne r f old new o b b' written written' begun
 WritesTold r f old new o b b' written written' (Err _) =
     AreWrittenInOrder (f.names old) (f.names new) (draft_of (next_name o written) (document_with (live_files r old) (next_spec o written) (part_in (live_files r old) b)) ∷ [])
 
--- One more output was written, if the links' files are visible to the proof.
+-- One more output was written, as `WritesTold` requires, if the links' files are visible to the proof.
 abbrev pub WritesNext : {S : Type 0} → Ghosts S → writing.Ghosts S → S → S → OutputSpec → PlacedBlocks → PlacedBlocks → List Written → List Written → Result Bool RemuxEnd → Type 0
 WritesNext r f old new o b b' written written' result = IsTold (live_files r old) b.merge → WritesTold r f old new o b b' written written' result
 
--- The next part was begun, or none is left; there are no attachments any more, and no more turns are left than before.
+-- The next part was begun from `b` to `b'`, or none is left. The description `o'` has no attached files any more, and no more turns are left than
+-- before.
 pub record FindsNext (o o' : OutputSpec) (b b' : PlacedBlocks) (written written' : List Written) (begun : Bool) : Type 0 where
   pub begins : CanBeNext b' begun
   pub spec : o' ≡ record o { front = record o.front { attachments = [] } }
   pub count : length written' ≡ length written + 1
   pub on : turns_left b' begun ≤ way b.merge
 
--- the drafts of the outputs; and their finished contents
+-- the drafts of the outputs, from their start to their finished contents
 abbrev pub drafts_of : List PlannedOutput → List Draft
 drafts_of outputs = map (λ (o : PlannedOutput). draft_of o.name o.document) outputs
 
--- an output with its finished content
+-- the output `o` with the content that it has when it is finished
 abbrev pub laid_out : PlannedOutput → Output
 laid_out o = record { name = o.name; content = layout o.document }
 
--- All outputs have the layouts of their documents, which are the results of their drafts, and other names are unchanged. If names are visible to
--- the proof, each is at most the maximum length of a file.
+-- From `old` to `new` all `outputs` were written: they have the contents of their documents, and other names are unchanged. If the names are visible
+-- to the proof, none is longer than a file may be.
 pub record WritesAll (old new : Names) (outputs : List PlannedOutput) : Type 0 where
   pub names : new ≡ with_outputs old (map laid_out outputs)
   pub become : outputs_of (drafts_of outputs) ≡ map laid_out outputs
   pub short : IfVisible old (λ world. All (λ (o : PlannedOutput). IsShort o.document) outputs)
 
--- All outputs were written. After an error the first ones are complete, the next one has a content of its draft, and other names are unchanged.
+-- From `old` to `new` all `outputs` were written. After an error the first ones are complete, the next one has a content that its draft may have, and
+-- other names are unchanged.
 abbrev pub WritesOutputs : {T : Type 0} → Names → Names → List PlannedOutput → Result T RemuxEnd → Type 0
 WritesOutputs old new outputs (Ok _) = WritesAll old new outputs
 WritesOutputs old new outputs (Err _) = AreWrittenInOrder old new (drafts_of outputs)
 
--- All outputs can be written: no block was placed, and the elements outside the first one's Clusters can be written.
+-- All outputs of `b` can be written. No block has a place yet, and the Elements around the Clusters of the first one can be written.
 pub record CanWriteAll {S : Type 0} (r : Ghosts S) (f : writing.Ghosts S) (files : S) (o : OutputSpec) (b : PlacedBlocks) : Type 0 where
   pub gives : CanGive (live_files r files) b
   pub fresh : IsFresh b
@@ -281,34 +289,34 @@ pub record CanWriteAll {S : Type 0} (r : Ghosts S) (f : writing.Ghosts S) (files
   pub apart : IsUnwritten (f.holder files) o.split o.name b.merge
   pub records : HasRecords r f files (name_of o.split o.name 1) o.front o.chapters o.tags
 
--- the outputs of all parts of the blocks that are left
+-- the outputs for all parts of the blocks that `b` has left, by the contents of the files `f`
 abbrev pub outputs_left : LiveFiles → OutputSpec → PlacedBlocks → List PlannedOutput
 outputs_left f o b = outputs_from f o 1 (parts (split_in b) (left f b.merge))
 
--- All outputs were written, if the links' files are visible to the proof.
+-- From `old` to `new` the outputs for all parts of `b` were written, as `WritesOutputs` requires, if the links' files are visible to the proof.
 abbrev pub WritesParts : {S T : Type 0} → Ghosts S → writing.Ghosts S → S → S → OutputSpec → PlacedBlocks → Result T RemuxEnd → Type 0
 WritesParts r f old new o b result = IsTold (live_files r old) b.merge → WritesOutputs (f.names old) (f.names new) (outputs_left (live_files r old) o b) result
 
--- The summaries of all outputs are right, if the links' files are visible to the proof.
+-- The result has the summaries of the outputs for all parts of `b`, if the links' files are visible to the proof.
 abbrev pub SaysWritten : {S : Type 0} → Ghosts S → S → OutputSpec → PlacedBlocks → Result (List Written) RemuxEnd → Type 0
 SaysWritten r old o b result = IsTold (live_files r old) b.merge → IfOk result (λ written. written ≡ map written_of (outputs_left (live_files r old) o b))
 
--- The bytes that are read are at most those that are due, the links' files once more, and the attachments' data.
+-- From `old` to `new` at most the bytes that are due in `b`, the links' files once more, and the attached files' data are read.
 abbrev pub ReadsParts : {S : Type 0} → Ghosts S → S → S → OutputSpec → PlacedBlocks → Type 0
 ReadsParts r old new o b = r.octets_read new ≤ r.octets_read old + due (live_files r old) b.merge + files_length (live_files r old) b.merge + data_of o
 
--- No file stays open, only names that may be written have changed, and no other file was created or opened.
+-- From `old` to `new` no file stays open, and only names that an output may have changed. No other file was created or opened.
 pub record KeepsUnwritten {S : Type 0} (r : Ghosts S) (f : writing.Ghosts S) (split : Bool) (output : List ℕ) (old new : S) : Type 0 where
   pub names : List (List ℕ)
   pub form : All (λ name. may_be_written split output name ≡ true) names
   pub kept : KeepsOthers r f names old new
 
--- The name can't be written; an opened name never can.
+-- The call creates a file whose name no output may have; opening a file is never such a call.
 abbrev pub IsNotMade : Bool → List ℕ → Asked → Type 0
 IsNotMade split output (Opened name) = ⊤
 IsNotMade split output (Made name) = may_be_written split output name ≡ false
 
--- The merge has the same number of output tracks, and all damaged places were reported, if the links' files are visible to the proof.
+-- From `m` to `m'` the number of output tracks is the same. `m'` has reported all damaged places, if the links' files are visible to the proof.
 pub record Ends (f : LiveFiles) (m m' : MergeSeen) : Type 0 where
   pub lanes : length m'.queues ≡ length m.queues
   pub damages : IsTold f m → told_by m' ≡ damages f m

@@ -28,37 +28,37 @@ first_tick (b ∷ bs) = Some b.tick
 
 -- ---- places
 
--- The block is in the same part as the previous one.
+-- A block with this place is in the same part as the previous one.
 abbrev pub is_same : Place → Bool
 is_same Same = true
 is_same (Next start) = false
 is_same Out = false
 
--- the start tick of the part that a block begins, if any
+-- the tick at the start of the part that a block with this place begins, if it begins one
 abbrev pub start_in : Place → Option ℕ
 start_in Same = None
 start_in (Next start) = Some start
 start_in Out = None
 
--- the bytes of a block that count towards a load: its element, if parts end at a load
+-- the number of bytes of the block `b` that count towards the size of a part: all, or 0 if parts aren't cut by size
 abbrev pub octets_counted : CutsSeen → OutputBlock → ℕ
 octets_counted c b = if is_some c.size then octets_taken b else 0
 
 -- ---- block ahead
 
--- the block of the output track `k`, counted from 0; in the output, track numbers start at 1
+-- the last block of `l`, the output track `k`, counted from 0; in the output, track numbers count from 1
 abbrev pub block_lent : ℕ → LaneSeen → OutputBlock
 block_lent k l = in_lane (k + 1) (lent_block (lent l))
 
--- the block of the output track `k`, in a part that starts at the tick `start`
+-- the last block of `l`, the output track `k`, counted from 0, as it is in a part that starts at the tick `start`
 abbrev pub lent_in : ℕ → ℕ → LaneSeen → OutputBlock
 lent_in start k l = in_part start (block_lent k l)
 
--- the block of an output track of a merge
+-- the last block of the output track `k`, counted from 0, of the merge `m`, as a list
 abbrev pub lent_at : MergeSeen → ℕ → List OutputBlock
 lent_at m k = option_map_or (λ (q : Queue). block_lent k q.lane ∷ []) (slice_get m.queues k) []
 
--- the block ahead, if there is one
+-- the block ahead, if there is one, which is the last one of its output track
 abbrev pub ahead_at : MergeSeen → Option Ahead → List OutputBlock
 ahead_at m None = []
 ahead_at m (Some a) = lent_at m a.lane
@@ -67,35 +67,35 @@ ahead_at m (Some a) = lent_at m a.lane
 abbrev pub lent_ahead : PlacedBlocks → List OutputBlock
 lent_ahead b = ahead_at b.merge b.ahead
 
--- the block ahead and the next ones, or nothing without a block ahead
+-- the block ahead and the blocks `behind`, or nothing without a block ahead
 abbrev pub ahead_of : MergeSeen → Option Ahead → List OutputBlock → List OutputBlock
 ahead_of m None behind = []
 ahead_of m (Some a) behind = lent_at m a.lane ++ behind
 
--- the output track of the block ahead, if this block is in the current part
+-- the number of the output track of the block ahead, counted from 0, if this block is in the current part
 abbrev pub lane_within : Option Ahead → Option ℕ
 lane_within None = None
 lane_within (Some a) = if is_same a.place then Some a.lane else None
 
--- A block is ahead, and it is in the current part.
+-- There is a block ahead, and it is in the current part.
 abbrev pub is_within : Option Ahead → Bool
 is_within ahead = is_some (lane_within ahead)
 
 -- ---- blocks that are left
 
--- the split that decides the places of the blocks
+-- the rule for cuts that decides the places of the blocks of `b`
 abbrev pub split_in : PlacedBlocks → Split
 split_in b = record { spec = b.cuts.spec; size = b.cuts.size; scale = b.cuts.scale; drives = drives_by b.drives }
 
--- the rest of the current part: the block ahead if it is in the part, and the next ones up to the next cut
+-- the blocks that `b` has left of the current part. They are the block ahead, if it is in the part, and the next ones up to the next cut.
 abbrev pub rest_of_part : LiveFiles → PlacedBlocks → List OutputBlock
 rest_of_part f b = if is_within b.ahead then lent_ahead b ++ within (split_in b) (start_of b.cuts) b.cuts.load (left f b.merge) else []
 
--- the blocks after the current part
+-- the blocks that `b` has left after the current part
 abbrev pub behind_part : LiveFiles → PlacedBlocks → List OutputBlock
 behind_part f b = if is_within b.ahead then beyond (split_in b) (start_of b.cuts) b.cuts.load (left f b.merge) else ahead_of b.merge b.ahead (left f b.merge)
 
--- the rest of the current part, which ends at the next block after it, and not before its own start
+-- the rest of the current part of `b`, which ends at the next block after it, and not before its own start
 abbrev pub part_in : LiveFiles → PlacedBlocks → Part
 part_in f b = record {
   start = start_of b.cuts;
@@ -103,38 +103,38 @@ part_in f b = record {
   blocks = map (in_part (start_of b.cuts)) (rest_of_part f b);
 }
 
--- the parts of blocks, the first of them in a section that starts at the tick `start`
+-- the parts of a list of blocks, the first of them in a section that starts at the tick `start`, by the rule `s`
 abbrev pub parts_from : Split → ℕ → List OutputBlock → List Part
 parts_from s start [] = []
 parts_from s start (b ∷ bs) = parts_in s (cut_from s (begun start b) bs)
 
--- the parts after the current one
+-- the parts that `b` has left after the current one
 abbrev pub parts_left : LiveFiles → PlacedBlocks → List Part
 parts_left f b = if is_within b.ahead then parts_in (split_in b) (sections_at (split_in b) (behind_part f b)) else parts_from (split_in b) (start_of b.cuts) (behind_part f b)
 
--- an upper bound on the blocks that are left: the one ahead, and one for each turn of the merge
+-- an upper bound on the blocks that are left: the block ahead if any, and one for each of `way` turns of the merge
 abbrev pub turns_with : ℕ → Option Ahead → ℕ
 turns_with way None = way
 turns_with way (Some a) = way + 1
 
--- an upper bound on the blocks that are left: the one ahead, and one for each turn of the merge
+-- an upper bound on the blocks that `b` has left: the block ahead if any, and one for each turn of the merge
 abbrev pub turns : PlacedBlocks → ℕ
 turns b = turns_with (way b.merge) b.ahead
 
 -- ---- invariants
 
--- No block was placed, and the start is 0.
+-- No block of `b` has a place yet, and the start is tick 0.
 pub record IsFresh (b : PlacedBlocks) : Type 0 where
   pub placed : b.cuts.start ≡ None
   pub start : b.start ≡ 0
 
--- A load limit has 64 bits, and excludes times.
+-- A size of parts, `limit`, has 64 bits, and excludes times for cuts.
 pub record IsLimit (spec : SplitSpec) (limit : ℕ) : Type 0 where
   pub fits : limit < 2 ^ 64
   pub whole : spec ≡ Whole
 
--- Blocks can be taken among the files `f`. The merge can continue with at most 64 output tracks of the output's scale, each marked as driving or
--- not. The start of the section has 64 bits in nanoseconds, and parts end at times or at a load.
+-- `b` can give blocks among the files `f`. The merge can continue with at most 64 output tracks of the output's scale, and it is known which
+-- keyframes allow a cut. The start of the section has 64 bits in nanoseconds, and parts end at times or by size.
 pub record CanGive (f : LiveFiles) (b : PlacedBlocks) : Type 0 where
   pub ready : IsReady f b.merge
   pub few : length b.merge.queues ≤ MAX_LANES
@@ -145,14 +145,14 @@ pub record CanGive (f : LiveFiles) (b : PlacedBlocks) : Type 0 where
   pub empty : is_none b.cuts.start ≡ true → b.cuts.load ≡ 0
   pub limit : IfSome b.cuts.size (IsLimit b.cuts.spec)
 
--- The output track `lane` has a block that can be written, with a time of 64 bits.
+-- The output track `lane` of the merge `m`, counted from 0, has a last block that can be written, with a time of 64 bits.
 pub record LendsAt (m : MergeSeen) (scale lane : ℕ) : Type 0 where
   pub queue : Queue
   pub here : slice_get m.queues lane ≡ Some queue
   pub sound : IsLent (lent queue.lane)
   pub early : (lent queue.lane).head.tick * scale < 2 ^ 64
 
--- The block ahead is the last one that was placed. If it begins a section, the section's load is only its own.
+-- The block ahead `a` is the last one that got a place, in the state `c`. If it begins a section, the section's load is only its own.
 pub record IsAhead (m : MergeSeen) (c : CutsSeen) (a : Ahead) : Type 0 where
   pub lends : LendsAt m c.scale a.lane
   pub started : c.start ≡ Some (start_of c)
@@ -160,22 +160,22 @@ pub record IsAhead (m : MergeSeen) (c : CutsSeen) (a : Ahead) : Type 0 where
   pub place : a.place ≡ place_at (is_kept c) begins (start_of c)
   pub counts : begins ≡ true → c.load ≡ counted c.size (octets_taken (block_lent a.lane lends.queue.lane))
 
--- The block ahead is the last one that was placed; or there is none, and all output tracks have ended.
+-- The block ahead is the last one that got a place; or there is none, and all output tracks of the merge `m` have ended.
 abbrev pub StandsAt : MergeSeen → CutsSeen → Option Ahead → Type 0
 StandsAt m c None = IsEnded m
 StandsAt m c (Some a) = IsAhead m c a
 
--- The block ahead of the part is the last one that was placed; or there is none, and all output tracks have ended.
+-- The block ahead of `b` is the last one that got a place; or there is none, and all output tracks have ended.
 abbrev pub StandsAhead : PlacedBlocks → Type 0
 StandsAhead b = StandsAt b.merge b.cuts b.ahead
 
--- There is a current part with a known start, and the block ahead is in it, or none is left.
+-- There is a current part of `b` with a known start, and the block ahead is in it, or no block is left.
 pub record IsPartBegun (b : PlacedBlocks) : Type 0 where
   pub starts : b.start ≡ start_of b.cuts
   pub stands : StandsAhead b
   pub within : is_within b.ahead ≡ is_some b.ahead
 
--- The end isn't before the start, and has 64 bits in nanoseconds.
+-- The tick `end` isn't before the tick `start`, and has 64 bits in nanoseconds, at `scale` nanoseconds per tick.
 pub record IsEnd (scale start end : ℕ) : Type 0 where
   pub behind : start * scale ≤ end * scale
   pub early : end * scale < 2 ^ 64

@@ -45,11 +45,11 @@ pub record IsPlan {S : Type 0} (r : Ghosts S) (f : writing.Ghosts S) (files : S)
 abbrev pub IsToldPlan : LiveFiles → MergePlan → Type 0
 IsToldPlan f p = All (λ (l : PlannedLane). All (IsToldLink f) l.spec.links) p.lanes
 
--- the sum of the lengths of all links' files, which counts a file once for each link
+-- the sum of the lengths in bytes of all links' files of the plan `p`, which counts a file once for each link
 abbrev pub inputs_length : LiveFiles → MergePlan → ℕ
 inputs_length f p = sum_by (λ (l : PlannedLane). files_length f l.spec.links) p.lanes
 
--- the length of the data of the attachments of a plan
+-- the number of bytes of data of the attached files of the plan `p`
 abbrev pub data_length : MergePlan → ℕ
 data_length p = sum_by (λ (a : Attachment). a.len) p.front.attachments
 
@@ -60,10 +60,10 @@ data_length p = sum_by (λ (a : Attachment). a.len) p.front.attachments
 abbrev pub ReadsFew : {S : Type 0} → Ghosts S → S → S → MergePlan → Type 0
 ReadsFew r old new p = r.octets_read new ≤ r.octets_read old + 2 * inputs_length (live_files r old) p + data_length p
 
--- `WritesOutputs` holds for the plan's outputs, if the links' files are visible to the proof.
+-- From `old` to `new` the outputs of the plan `p` were written, as `WritesOutputs` requires, if the links' files are visible to the proof.
 abbrev pub WritesPlan : {S T : Type 0} → Ghosts S → writing.Ghosts S → S → S → MergePlan → Result T RemuxEnd → Type 0
 WritesPlan r f old new p result = IsToldPlan (live_files r old) p → WritesOutputs (f.names old) (f.names new) (outputs_in (live_files r old) p) result
 
--- The summary is the plan's, if the links' files are visible to the proof.
+-- The result has the summary of the plan `p`, if the links' files are visible to the proof.
 abbrev pub SumsUp : {S : Type 0} → Ghosts S → S → MergePlan → Result Summary RemuxEnd → Type 0
 SumsUp r old p result = IsToldPlan (live_files r old) p → IfOk result (IsSummary (live_files r old) p)

@@ -1,4 +1,4 @@
--- An output that takes the blocks of a merge, and the effect of a call on both.
+-- An output that gets the blocks of a part, and the effect of a call on both.
 use Rattle.std.specs.Prelude.{◌≡◌, ◌≤◌, ℕ, ◌+◌, true, false, ◌&&◌, if◌then◌else◌, is_none, is_some, List, [], ◌∷◌, ◌++◌, length, map, Option, Some, None, Result, Ok, Err, OnOk}
 use Rattle.mkv_io.specs.Faults.{counted, last_count}
 use Rattle.mkv_io.specs.LiveFiles.{LiveFiles}
@@ -29,7 +29,7 @@ use Rattle.remuxer.specs.declared.placed.PlacedBlocks.{PlacedBlocks}
 use Rattle.remuxer.specs.declared.writer.BlockWriter.{BlockWriter}
 use Rattle.lanes.specs.Lane.{LaneSeen}
 
--- The output in `w` can take blocks: its file is open, blocks can be taken, and no file of a link has its name.
+-- The output in `w` can get blocks of `b`. Its file is open, `b` can give blocks, and no file of a link has its name.
 pub record CanTake {S : Type 0} (r : Ghosts S) (f : writing.Ghosts S) (files : S) (w : BlockWriter) (b : PlacedBlocks) : Type 0 where
   pub is_open : IsOpen r files w.out
   pub gives : CanGive (live_files r files) b
@@ -37,7 +37,7 @@ pub record CanTake {S : Type 0} (r : Ghosts S) (f : writing.Ghosts S) (files : S
 
 -- ---- file of the output
 
--- The file is the same, and is still open unless the call failed. Files of other names are unchanged.
+-- The output's file is the same in `w'` as in `w`, and is still open unless the call failed. From `old` to `new` files of other names are unchanged.
 pub record WritesInto {S T : Type 0} (r : Ghosts S) (f : writing.Ghosts S) (old new : S) (w w' : BlockWriter) (result : Result T RemuxEnd) : Type 0 where
   pub file : w'.out.file ≡ w.out.file
   pub is_open : OnOk result (IsOpen r new w'.out)
@@ -45,46 +45,46 @@ pub record WritesInto {S T : Type 0} (r : Ghosts S) (f : writing.Ghosts S) (old 
 
 -- ---- contents of the buffer
 
--- If the buffer was small before a call, it is small after it, unless the call failed. It then has one small Cluster, or a single larger block.
+-- If the buffer was within its limits in `w`, it is in `w'`, unless the call failed. It then has one small Cluster, or a single larger block.
 abbrev pub StaysSmall : {T : Type 0} → BlockWriter → BlockWriter → Result T RemuxEnd → Type 0
 StaysSmall w w' result = OnOk result (HoldsSmall w.buffer → HoldsSmall w'.buffer)
 
 -- ---- blocks of the output
 
--- If the blocks `was` were left of an output, the blocks `left` are left afterwards.
+-- If the output in `w` had the blocks `was` left, it has the blocks `left` left in `w'`. The files changed from `old` to `new`.
 abbrev pub StaysOnTheWay : {S : Type 0} → Ghosts S → writing.Ghosts S → List CueRule → List OutputBlock → List OutputBlock → S → S → BlockWriter → BlockWriter → Type 0
 StaysOnTheWay r f rules was left old new w w' =
     (before : Names) (name : List ℕ) (d : Document) → Stands r f before name rules d old w.out w.buffer w.counts was → Stands r f before name rules d new w'.out w'.buffer w'.counts left
 
--- If the blocks `was` were left of an output, it has all its Clusters afterwards.
+-- If the output in `w` had the blocks `was` left, it has all its Clusters in `w'`. The files changed from `old` to `new`.
 abbrev pub GetsAll : {S : Type 0} → Ghosts S → writing.Ghosts S → List CueRule → List OutputBlock → S → S → BlockWriter → BlockWriter → Type 0
 GetsAll r f rules was old new w w' =
     (before : Names) (name : List ℕ) (d : Document) → d.cues ≡ cues_for (is_cue rules) d.front d.clusters → Stands r f before name rules d old w.out w.buffer w.counts was → HasAll r f before name d new w'.out w'.counts
 
--- If the output in `w` had the blocks `was` left in `old`, its content in `new` is one of its draft (`StandsDrafted`). It holds after a
--- failed call.
+-- If the output in `w` had the blocks `was` left in `old`, its content in `new` is one that its draft may have. This holds after a failed call.
 abbrev pub StaysDraft : {S : Type 0} → Ghosts S → writing.Ghosts S → List CueRule → List OutputBlock → S → S → BlockWriter → Type 0
 StaysDraft r f rules was old new w =
     (before : Names) (name : List ℕ) (d : Document) → Stands r f before name rules d old w.out w.buffer w.counts was → StandsDrafted before (f.names new) (draft_of name d)
 
--- The block `b` was the first that was left, and the others are left now.
+-- The output in `w` got the block `b`, the first that was left, and `w'` has the others left. The files changed from `old` to `new`.
 abbrev pub TakesNext : {S T : Type 0} → Ghosts S → writing.Ghosts S → List CueRule → OutputBlock → S → S → BlockWriter → BlockWriter → Result T RemuxEnd → Type 0
 TakesNext r f rules b old new w w' (Ok _) = (left : List OutputBlock) → StaysOnTheWay r f rules (b ∷ left) left old new w w'
 TakesNext r f rules b old new w w' (Err _) = (left : List OutputBlock) → StaysDraft r f rules (b ∷ left) old new w
 
--- The block of the output track `k`, in a part that starts at tick `start`, was the first that was left. Now the others are left.
+-- The output in `w` got the last block of the output track `k`, counted from 0, in a part that starts at the tick `start`. It was the first that was
+-- left, and `w'` has the others left.
 abbrev pub TakesLent : {S T : Type 0} → Ghosts S → writing.Ghosts S → List CueRule → ℕ → ℕ → LaneSeen → S → S → BlockWriter → BlockWriter → Result T RemuxEnd → Type 0
 TakesLent r f rules start k lane old new w w' result = TakesNext r f rules (lent_in start k lane) old new w w' result
 
--- The output has taken `n` more blocks, unless the call failed.
+-- The output in `w` has got `n` more blocks in `w'`, unless the call failed.
 abbrev pub TakesMore : {T : Type 0} → ℕ → BlockWriter → BlockWriter → Result T RemuxEnd → Type 0
 TakesMore n w w' result = OnOk result (w'.blocks ≡ counted w.blocks n)
 
--- the blocks that are left of a part that starts at the tick `start`
+-- the blocks that `b` has left of a part that starts at the tick `start`, with their ticks in the part
 abbrev pub left_of_part : LiveFiles → ℕ → PlacedBlocks → List OutputBlock
 left_of_part f start b = map (in_part start) (rest_of_part f b)
 
--- Some blocks of the part were taken, the others are left, and the blocks after the part are the same.
+-- The output in `w` has got some blocks of the current part of `b` in `w'`. The others are left in `b'`, and the blocks after the part are the same.
 pub record TakesSome {S : Type 0} (r : Ghosts S) (f : writing.Ghosts S) (rules : List CueRule) (start : ℕ) (old new : S) (w w' : BlockWriter) (b b' : PlacedBlocks) : Type 0 where
   pub stands : StaysOnTheWay r f rules (left_of_part (live_files r old) start b) (left_of_part (live_files r new) start b') old new w w'
   pub behind : behind_part (live_files r new) b' ≡ behind_part (live_files r old) b
@@ -92,24 +92,24 @@ pub record TakesSome {S : Type 0} (r : Ghosts S) (f : writing.Ghosts S) (rules :
   pub count : counted w'.blocks (length (rest_of_part (live_files r new) b')) ≡ counted w.blocks (length (rest_of_part (live_files r old) b))
   pub few : w.blocks ≤ last_count → w'.blocks ≤ last_count
 
--- Some blocks of the part were taken; after an error the content is one of the draft.
+-- Some blocks of the part were written, as `TakesSome` requires. After an error the content is one that the draft may have.
 abbrev pub TakesTold : {S T : Type 0} → Ghosts S → writing.Ghosts S → List CueRule → ℕ → S → S → BlockWriter → BlockWriter → PlacedBlocks → PlacedBlocks → Result T RemuxEnd → Type 0
 TakesTold r f rules start old new w w' b b' (Ok _) = TakesSome r f rules start old new w w' b b'
 TakesTold r f rules start old new w w' b b' (Err _) = StaysDraft r f rules (left_of_part (live_files r old) start b) old new w
 
--- Some blocks of the part were taken, if the links' files are visible to the proof.
+-- Some blocks of the current part were written, as `TakesTold` requires, if the links' files are visible to the proof.
 abbrev pub TakesPart : {S T : Type 0} → Ghosts S → writing.Ghosts S → List CueRule → S → S → BlockWriter → BlockWriter → PlacedBlocks → PlacedBlocks → Result T RemuxEnd → Type 0
 TakesPart r f rules old new w w' b b' result = IsTold (live_files r old) b.merge → TakesTold r f rules (start_of b.cuts) old new w w' b b' result
 
 -- ---- merge
 
--- The links' files are still visible to the proof, and the same damaged places are reported at the end.
+-- The files of the links of `m'` are still visible to the proof among `h`. It reports the same damaged places at the end as `m` among `f`.
 pub record GoesOnTold (f h : LiveFiles) (m m' : MergeSeen) : Type 0 where
   pub told : IsTold h m'
   pub damages : damages h m' ≡ damages f m
 
--- The output tracks have the same links and cuts, and blocks can be taken among the new files. The bytes that were read were due, except at most
--- `more`.
+-- From `b` to `b'` the output tracks have the same links and rules for cuts, and `b'` can give blocks among the new files. The bytes that were read
+-- were due, except at most `more`.
 pub record GoesOn {S : Type 0} (r : Ghosts S) (more : ℕ) (old new : S) (b b' : PlacedBlocks) : Type 0 where
   pub lanes : KeepsQueues b.merge.queues b'.merge.queues
   pub split : split_in b' ≡ split_in b
@@ -118,20 +118,20 @@ pub record GoesOn {S : Type 0} (r : Ghosts S) (more : ℕ) (old new : S) (b b' :
   pub paid : r.octets_read new + due (live_files r new) b'.merge ≤ r.octets_read old + due (live_files r old) b.merge + more
   pub told : IsTold (live_files r old) b.merge → GoesOnTold (live_files r old) (live_files r new) b.merge b'.merge
 
--- The merge goes on; a call that fails may read each of the links' files once more.
+-- The merge goes on from `b` to `b'`, as `GoesOn` requires. A call that fails may read each of the links' files once more.
 abbrev pub Goes : {S T E : Type 0} → Ghosts S → ℕ → S → S → PlacedBlocks → PlacedBlocks → Result T E → Type 0
 Goes r more old new b b' (Ok _) = GoesOn r more old new b b'
 Goes r more old new b b' (Err _) = r.octets_read new ≤ r.octets_read old + due (live_files r old) b.merge + files_length (live_files r old) b.merge + more
 
 -- ---- next block of the merge
 
--- The block ahead begins no part.
+-- There is a block ahead, and it begins no part.
 abbrev pub BeginsNone : Option Ahead → Type 0
 BeginsNone None = ⊥
 BeginsNone (Some a) = start_in a.place ≡ None
 
--- If the block ahead was in the current part, the rest of the part and the blocks after it are left. If it began no part, the same parts are
--- left.
+-- From `b` to `b'` the merge advanced by one block. If the block ahead was in the current part, the rest of the part and the blocks after it are
+-- left. If it began no part, the same parts are left.
 pub record Leaves (f h : LiveFiles) (b b' : PlacedBlocks) : Type 0 where
   pub rest : is_within b.ahead ≡ true → rest_of_part f b ≡ lent_ahead b ++ rest_of_part h b'
   pub behind : is_within b.ahead ≡ true → behind_part h b' ≡ behind_part f b
@@ -142,8 +142,8 @@ pub record Leaves (f h : LiveFiles) (b b' : PlacedBlocks) : Type 0 where
 abbrev pub LeavesAll : LiveFiles → LiveFiles → PlacedBlocks → PlacedBlocks → Type 0
 LeavesAll f h b b' = (if is_none b'.ahead && is_kept b'.cuts then part_in h b' ∷ [] else parts_left h b') ≡ parts (split_in b) (left f b.merge)
 
--- The next block of the merge is ahead, or all output tracks have ended and nothing was placed. No other part was begun, and fewer turns are
--- left.
+-- From `b` to `b'` the next block of the merge was read and got its place, or all output tracks have ended. No other part was begun, and fewer turns
+-- are left.
 pub record Advances (f h : LiveFiles) (b b' : PlacedBlocks) : Type 0 where
   pub stands : StandsAhead b'
   pub start : b'.start ≡ b.start
@@ -154,13 +154,13 @@ pub record Advances (f h : LiveFiles) (b b' : PlacedBlocks) : Type 0 where
 
 -- ---- after the part
 
--- The block ahead is after the part with the known start, and fewer turns are left.
+-- From `b` to `b'` the current part is over: the block ahead is after it, its start is known, and fewer turns are left.
 pub record IsOver (b b' : PlacedBlocks) : Type 0 where
   pub stands : StandsAhead b'
   pub start : b'.start ≡ b.start
   pub behind : is_within b'.ahead ≡ false
   pub on : turns b' ≤ way b.merge
 
--- the damaged places that were reported, for each link of each output track
+-- the damaged places that the merge `m` has reported, for each link of each output track
 abbrev pub told_by : MergeSeen → List (List ToldDamages)
 told_by m = map (λ (q : Queue). q.lane.walk.told.items) m.queues

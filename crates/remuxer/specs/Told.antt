@@ -6,27 +6,28 @@ use Rattle.cluster_reader.specs.ToldDamages.{ToldDamages, told_damages}
 use Rattle.remux_plan.specs.Summary.{first_damages, more_damages}
 use Rattle.remux_plan.specs.declared.summary.Summary.{Summary}
 
--- the damaged places of the input that an output track has reported, for its first link of this input
+-- the damaged places of the input number `input` that an output track has reported, for its first link to this input. `inputs` has the links' input
+-- numbers.
 abbrev pub told_at : List ℕ → List ToldDamages → ℕ → Option ToldDamages
 told_at inputs told input = option_and_then (slice_get told) (position (λ number. number == input) inputs)
 
--- the damaged places of the input, for the first output track with a link of it
+-- the damaged places of the input number `input` that a merge has reported, for the first output track with a link to it
 abbrev pub told_of : List (List ℕ) → List (List ToldDamages) → ℕ → Option ToldDamages
 told_of [] tolds input = None
 told_of (inputs ∷ lanes) [] input = None
 told_of (inputs ∷ lanes) (told ∷ tolds) input = option_or (told_at inputs told input) (told_of lanes tolds input)
 
--- the damaged places of the input, which are none without a link
+-- the damaged places of the input number `input` that a merge has reported, which are none without a link to it
 abbrev pub damages_told : List (List ℕ) → List (List ToldDamages) → ℕ → ToldDamages
 damages_told lanes tolds input = unwrap_or (told_of lanes tolds input) (told_damages [])
 
--- `new` is `old` with the damaged places of the input added.
+-- The summary `new` is `old` with the damaged places `told` of the input number `input` added.
 pub record AddsDamages (input : ℕ) (told : ToldDamages) (old new : Summary) : Type 0 where
   pub outputs : new.outputs ≡ old.outputs
   pub damages : new.damages ≡ old.damages ++ first_damages input told
   pub more : new.more ≡ old.more ++ more_damages input told
 
--- `s` has the damaged places of all inputs.
+-- The summary `s` has the damaged places of all `inputs`, as a merge has reported them.
 pub record HasDamages (lanes : List (List ℕ)) (tolds : List (List ToldDamages)) (inputs : List ℕ) (s : Summary) : Type 0 where
   pub damages : s.damages ≡ flat_map (λ input. first_damages input (damages_told lanes tolds input)) inputs
   pub more : s.more ≡ flat_map (λ input. more_damages input (damages_told lanes tolds input)) inputs

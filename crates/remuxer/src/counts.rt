@@ -5,7 +5,7 @@ ghost use Rattle.remuxer.specs.Stands.{counted_with};
 
 use output_model::MAX_CUES;
 
-/// Number of an output's Clusters, the one in the buffer included, and of its cue points
+/// Number of Clusters of an output, the one in the buffer included, and number of its cue points
 #[derive(Clone, Copy, Debug, PartialEq, Eq)]
 pub struct Counts {
     pub clusters: u64,
@@ -13,8 +13,8 @@ pub struct Counts {
 }
 
 impl Counts {
-    /// Counts a block. `begins` is set if it begins a Cluster, and `cued` if it gets a cue point; points above the
-    /// limit aren't kept.
+    /// Counts one more block of an output. `begins` is true if it begins a Cluster, and `cued` if it gets a cue point;
+    /// cue points above the limit aren't kept.
     pub(crate) fn add(&mut self, begins: bool, cued: bool)
         ensures { self.new ≡ counted_with begins cued self.old }
     {

@@ -13,7 +13,7 @@ use mkv_schema::ids::{INFO, NEXT_UUID, PREV_UUID, SEGMENT_UUID};
 use remux_plan::PartUuids;
 use std::alloc::{AllocError, Global};
 
-// Appends copies of elements to the children.
+// Appends copies of the Elements `children` to the Info `info`.
 fn add_copies(alloc: Global, info: &mut Tree, children: &[Tree]) -> Result<(), AllocError>
     requires master { IsMaster info.old }
     requires room { depth_all (nodes_of children.now) < deepest }
@@ -25,7 +25,8 @@ fn add_copies(alloc: Global, info: &mut Tree, children: &[Tree]) -> Result<(), A
     Ok(())
 }
 
-// Appends an identifier, the highest byte first, if it is given.
+// Appends the Element `id` with the identifier `uuid`, highest byte first, to the Info `info`, if the identifier is
+// given.
 fn add_uuid(alloc: Global, info: &mut Tree, id: u32, uuid: Option<u128>) -> Result<(), AllocError>
     requires master { IsMaster info.old }
     requires id { IsTrue (is_id id) }
@@ -38,7 +39,7 @@ fn add_uuid(alloc: Global, info: &mut Tree, id: u32, uuid: Option<u128>) -> Resu
     info.push(Tree::leaf(alloc, id, &uuid.to_be_bytes())?)
 }
 
-// Adds the identifiers of an output to its Info: SegmentUUID, PrevUUID and NextUUID, each if present.
+// Appends the identifiers `uuids` of an output to its Info: SegmentUUID, PrevUUID and NextUUID, each if present.
 fn add_uuids(alloc: Global, info: &mut Tree, uuids: PartUuids) -> Result<(), AllocError>
     requires { IsMaster info.old }
     ensures added { OnOk result (info.new ≡ with_more info.old (uuid_elements uuids)) }

@@ -29,7 +29,8 @@ pub(crate) struct WrittenPart {
     pub(crate) counts: Counts,
 }
 
-// Returns the chapters of a part from the tick `start` to the tick `end`, if the output is split.
+// Returns the Chapters of a part from the tick `start` to the tick `end`, both of the whole output. Unless the output
+// is cut into parts it returns none.
 fn cut_chapters(
     alloc: Global,
     spec: &OutputSpec,
@@ -56,15 +57,16 @@ fn cut_chapters(
     cut(alloc, chapters, start * scale, to)
 }
 
-// Returns the chapters of a part: `part` if the output is split, otherwise all.
+// Returns the Chapters that are written to a part: `part`, the ones in its period, if the output is cut into parts,
+// otherwise all.
 fn chapters_in<'a>(spec: &'a OutputSpec, part: &'a Option<Tree>) -> &'a Option<Tree>
     ensures { result.now ≡ chapters_in spec.now part.now }
 {
     if spec.split { part } else { &spec.chapters }
 }
 
-// Appends all blocks of the current part, and writes the last Cluster. Returns the part's chapters if the output is
-// split.
+// Appends all blocks of the current part to the output, and writes its last Cluster. Returns the part's Chapters if the
+// output is cut into parts.
 fn fill<F: Files>(
     alloc: Global,
     files: &mut F,
@@ -86,7 +88,8 @@ fn fill<F: Files>(
     Ok(chapters)
 }
 
-/// Writes the output `name` with the current part. No file of it stays open, also after an error.
+/// Writes the output `name` with the blocks of the current part of `blocks`. No file of it stays open, also after an
+/// error.
 pub(crate) fn write_output<F: Files>(
     alloc: Global,
     files: &mut F,

@@ -1,4 +1,4 @@
-//! Outputs of a merge in sequence
+//! Outputs of a merge, written in sequence
 
 ghost use Rattle.std.specs.Prelude.{◌≡◌, [], ◌∷◌, IfOk, OnOk};
 ghost use Rattle.mkv_io.specs.Sources.{live_files};
@@ -17,7 +17,7 @@ use splitter::part_name;
 use std::alloc::{AllocError, Global};
 use std::mem;
 
-// Returns the name of the part `number`, counted from 1.
+// Returns the name of the output with the number `number`, counted from 1.
 fn name_of(alloc: Global, spec: &OutputSpec, number: u64) -> Result<Text, AllocError>
     ensures { IfOk result (λ name. name ≡ name_of spec.now.split spec.now.name number) }
 {
@@ -28,7 +28,8 @@ fn name_of(alloc: Global, spec: &OutputSpec, number: u64) -> Result<Text, AllocE
     }
 }
 
-// Writes the current part as the output `number`, counted from 1, with its own identifiers, and returns its summary.
+// Writes the current part as the output with the number `number`, counted from 1, with its own identifiers, and returns
+// its summary.
 fn write_own<F: Files>(
     alloc: Global,
     files: &mut F,
@@ -58,8 +59,8 @@ fn write_own<F: Files>(
     })
 }
 
-// Writes the output of the current part, and appends it to `written`. Begins the next part, which has no attachments,
-// and returns whether there is one.
+// Writes the current part as the next output, and appends its summary to `written`. Begins the next part, which has no
+// attached files, and returns true if there is one.
 fn write_next<F: Files>(
     alloc: Global,
     files: &mut F,
@@ -82,8 +83,8 @@ fn write_next<F: Files>(
     Ok(begun)
 }
 
-/// Writes an output for each part of a merge in sequence, and returns their summaries. Only the first has the
-/// attachments. After an error the first outputs are complete, and the next one may be incomplete.
+/// Writes an output for each part of a merge in sequence, and returns their summaries. Only the first has the attached
+/// files. After an error the first outputs are complete, and the next one may be incomplete.
 pub(crate) fn write_parts<F: Files>(
     alloc: Global,
     files: &mut F,

@@ -14,15 +14,15 @@ use mkv_io::{List, ReadEnd, Reads};
 use part_size::{PartCuts, Place};
 use time_merge::Merge;
 
-/// Block of a merge: the number of its output track, counted from 0, and its place
+/// Block that was read but not written: the number of its output track, counted from 0, and its place
 #[derive(Clone, Copy)]
 pub(crate) struct Ahead {
     pub(crate) lane: usize,
     pub(crate) place: Place,
 }
 
-/// Merge with its cuts, and the marks of the output tracks that drive them. The block ahead is the last one of the
-/// merge, and not written yet. `start` is the tick at the start of the current part.
+/// Merge with the state of its cuts, and for each output track whether keyframes allow a cut. The block ahead is the
+/// last one that was read, and isn't written yet. `start` is the tick at the start of the current part.
 #[derive(Drop)]
 pub(crate) struct PlacedBlocks {
     pub(crate) merge: Merge,
@@ -32,7 +32,7 @@ pub(crate) struct PlacedBlocks {
     pub(crate) start: u64,
 }
 
-// Returns the start tick of the part that a block begins, if any.
+// Returns the tick at the start of the part that a block with the place `place` begins, if it begins one.
 fn start_in(place: Place) -> Option<u64>
     ensures { result ≡ start_in place }
 {
@@ -42,7 +42,8 @@ fn start_in(place: Place) -> Option<u64>
     }
 }
 
-// Returns the bytes of the output track's block that count towards the load of a part.
+// Returns the number of bytes of the last block of `lane` that count towards the size of a part. They don't count if
+// parts aren't cut by size.
 fn load_of(cuts: &PartCuts, lane: &Lane) -> u64
     requires { IsLent (lent lane.now) }
     ensures { result ≡ octets_counted cuts.now (lent_block (lent lane.now)) }
@@ -65,7 +66,7 @@ impl PlacedBlocks {
     ghost use Rattle.remuxer.specs.Taking.{Advances, Goes};
     ghost use Rattle.remuxer.specs.Output.{FindsBehind, FindsFirst};
 
-    /// Returns the number of the output track of the block ahead, if this block is in the current part.
+    /// Returns the number of the output track of the block ahead, counted from 0, if this block is in the current part.
     pub(crate) fn lane_within(&self) -> Option<usize>
         ensures { result ≡ lane_within self.now.ahead }
     {
@@ -80,7 +81,8 @@ impl PlacedBlocks {
         }
     }
 
-    /// Returns the end tick of the current part: the tick of the block ahead, or its own start if that is later.
+    /// Returns the tick at the end of the current part: the tick of the block ahead, or the part's own start if that is
+    /// later.
     pub(crate) fn end_of_part(&self) -> Option<u64>
         requires { StandsAhead self.now }
         ensures { result ≡ option_map (max self.now.start) (first_tick (lent_ahead self.now)) }
@@ -91,7 +93,7 @@ impl PlacedBlocks {
         }
     }
 
-    /// Reads the next block of the merge, which is ahead afterwards, if there is one.
+    /// Reads the next block of the merge and decides its place. It is the block ahead then, if there is one.
     pub(crate) fn advance<R: Reads>(&mut self, src: &mut R) -> Result<(), ReadEnd>
         requires { CanGive (live_files R.Reads src.old) self.old }
         ensures advances { OnOk result (Advances (live_files R.Reads src.old) (live_files R.Reads src.new) self.old self.new) }
@@ -111,7 +113,7 @@ impl PlacedBlocks {
         Ok(())
     }
 
-    /// Begins the next part, and returns whether there is one. It skips blocks that are in no part.
+    /// Begins the next part, and returns true if there is one. Skips blocks that are in no part.
     pub(crate) fn next_part<R: Reads>(&mut self, src: &mut R) -> Result<bool, ReadEnd>
         requires gives { CanGive (live_files R.Reads src.old) self.old }
         requires stands { StandsAhead self.old }
@@ -134,8 +136,8 @@ impl PlacedBlocks {
         Ok(false)
     }
 
-    /// Begins the first part, and returns whether there is one. Without blocks, the part at the start of the output
-    /// is empty, if it is written.
+    /// Begins the first part, and returns true if there is one. Without blocks, the part at the start of the output is
+    /// empty, if it is written.
     pub(crate) fn first_part<R: Reads>(&mut self, src: &mut R) -> Result<bool, ReadEnd>
         requires gives { CanGive (live_files R.Reads src.old) self.old }
         requires fresh { IsFresh self.old }

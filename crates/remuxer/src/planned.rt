@@ -8,8 +8,8 @@ use output_model::CueRule;
 use remux_plan::PlannedLane;
 use std::alloc::{AllocError, Global};
 
-/// Output tracks of a plan at their start. Each has its rule for cue points, its mark for driving, and the input
-/// number of each of its links.
+/// Output tracks of a plan at their start. Each has its rule for cue points, whether keyframes allow a cut, and the
+/// input number of each of its links.
 #[derive(Drop)]
 pub(crate) struct StartedLanes {
     pub(crate) lanes: List<Lane>,
@@ -21,7 +21,7 @@ pub(crate) struct StartedLanes {
 impl StartedLanes {
     ghost use Rattle.remuxer.specs.Started.{AddsLane, AreStarted, CanStart};
 
-    /// Starts the output tracks of an output with `scale` nanoseconds per tick. It reads nothing.
+    /// Starts the planned output tracks for an output with `scale` nanoseconds per tick. Reads nothing.
     pub(crate) fn start(
         alloc: Global,
         planned: List<PlannedLane>,
@@ -43,7 +43,7 @@ impl StartedLanes {
         Ok(started)
     }
 
-    // Starts one more output track as planned, with its rule for cue points.
+    // Starts one more output track as `planned`, for an output with `scale` nanoseconds per tick.
     fn add(&mut self, alloc: Global, planned: PlannedLane, scale: u64) -> Result<(), AllocError>
         requires scale { 1 ≤ scale }
         requires lane { CanStart planned }

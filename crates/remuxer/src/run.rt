@@ -13,8 +13,8 @@ use cluster_writer::{BlockRef, ClusterBuf};
 use cues_seekhead::OutFile;
 use mkv_io::{Files, Reads, RemuxEnd as OutEnd};
 
-// Makes room for a block with an element of `len` bytes in the Cluster in the buffer. If the block can't join it, the
-// Cluster is written, and the buffer is empty afterwards.
+// Makes room in the buffer for `block`, whose Element has `len` bytes. If the block can't join the Cluster in the
+// buffer, that is written, and the buffer is empty afterwards.
 fn make_room<F: Files>(
     files: &mut F,
     out: &mut OutFile,
@@ -39,8 +39,8 @@ fn make_room<F: Files>(
     Ok(())
 }
 
-/// Adds the next block of an output, with a cue point if `cued` is set. If it can't join the Cluster in the buffer,
-/// that Cluster is written first. Returns whether the block begins a Cluster.
+/// Adds the next block to an output, with a cue point if `cued`. If it can't join the Cluster in the buffer, that
+/// Cluster is written first. Returns true if the block begins a Cluster.
 pub fn add_block<F: Files>(
     files: &mut F,
     out: &mut OutFile,

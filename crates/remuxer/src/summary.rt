@@ -14,8 +14,8 @@ use remux_plan::{InputDamage, MAX_INPUTS, MoreDamage, Summary, Written};
 use std::alloc::{AllocError, Global};
 use time_merge::Merge;
 
-// Returns the damaged places of an input that an output track has reported. `inputs` are the input numbers of its
-// links.
+// Returns the damaged places of the input number `input` that `lane` has reported. `inputs` has the input number of
+// each of its links.
 fn told_at<'a>(inputs: &[usize], lane: &'a Lane, input: usize) -> Option<&'a Damages>
     ensures { option_copied result ≡ told_at inputs.now lane.now.walk.told.items input }
 {
@@ -23,8 +23,8 @@ fn told_at<'a>(inputs: &[usize], lane: &'a Lane, input: usize) -> Option<&'a Dam
     lane.damages(link)
 }
 
-// Returns the damaged places of an input that a merge has reported. All its links have the same ones, so the first
-// link counts.
+// Returns the damaged places of the input number `input` that a merge has reported. All links to an input have the same
+// ones, so the first counts. `inputs` has the input numbers of each output track's links.
 fn told_of<'a>(inputs: &[List<usize>], merge: &'a Merge, input: usize) -> Option<&'a Damages>
     requires { length inputs.now ≡ length merge.now.queues }
     ensures { option_copied result ≡ told_of inputs.now (told_by merge.now) input }
@@ -55,8 +55,8 @@ fn add_damages(summary: &mut Summary, input: usize, told: &Damages) -> Result<()
     Ok(())
 }
 
-/// Returns the summary of the written outputs, with the damaged places that a merge has reported. `inputs` are the
-/// input numbers of its links.
+/// Returns the summary of the written outputs, with the damaged places that a merge has reported. `inputs` has the
+/// input numbers of each output track's links.
 pub(crate) fn summary_of(
     alloc: Global,
     outputs: List<Written>,

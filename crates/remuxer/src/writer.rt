@@ -32,8 +32,8 @@ fn is_cued(rules: &[CueRule], k: usize, key: bool) -> bool
     }
 }
 
-// Returns the block of the output track `k`, counted from 0, in a part that starts at the tick `start`. In the
-// output, track numbers start at 1.
+// Returns the last block of `lane`, the output track `k`, counted from 0, as it is written to a part that starts at the
+// tick `start`. In the output, track numbers count from 1.
 fn lent_by(lane: &Lane, k: usize, start: u64) -> BlockRef<'_>
     requires lent { IsLent (lent lane.now) }
     requires number { k < MAX_LANES }
@@ -53,8 +53,8 @@ fn lent_by(lane: &Lane, k: usize, start: u64) -> BlockRef<'_>
     }
 }
 
-/// Output that takes blocks: its file, the Cluster that the next block may join, the number of its blocks, and its
-/// counts
+/// Output that gets the blocks of a part. It has its file, the Cluster that the next block may join, the number of its
+/// blocks, and its counts.
 #[derive(Drop)]
 pub(crate) struct BlockWriter {
     pub(crate) out: OutFile,
@@ -68,7 +68,8 @@ impl BlockWriter {
     ghost use Rattle.remuxer.specs.Places.{IsPartBegun};
     ghost use Rattle.remuxer.specs.Taking.{CanTake, Goes, IsOver, StaysSmall, TakesLent, TakesMore, TakesPart, WritesInto};
 
-    // Adds the block of the output track `k`, counted from 0, to a part that starts at the tick `start`.
+    // Adds the last block of `lane`, the output track `k`, counted from 0, to the output of a part that starts at the
+    // tick `start`. `rules` has each output track's rule for cue points.
     fn add_lent<F: Files>(
         &mut self,
         files: &mut F,
@@ -95,7 +96,7 @@ impl BlockWriter {
         Ok(())
     }
 
-    /// Adds all blocks that are left of the current part.
+    /// Adds all blocks that are left of the current part of `blocks` to the output.
     pub(crate) fn add_part<F: Files>(
         &mut self,
         files: &mut F,
