@@ -24,7 +24,7 @@ pub record StandsDrafted (before now : Names) (d : Draft) : Type 0 where
 abbrev pub patches_at : ℕ → List ℕ → List ℕ → List Patch
 patches_at start area size = record { at = start; octets = area } ∷ record { at = start - 8; octets = size } ∷ []
 
--- the output `name` with the document `d` as a draft: its content before its last two writes, and these writes
+-- an output before its size and its area are known, and the two writes of them
 abbrev pub draft_of : List ℕ → Document → Draft
 draft_of name d = record {
   name = name;
@@ -42,6 +42,6 @@ Drafts f file least back patches old new (Err _) =
     (before : Names) (content : List ℕ) → least ≤ length content → f.names old ≡ with_content before (f.holder old file.n) content
     → StandsDrafted before (f.names new) (record { name = f.holder old file.n; appended = content ++ back; patches = patches })
 
--- From `old` to `new` the last writes `e` of an output were done in the live file `file`. The Segment's content begins at the offset `start`.
+-- The last writes of an output were done, whose Segment's body begins at byte `start`.
 abbrev pub DraftsEnd : {S T E : Type 0} → Ghosts S → FileId → ℕ → Ending → S → S → Result T E → Type 0
 DraftsEnd f file start e old new result = Drafts f file (start + AREA) e.back (patches_at start e.area (size_octets e.total 8)) old new result

@@ -11,7 +11,7 @@ use Rattle.output_model.specs.Document.{Document, clusters_elements, layout}
 use Rattle.cues_seekhead.specs.OpenOutput.{OpenOutput, StandsOpen}
 use Rattle.cues_seekhead.specs.Draft.{StandsDrafted, draft_of}
 
--- All Clusters of the document `d` are in the file of the open output `o`. `d` has its cue points and the given Chapters and Tags.
+-- All Clusters of the document `d` are in the output's file, and `d` has its cue points and the given Chapters and Tags.
 pub record IsReady {S : Type 0} (r : Ghosts S) (f : writing.Ghosts S) (before : Names) (d : Document) (files : S) (o : OpenOutput) (its_chapters its_tags : Option Node) : Type 0 where
   pub stands : StandsOpen r f before (f.holder files o.file.n) d.front (joined (clusters_elements d.clusters)) files o
   pub cues : d.cues ≡ o.cues
@@ -24,8 +24,7 @@ pub record HoldsLayout (before now : Names) (name : List ℕ) (d : Document) (le
   pub len_is : len ≡ length (layout d)
   pub becomes : output_of (draft_of name d) ≡ record { name = name; content = layout d }
 
--- From `old` to `new` the output `o` was finished: for each document that was ready, the file has its content, of the returned length. After an error
--- the content is one that the draft may have.
+-- For each document that is ready, the name has its layout, of the returned length. After an error the content is one of its draft.
 abbrev pub Finishes : {S : Type 0} → Ghosts S → writing.Ghosts S → OpenOutput → Option Node → Option Node → S → S → Result ℕ RemuxEnd → Type 0
 Finishes r f o chapters tags old new (Ok len) =
     (before : Names) (d : Document) → IsReady r f before d old o chapters tags → HoldsLayout before (f.names new) (f.holder old o.file.n) d len

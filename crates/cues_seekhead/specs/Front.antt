@@ -26,8 +26,7 @@ front_head f = joined (records_of f) ++ attachments_header f.attachments
 abbrev pub front_seeks : given.Front → List Seek
 front_seeks f = seeks_from AREA (records_of f) ++ attachments_seeks (AREA + length (joined (records_of f))) f.attachments
 
--- `o` is the start of an output with the Elements `f` before its first Cluster. It has the bytes up to the first AttachedFile, the Seeks, and the
--- length.
+-- `o` has the first bytes of an open output up to its first AttachedFile, the Seeks of the elements before the Clusters, and their length.
 pub record IsOpening (f : given.Front) (o : Opening) : Type 0 where
   pub octets : o.octets ≡ file_with f.webm unknown_size open_area (front_head f)
   pub seeks : o.seeks.items ≡ front_seeks f

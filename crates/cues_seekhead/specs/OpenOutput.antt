@@ -19,8 +19,7 @@ use Rattle.mkv_outputs.specs.Starts.{ArePrefixes}
 use Rattle.output_model.specs.Front.{front_with}
 use Rattle.output_model.specs.declared.front.Front.{Front as GivenFront}
 
--- an output that is being written. It has its file, whether it is WebM, and the length of the Segment's content. It has the positions of the Elements
--- before the Clusters, and the cue points.
+-- the file, whether it is WebM, the length of the Segment's body, the places of the elements before the Clusters, and the cue points
 pub record OpenOutput : Type 0 where
   pub file : FileId
   pub webm : Bool
@@ -48,7 +47,7 @@ pub record IsOpen {S : Type 0} (r : Ghosts S) (files : S) (o : OpenOutput) : Typ
   pub live : IsLive r files o.file
   pub size : file_size r files o.file ≡ body_start o.webm + o.len
 
--- The fields of the open output `o` are right. It has the Elements `front` before its first Cluster, and the bytes `behind` after them.
+-- `o` agrees with an output that has `front` before the Clusters, and the bytes `behind` after that.
 pub record Knows (front : Front) (behind : List ℕ) (o : OpenOutput) : Type 0 where
   pub webm : o.webm ≡ front.webm
   pub len : o.len ≡ clusters_at front + length behind

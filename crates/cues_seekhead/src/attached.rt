@@ -50,7 +50,7 @@ fn others_len(children: &[Tree]) -> Result<u64, AllocError>
     Ok(total)
 }
 
-// Appends the trees `children` in their normal form.
+// Appends trees in their normal form.
 fn put_children(out: &mut Bytes, children: &[Tree]) -> Result<(), AllocError>
     ensures { OnOk result (out.new ≡ out.old ++ flat_map octets children.now) }
 {

@@ -25,7 +25,7 @@ use mkv_io::{Bytes, FileId, Files, Reads, RemuxEnd as OutEnd};
 use output_model::{CuePoint, Seek};
 use std::alloc::{AllocError, Global};
 
-/// Bytes of the last writes of an output, which finish it
+/// Bytes of an output's last writes
 #[derive(Drop)]
 pub(crate) struct Ending {
     // elements after the Clusters
@@ -60,8 +60,8 @@ impl Ending {
         Ok(Ending { back, area, total })
     }
 
-    /// Appends the Elements after the Clusters to `file`, and then writes the area and the Segment's size. The
-    /// Segment's content begins at the offset `start` of the file.
+    /// Appends the elements after the Clusters, and then writes the area and the size. The Segment's body begins at
+    /// byte `start` of the file.
     pub(crate) fn write<F: Files>(
         &self,
         files: &mut F,

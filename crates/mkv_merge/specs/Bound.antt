@@ -23,8 +23,8 @@ files_size f list = sum_by (λ (file : FileId). f.size file.n) list
 abbrev pub live_size : {S : Type 0} → Ghosts S → S → List FileId → ℕ
 live_size r files list = files_size (live_files r files) list
 
--- the bytes that a merge with the plan `p` may read of inputs with `octets` bytes in all. Each output track reads each input at most twice, and the
--- data of attached files is read once.
+-- the bytes that a merge with the plan `p` may read of inputs with `octets` bytes. Each input is read twice for each output track, and the data
+-- of attached files once.
 abbrev pub most_planned : MergePlan → ℕ → ℕ
 most_planned p octets = 2 * (length p.lanes * octets) + data_length p
 
@@ -32,7 +32,7 @@ most_planned p octets = 2 * (length p.lanes * octets) + data_length p
 abbrev pub contents_length : (List ℕ → Option (List ℕ)) → List FileWords → ℕ
 contents_length world files = sum_by (λ (w : FileWords). length (unwrap_or (world w.name) [])) files
 
--- the number of output tracks of the sources of a merge, or 0 if the merge is refused
+-- the number of output tracks, or 0 if the merge is refused
 abbrev pub lane_count : Result (List Source) Refusal → ℕ
 lane_count (Ok sources) = length (lanes_given sources)
 lane_count (Err why) = 0
@@ -42,8 +42,8 @@ abbrev pub data_count : Result (List Source) Refusal → ℕ
 data_count (Ok sources) = attached_length (reads_of sources)
 data_count (Err why) = 0
 
--- the bytes that a merge of `sources` may read of its inputs with `octets` bytes in all. All inputs are read 25 times before the blocks, twice to
--- find their ends, and twice for each output track. The data of attached files is added.
+-- the bytes that may be read of inputs with `octets` bytes. All inputs are read 25 times before the blocks, twice to find their ends, and twice
+-- for each output track. The data of attached files is added.
 abbrev pub most_of : Result (List Source) Refusal → ℕ → ℕ
 most_of sources octets = 27 * octets + (2 * (lane_count sources * octets) + data_count sources)
 

@@ -73,7 +73,7 @@ pub record AreInputsOf (f : LiveFiles) (list : List FileId) (inputs : List Input
   pub of : map (λ (i : Input). i.file) inputs ≡ list
   pub places : All HasPlace inputs
 
--- The inputs of `p` are read from the live files `list`, and its plan is made from them and can be written.
+-- The inputs are read from the files `list`, and the plan is made from them.
 pub record IsPrepared (f : LiveFiles) (words : MergeWords) (list : List FileId) (p : Prepared) : Type 0 where
   pub inputs : AreInputsOf f list p.inputs
   pub plan : IsPlanOf words p.inputs p.plan

@@ -93,9 +93,7 @@ fn read_inputs<R: Reads>(
     Ok(inputs)
 }
 
-/// Reads the open files `files`, the inputs of `words`, applies the text files `texts`, computes the append offsets and
-/// plans the merge. Fails if an input, a text file, an appended track or the plan is refused, in this order. Writes
-/// nothing.
+/// Reads the live files, applies the text files and plans the merge. Fails if one of them is refused.
 pub fn prepare<R: Reads>(
     alloc: Global,
     words: &MergeWords,

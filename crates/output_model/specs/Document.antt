@@ -14,7 +14,7 @@ use Rattle.output_model.specs.Cluster.{OutputCluster, cluster_element}
 use Rattle.output_model.specs.Cues.{points_from, cues_elements}
 use Rattle.output_model.specs.SeekHead.{area_elements, open_area, seeks_from}
 
--- the Elements before the first Cluster of an output: whether it is WebM, the Info, the Tracks, and the AttachedFiles, each with its FileData
+-- the part before the Clusters: whether it is WebM, the Info, the Tracks, and the AttachedFiles, each with its FileData
 pub record Front : Type 0 where
   pub webm : Bool
   pub info : Node
@@ -48,7 +48,7 @@ ebml_element webm = master_element EBML (
 abbrev pub tree_element : Node → Element
 tree_element n = element (id_of n) (content n)
 
--- the given tree as an Element, or nothing if there is none
+-- a tree as an Element, or nothing if there is none
 abbrev pub tree_elements : Option Node → List Element
 tree_elements None = []
 tree_elements (Some n) = tree_element n ∷ []
@@ -81,7 +81,7 @@ elements_behind_area d = front_elements d.front ++ (clusters_elements d.clusters
 
 -- ---- offsets in bytes in the Segment
 
--- the offset of the first Cluster in the Segment's content, after the area and the Elements `f`
+-- the offset of the first Cluster in the Segment
 abbrev pub clusters_at : Front → ℕ
 clusters_at f = AREA + length (joined (front_elements f))
 
@@ -117,12 +117,11 @@ layout d =
     let rest = joined (elements_behind_area d) in
     file_with d.front.webm (segment_size (length rest)) (area_elements (seeks_of d)) rest
 
--- the content of an output that is being written, with the bytes `rest` after the Elements `f` before its first Cluster. Its size is unknown, and its
--- area is one Void.
+-- an output that is being written, with the bytes `rest` after the part before the Clusters. Its size is unknown, and its area is one Void.
 abbrev pub opened_with : Front → List ℕ → List ℕ
 opened_with f rest = file_with f.webm unknown_size open_area (joined (front_elements f) ++ rest)
 
--- the content of the document `d` before its last two writes. All Clusters and the Elements after them are written, the Segment's size is unknown,
--- and the area is one Void.
+-- an output that is complete except for its Segment's size and its SeekHead. All Clusters and the Elements after them are written, the size is
+-- unknown, and the area is one Void.
 abbrev pub opened : Document → List ℕ
 opened d = opened_with d.front (joined (clusters_elements d.clusters) ++ joined (back_elements d))

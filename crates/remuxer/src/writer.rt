@@ -53,8 +53,8 @@ fn lent_by(lane: &Lane, k: usize, start: u64) -> BlockRef<'_>
     }
 }
 
-/// Output that gets the blocks of a part. It has its file, the Cluster that the next block may join, the number of its
-/// blocks, and its counts.
+/// Output that takes blocks: its file, the Cluster that the next block may join, the number of its blocks, and its
+/// counts
 #[derive(Drop)]
 pub(crate) struct BlockWriter {
     pub(crate) out: OutFile,
