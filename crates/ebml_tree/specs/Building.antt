@@ -4,19 +4,20 @@ use Rattle.tree_format.specs.Node.{Node, master, nodes_of, id_of, depth, depth_a
 use Rattle.tree_format.specs.Changes.{AreTooLong}
 use Rattle.tree_format.specs.Standing.{AllStandIn, StandsIn, IsSound}
 
--- The tree is a master `id` with the children `ns`. They are valid, at most `deep` deep, and not too long together.
+-- `tree` is a master with the ID `id`, its header at the offset `at`, and the children `ns`. They are valid, at most `deep` deep, and not too long
+-- together.
 pub record IsBuilt (id at deep : ℕ) (ns : List Node) (tree : Node) : Type 0 where
   pub is : tree ≡ master id at (nodes_of ns)
   pub stand : AllStandIn id (nodes_of ns)
   pub shallow : depth_all (nodes_of ns) ≤ deep
   pub short : ¬ AreTooLong ns
 
--- The tree `n`, which is made of the child `of`, is a valid child of `parent`, and at most as deep.
+-- The tree `n`, which was made from the child `of`, is a valid child of `parent`, and nested at most as deep.
 pub record IsInPlace (parent : ℕ) (of n : Node) : Type 0 where
   pub stands : StandsIn parent n
   pub shallow : depth n ≤ depth of
 
--- The tree is a valid master that was read, with the ID `own`.
+-- The tree `n` is a valid master with the ID `own` that was read, and so is within the limits of a tree.
 pub record IsRead (own : ℕ) (n : Node) : Type 0 where
   pub id : id_of n ≡ own
   pub master : IsMaster n

@@ -6,20 +6,20 @@ use Rattle.ebml_tree.specs.declared.end.TreeEnd.{TreeEnd}
 use Rattle.ebml_tree.specs.declared.end.TreeEnd.TheVariants.{Damage, Memory}
 use Rattle.tree_format.specs.Reading.{Grove, Grown}
 
--- The error is the damage of the definition, or memory ran out.
+-- The error is the damage in `read`, the expected result; or memory ran out.
 abbrev pub Refuses : {A : Type 0} → TreeEnd → Result A Harm → Type 0
 Refuses (Damage damage) read = read ≡ Err damage
 Refuses Memory read = Unit {0}
 
--- The result is the tree or the damage of the definition, or memory ran out.
+-- The result is the expected one, `read`: a tree or damage; or memory ran out.
 abbrev pub ReadsTree : Result Node TreeEnd → Result Node Harm → Type 0
 ReadsTree (Ok tree) read = read ≡ Ok tree
 ReadsTree (Err end) read = Refuses end read
 
--- The definition reads this tree, or these trees, and leaves room for `left` nodes.
+-- The expected result `read` is the tree `tree`, with `left` Elements that may still follow.
 abbrev pub GivesTree : Result Grown Harm → ℕ → Node → Type 0
 GivesTree read left tree = read ≡ Ok (record { tree = tree; left = left })
 
--- The definition reads the trees `trees` and leaves room for `left` nodes.
+-- The expected result `read` is the trees `trees`, with `left` Elements that may still follow.
 abbrev pub GivesTrees : Result Grove Harm → ℕ → List Node → Type 0
 GivesTrees read left trees = read ≡ Ok (record { trees = trees; left = left })

@@ -1,4 +1,4 @@
-//! Reasons why a master isn't read as a tree.
+//! Causes of a failure to read a master as a tree.
 
 ghost use Rattle.std.specs.Prelude.{◌≡◌};
 ghost use Rattle.ebml_tree.specs.declared.end.TreeEnd.TheVariants as tree_end;
@@ -7,10 +7,10 @@ use mkv_io::Damage;
 use std::alloc::{AllocError, AllocFailed};
 use thiserror::Error;
 
-/// Reason why a master isn't read as a tree.
+/// End of reading a master without a tree.
 #[derive(Debug, Drop, Error)]
 pub enum TreeEnd {
-    /// The master isn't made of valid Elements, or passes a limit.
+    /// The master isn't made of valid Elements, or exceeds a limit.
     #[error("Damage")]
     Damage(Damage),
     /// Memory ran out.

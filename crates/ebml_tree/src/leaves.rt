@@ -11,8 +11,8 @@ use crate::tree::Tree;
 use ebml_numbers::put_uint;
 use std::alloc::{AllocError, Global};
 
-/// Returns a leaf `id` with the unsigned integer `value` in the fewest bytes (RFC 8794, section 7.2, Unsigned Integer
-/// Element).
+/// Returns a new leaf with the ID `id` and the unsigned integer `value` in the fewest bytes (RFC 8794, section 7.2,
+/// Unsigned Integer Element).
 pub fn uint_leaf(alloc: Global, id: u32, value: u64) -> Result<Tree, AllocError>
     requires { IsTrue (is_id id) }
     ensures exact { IfOk result (λ tree. tree ≡ uint_leaf id value) }
@@ -22,7 +22,8 @@ pub fn uint_leaf(alloc: Global, id: u32, value: u64) -> Result<Tree, AllocError>
     Tree::leaf(alloc, id, octets.as_slice())
 }
 
-/// Returns a leaf `id` with the text `text` (RFC 8794, sections 7.4, String Element, and 7.5, UTF-8 Element).
+/// Returns a new leaf with the ID `id` and the text `text` (RFC 8794, sections 7.4, String Element, and 7.5, UTF-8
+/// Element).
 pub fn text_leaf(alloc: Global, id: u32, text: &str) -> Result<Tree, AllocError>
     requires { IsTrue (is_id id) }
     ensures exact { IfOk result (λ tree. tree ≡ leaf id 0 text.now) }

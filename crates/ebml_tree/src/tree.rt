@@ -67,7 +67,7 @@ impl Tree {
     ghost use Rattle.ebml_numbers.specs.Number.{is_id, uint_octets, int_of, int_octets, magnitude};
     ghost use Rattle.mkv_schema.specs.Value.{uint_value, text_of};
 
-    /// Returns a leaf `id` with the bytes `bytes` and the offset 0.
+    /// Returns a new leaf with the ID `id` and the bytes `bytes`, whose offset is 0.
     #[tactic(auto, using(tree_format::proofs::ValueLemmas::values))]
     pub fn leaf(alloc: Global, id: u32, bytes: &[u8]) -> Result<Tree, AllocError>
         requires { IsTrue (is_id id) }
@@ -120,7 +120,7 @@ impl Tree {
         self.offset
     }
 
-    /// Returns the number of nested masters, including this one, or 0 for a leaf.
+    /// Returns the number of nested masters of the tree, itself included, or 0 for a leaf.
     pub fn depth(&self) -> u8
         ensures exact { result ≡ depth self.now }
         ensures most { result ≤ deepest }
@@ -145,7 +145,7 @@ impl Tree {
         first_of(self.children(), id)
     }
 
-    /// Returns the child number `k` of the children with the ID `id`, counted from 0.
+    /// Returns the child with the number `k`, counted from 0, among the children with the ID `id`.
     pub fn nth(&self, id: u32, k: usize) -> Option<&Tree>
         ensures exact { option_copied result ≡ slice_get (filter (λ n. id_of n == id) (children self.now)) k }
         ensures room { IfSome result (λ tree. HasRoom tree.now) }
@@ -153,7 +153,7 @@ impl Tree {
         nth_of(self.children(), id, k)
     }
 
-    /// Returns the child number `k`, counted from 0.
+    /// Returns the child with the number `k`, counted from 0, if there is one.
     pub fn at(&self, k: usize) -> Option<&Tree>
         ensures exact { option_copied result ≡ slice_get (children self.now) k }
         ensures room { IfSome result (λ tree. HasRoom tree.now) }
@@ -161,7 +161,7 @@ impl Tree {
         tree_at(self.children(), k)
     }
 
-    /// Returns the children, to be changed in place, without allocating. A leaf has none.
+    /// Takes the tree apart, and returns its children without copying them. A leaf has none.
     #[tactic(auto, using(crate::proofs::ContentLemmas::changes))]
     pub fn into_children(self) -> Vec<Tree>
         ensures exact { result.items ≡ children self }
@@ -178,8 +178,8 @@ impl Tree {
         self.content.body()
     }
 
-    /// Returns the value of an unsigned integer (RFC 8794, section 7.2, Unsigned Integer Element). If it is empty,
-    /// returns the table's default, or 0.
+    /// Returns the value of the leaf as an unsigned integer (RFC 8794, section 7.2, Unsigned Integer Element). If it is
+    /// empty, returns the schema's default, or 0.
     pub fn uint(&self) -> u64
         requires { length (body_of self.now) ≤ 8 }
         ensures { result ≡ uint_value (id_of self.now) (body_of self.now) }
@@ -192,7 +192,8 @@ impl Tree {
         }
     }
 
-    /// Returns the value of a signed integer, or 0 if it is empty (RFC 8794, section 7.1, Signed Integer Element).
+    /// Returns the value of the leaf as a signed integer, or 0 if it is empty (RFC 8794, section 7.1, Signed Integer
+    /// Element).
     pub fn int(&self) -> i64
         requires { length (body_of self.now) ≤ 8 }
         ensures { result ≡ int_of (body_of self.now) }
@@ -200,8 +201,8 @@ impl Tree {
         read_int(self.body())
     }
 
-    /// Returns the bytes of a text, up to its first zero byte (RFC 8794, sections 7.4, String Element, and 7.5, UTF-8
-    /// Element).
+    /// Returns the bytes of the leaf as a text, up to its first zero byte (RFC 8794, sections 7.4, String Element, and
+    /// 7.5, UTF-8 Element).
     pub fn text(&self) -> &[u8]
         ensures { result.now ≡ text_of (body_of self.now) }
     {
@@ -279,7 +280,7 @@ impl Tree {
         self.depth = depth_around(self.content.kids());
     }
 
-    /// Returns the number of bytes of the normal form.
+    /// Returns the number of bytes of the tree as it is written, in its normal form.
     #[tactic(auto, using(crate::proofs::ContentLemmas::written))]
     pub fn written_len(&self) -> u64
         ensures exact { result ≡ length (octets self.now) }
@@ -291,8 +292,8 @@ impl Tree {
         element_len(self.id, self.written)
     }
 
-    /// Appends the normal form to `out`. Headers are as short as possible, Void and CRC-32 are left out at every
-    /// depth, and other leaves keep their bytes. On failure nothing is appended.
+    /// Appends the tree to `out` in its normal form. Headers are as short as possible, Void and CRC-32 are left out at
+    /// every depth, and other leaves keep their bytes. If memory runs out, nothing is appended.
     pub fn put(&self, out: &mut Bytes) -> Result<(), AllocError>
         ensures ok { OnOk result (out.new ≡ out.old ++ octets self.now) }
         ensures err { OnErr result (out.new ≡ out.old) }
@@ -316,7 +317,7 @@ impl Tree {
         done
     }
 
-    // Appends the normal form to `out`. On failure `out` begins with the bytes that it had.
+    // Appends the tree to `out` in its normal form. If memory runs out, `out` still begins with the bytes that it had.
     #[tactic(auto, using(crate::proofs::ContentLemmas::written))]
     fn write(&self, out: &mut Vec<u8>) -> Result<(), AllocError>
         ensures ok { OnOk result (out.new.items ≡ out.old.items ++ octets self.now) }

@@ -12,7 +12,7 @@ ghost use Rattle.ebml_tree.specs.Texts.{HasText};
 use crate::tree::Tree;
 use mkv_schema::{text_default, uint_default};
 
-/// Returns the unsigned integer `id` among the children, if there is one.
+/// Returns the unsigned integer that is the first child of `tree` with the ID `id`, if there is one.
 pub fn integer_in(tree: &Tree, id: u32) -> Option<u64>
     requires sound { IsSound tree.now }
     requires uint { HasUint (id_of tree.now) id }
@@ -22,7 +22,7 @@ pub fn integer_in(tree: &Tree, id: u32) -> Option<u64>
     Some(child.uint())
 }
 
-/// Returns the unsigned integer `id` among the children, or the table's default if it is absent, or 0.
+/// Returns the unsigned integer that is the first child of `tree` with the ID `id`, or else the schema's default, or 0.
 pub fn uint_in(tree: &Tree, id: u32) -> u64
     requires sound { IsSound tree.now }
     requires uint { HasUint (id_of tree.now) id }
@@ -34,7 +34,8 @@ pub fn uint_in(tree: &Tree, id: u32) -> u64
     }
 }
 
-/// Returns the text `id` among the children, up to its first zero byte, or the table's default.
+/// Returns the text that is the first child of `tree` with the ID `id`, up to its first zero byte, or else the schema's
+/// default.
 pub fn text_in<'a>(tree: &'a Tree, id: u32) -> Option<&'a str>
     requires sound { IsSound tree.now }
     requires text { HasText (id_of tree.now) id }
@@ -46,7 +47,7 @@ pub fn text_in<'a>(tree: &'a Tree, id: u32) -> Option<&'a str>
     }
 }
 
-/// Returns a text, up to its first zero byte.
+/// Returns the text of `leaf`, up to its first zero byte.
 pub fn text_of(leaf: &Tree) -> &str
     requires { IsUtf8 (text_of (body_of leaf.now)) }
     ensures { result.now ≡ text_of (body_of leaf.now) }

@@ -16,18 +16,18 @@ placed_at n ns (Some k) = take k ns ++ n ∷ without (id_of n) (drop (k + 1) ns)
 abbrev pub with_child : Node → List Node → List Node
 with_child n ns = placed_at n ns (position (λ m. id_of m == id_of n) ns)
 
--- One of the children has the ID `id`.
+-- One of the children `ns` has the ID `id`.
 abbrev pub HasChild : ℕ → List Node → Type 0
 HasChild id ns = IsSome (position (λ m. id_of m == id) ns)
 
--- In the normal form the children have more bytes than a body may have.
+-- The children `ns` have more bytes, as they are written, than the content of an Element may have.
 abbrev pub AreTooLong : List Node → Type 0
 AreTooLong ns = longest < length (flat_map octets ns)
 
--- the children with the ID `id`, in order
+-- the children in `ns` with the ID `id`, in order
 abbrev pub part : ℕ → List Node → List Node
 part id ns = filter (λ n. id_of n == id) ns
 
--- No child has the ID `id`.
+-- None of the children `ns` has the ID `id`.
 abbrev pub HasNone : ℕ → List Node → Type 0
 HasNone id ns = All (λ n. (id_of n == id) ≡ false) ns

@@ -3,7 +3,7 @@ use Rattle.std.specs.Prelude.{◌≡◌, ◌<◌, ◌≤◌, ℕ, false}
 use Rattle.mkv_schema.specs.declared.element.Header.{Header}
 use Rattle.mkv_schema.specs.Element.{is_unknown, stated_end}
 
--- The Element `h` is at the offset `p`, its size is known, and it ends at `e` or before.
+-- The Element with the header `h` is at the offset `p` of a file and its size is known. It ends at the offset `e` or before.
 pub record Fits (p e : ℕ) (h : Header) : Type 0 where
   pub offset : h.offset ≡ p
   pub later : p < h.body

@@ -12,12 +12,12 @@ pub record ElementsAreListed : Type 0 where
   pub more : (parent p : ℕ) (octets : List ℕ) → 0 < length octets
       → elements_in parent p octets ≡ listed_from elements_in parent p octets (header_at parent p octets)
 
--- Reading step by step gives the tree that is defined over all Elements at once.
+-- Reading Element by Element gives the tree, or the first damage, that is defined over all Elements at once.
 abbrev pub TreesAreInOrder : Type 0
 TreesAreInOrder =
     (id offset : ℕ) (body : List ℕ) (base nodes : ℕ) → tree_of id offset body base nodes ≡ tree_in_order id offset body base nodes
 
--- A tree that is read with limits is the tree without limits.
+-- If reading with limits gives a tree, reading without limits gives the same tree.
 abbrev pub LimitsChangeNoTree : Type 0
 LimitsChangeNoTree =
     (id offset : ℕ) (body : List ℕ) (base nodes : ℕ) (n : Node) → tree_of id offset body base nodes ≡ Ok n
@@ -28,8 +28,8 @@ LimitsChangeNoTree =
 abbrev pub SoundTreesAreReadAgain : Type 0
 SoundTreesAreReadAgain = (n : Node) → IsMaster n → IsSound n → KeepsLimits n → IsReadWithoutLimits n
 
--- A child that is set takes the place of the first child with its ID, or the last place. It is the only child with its ID. Children with another
--- ID stay.
+-- A child `n` that is set takes the place of the first child with its ID, or the last place. It is the only child with its ID then. Children with
+-- another ID stay.
 pub record ChildrenChange : Type 0 where
   pub at : (n m : Node) (front back : List Node) → id_of m ≡ id_of n → HasNone (id_of n) front
       → with_child n (front ++ m ∷ back) ≡ front ++ n ∷ without (id_of n) back

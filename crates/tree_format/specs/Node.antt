@@ -23,7 +23,7 @@ abbrev pub list_of : Nodes → List Node
 list_of none = []
 list_of (node n ns) = n ∷ list_of ns
 
--- the ID of an Element
+-- the ID of the Element at the root of a tree
 abbrev pub id_of : Node → ℕ
 id_of (leaf id at body) = id
 id_of (master id at kids) = id
@@ -33,21 +33,21 @@ abbrev pub offset_of : Node → ℕ
 offset_of (leaf id at body) = at
 offset_of (master id at kids) = at
 
--- The Element is a leaf: it has a value, and no children.
+-- The tree is a leaf: an Element with a value, and without children.
 abbrev pub is_leaf : Node → Bool
 is_leaf (leaf id at body) = true
 is_leaf (master id at kids) = false
 
--- The Element is a master: it may have children.
+-- The tree `n` is a master: an Element that may have children.
 abbrev pub IsMaster : Node → Type 0
 IsMaster n = is_leaf n ≡ false
 
--- the bytes of a leaf
+-- the bytes of a leaf; none for a master
 abbrev pub body_of : Node → List ℕ
 body_of (leaf id at body) = body
 body_of (master id at kids) = []
 
--- the children of a master
+-- the children of a master; none for a leaf
 abbrev pub children : Node → List Node
 children (leaf id at body) = []
 children (master id at kids) = list_of kids
@@ -57,7 +57,7 @@ abbrev pub with_children : Node → List Node → Node
 with_children (leaf id at body) ns = leaf id at body
 with_children (master id at kids) ns = master id at (nodes_of ns)
 
--- the number of Elements, including this one
+-- the number of Elements of a tree, its root included
 abbrev mutual
   pub count : Node → ℕ
   count (leaf id at body) = 1
@@ -67,7 +67,7 @@ abbrev mutual
   count_all none = 0
   count_all (node n ns) = count n + count_all ns
 
--- the number of nested masters, including this one
+-- the number of nested masters of a tree, its root included; 0 for a leaf
 abbrev mutual
   pub depth : Node → ℕ
   depth (leaf id at body) = 0
@@ -77,10 +77,10 @@ abbrev mutual
   depth_all none = 0
   depth_all (node n ns) = max (depth n) (depth_all ns)
 
--- the maximum number of nested masters
+-- the maximum number of nested masters in a tree
 abbrev pub deepest : ℕ
 deepest = 32
 
--- The tree may be a child: a master around it isn't nested too deep.
+-- The tree `n` may be a child: a master around it isn't nested too deep.
 abbrev pub HasRoom : Node → Type 0
 HasRoom n = depth n < deepest

@@ -4,11 +4,11 @@ use Rattle.ebml_numbers.specs.Number.{id_octets, size_octets, least_size_width}
 use Rattle.mkv_schema.specs.declared.ids.TheConstants.{VOID, CRC_32}
 use Rattle.tree_format.specs.Node.{Node, Nodes, leaf, master, none, node}
 
--- The ID is Void or CRC-32. These don't describe the content of a master, and aren't written (section 11.3, Global Elements).
+-- An Element with the ID `id` is Void or CRC-32. These don't describe the content of a master, and aren't written (section 11.3, Global Elements).
 abbrev pub is_filler : ℕ → Bool
 is_filler id = id == VOID || id == CRC_32
 
--- the ID `id`, then the size of a body in the fewest bytes
+-- the header of an Element with the ID `id` and `size` bytes of content, with the size in the fewest bytes
 abbrev pub header_octets : ℕ → ℕ → List ℕ
 header_octets id size = id_octets id ++ size_octets size (least_size_width size)
 
@@ -16,7 +16,7 @@ header_octets id size = id_octets id ++ size_octets size (least_size_width size)
 abbrev pub element_octets : ℕ → List ℕ → List ℕ
 element_octets id body = header_octets id (length body) ++ body
 
--- an Element, or nothing if it isn't written
+-- the bytes of the Element with the ID `id` and the content `body`, or nothing if it is Void or CRC-32
 abbrev pub kept_octets : ℕ → List ℕ → List ℕ
 kept_octets id body = if is_filler id then [] else element_octets id body
 
@@ -30,7 +30,7 @@ abbrev mutual
   octets_all none = []
   octets_all (node n ns) = octets n ++ octets_all ns
 
--- the bytes after an Element's header
+-- the bytes of a tree after its root's header, as they are written
 abbrev pub content : Node → List ℕ
 content (leaf id at body) = body
 content (master id at kids) = octets_all kids

@@ -10,7 +10,7 @@ use crate::tree::Tree;
 use crate::tree::writing::LONGEST;
 use std::alloc::{AllocError, Global};
 
-// Bytes of a leaf, or children of a master.
+// Content of an Element in memory: bytes of a leaf, or children of a master.
 #[cycle(tree)]
 #[derive(Drop)]
 pub(super) enum Content {
@@ -100,7 +100,7 @@ impl Content {
     }
 }
 
-// Replaces the first tree with the child's ID and removes the others, or appends the child.
+// Replaces the first of `trees` with the child's ID by `child` and removes the others with this ID, or appends `child`.
 fn set_in(trees: &mut Vec<Tree>, child: Tree) -> Result<(), AllocError>
     ensures ok { OnOk result (trees.new.items ≡ with_child child trees.old.items) }
     ensures err { OnErr result (trees.new.items ≡ trees.old.items) }
@@ -118,7 +118,7 @@ fn set_in(trees: &mut Vec<Tree>, child: Tree) -> Result<(), AllocError>
     }
 }
 
-// Returns the index of the first tree with the ID `id`.
+// Returns the index of the first of `trees` with the ID `id`, counted from 0.
 fn place_of(trees: &[Tree], id: u32) -> Option<usize>
     ensures exact { result ≡ position (λ n. id_of n == id) trees.now }
     ensures inside { MatchOption result (Unit {0}) (λ k. k < length trees.now) }
@@ -126,7 +126,7 @@ fn place_of(trees: &[Tree], id: u32) -> Option<usize>
     trees.iter().position(|tree| tree.id() == id)
 }
 
-// Replaces the tree at the index `k` by `child`, and removes all later trees with its ID.
+// Replaces the tree at the index `k` of `trees` by `child`, and removes all later ones with its ID.
 fn put_at(trees: &mut Vec<Tree>, k: usize, child: Tree)
     requires { k < length trees.old.items }
     ensures { trees.new.items ≡ placed_at child trees.old.items (Some k) }
@@ -136,7 +136,7 @@ fn put_at(trees: &mut Vec<Tree>, k: usize, child: Tree)
     remove_from(trees, k + 1, id);
 }
 
-// Removes the trees with the ID `id` from the place `from` on.
+// Removes the trees with the ID `id` from `trees`, starting at the index `from`.
 fn remove_from(trees: &mut Vec<Tree>, from: usize, id: u32)
     requires { from ≤ length trees.old.items }
     ensures { trees.new.items ≡ take from trees.old.items ++ without id (drop from trees.old.items) }
@@ -151,14 +151,14 @@ fn remove_from(trees: &mut Vec<Tree>, from: usize, id: u32)
     trees.truncate(kept);
 }
 
-// Removes all trees with the ID `id`.
+// Removes all trees with the ID `id` from `trees`.
 fn remove_all(trees: &mut Vec<Tree>, id: u32)
     ensures { trees.new.items ≡ without id trees.old.items }
 {
     trees.retain(|tree| tree.id() != id);
 }
 
-// Returns the number of bytes of the trees in the normal form.
+// Returns the number of bytes of all `trees` as they are written, in their normal form.
 #[tactic(auto, using(crate::proofs::LoopLemmas::rest))]
 pub(super) fn written_together(trees: &[Tree]) -> u64
     requires { length (flat_map octets trees.now) ≤ longest }
@@ -171,7 +171,7 @@ pub(super) fn written_together(trees: &[Tree]) -> u64
     sum
 }
 
-// Returns the number of bytes that the trees take in the normal form, without the trees with the ID `id`.
+// Returns the number of bytes of `trees` as they are written, except the ones with the ID `id`.
 #[tactic(auto, using(crate::proofs::LoopLemmas::others))]
 pub(super) fn written_without(id: u32, trees: &[Tree]) -> u64
     requires { length (flat_map octets trees.now) ≤ longest }
@@ -186,7 +186,8 @@ pub(super) fn written_without(id: u32, trees: &[Tree]) -> u64
     sum
 }
 
-// Returns the number of bytes of the trees in the normal form, or None if a body can't have that many.
+// Returns the number of bytes of all `trees` as they are written, or None if the content of an Element can't have that
+// number.
 #[tactic(auto, using(crate::proofs::LoopLemmas::rest))]
 pub(super) fn written_within(trees: &[Tree]) -> Option<u64>
     ensures { MatchOption result (Unit {0}) (λ sum. (sum ≡ length (flat_map octets trees.now)) × (sum ≤ longest)) }
@@ -201,7 +202,7 @@ pub(super) fn written_within(trees: &[Tree]) -> Option<u64>
     Some(sum)
 }
 
-// Returns the number of nested masters of a master around the trees.
+// Returns the number of nested masters of a master around `trees`, itself included.
 #[tactic(auto, using(crate::proofs::LoopLemmas::rest))]
 pub(super) fn depth_around(trees: &[Tree]) -> u8
     requires { depth_all (nodes_of trees.now) < deepest }
@@ -214,21 +215,21 @@ pub(super) fn depth_around(trees: &[Tree]) -> u8
     most + 1
 }
 
-// Returns the first tree with the ID `id`.
+// Returns the first of `trees` with the ID `id`, if there is one.
 pub(super) fn first_of(trees: &[Tree], id: u32) -> Option<&Tree>
     ensures { option_copied result ≡ find (λ n. id_of n == id) trees.now }
 {
     trees.iter().find(|tree| tree.id() == id)
 }
 
-/// Returns the tree at the index `k`, if there is one.
+/// Returns the tree at the index `k` of `trees`, counted from 0, if there is one.
 pub(super) fn tree_at(trees: &[Tree], k: usize) -> Option<&Tree>
     ensures { option_copied result ≡ slice_get trees.now k }
 {
     trees.get(k)
 }
 
-// Returns the tree number `k` of the trees with the ID `id`, counted from 0.
+// Returns the tree with the number `k`, counted from 0, among the ones of `trees` with the ID `id`.
 pub(super) fn nth_of(trees: &[Tree], id: u32, k: usize) -> Option<&Tree>
     ensures { option_copied result ≡ slice_get (filter (λ n. id_of n == id) trees.now) k }
 {

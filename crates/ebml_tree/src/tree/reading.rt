@@ -26,11 +26,11 @@ impl Tree {
     ghost use Rattle.tree_format.specs.Reading.{tree_of};
     ghost use Rattle.ebml_tree.specs.Outcome.{ReadsTree};
 
-    /// Reads the tree of a master `id` from its body (RFC 8794, section 7.7, Master Element).
+    /// Reads a master with the ID `id` as a tree, from its content `body` (RFC 8794, section 7.7, Master Element).
     ///
-    /// The header is at `offset` and the body at `base`, in bytes from the start of the file. The tree may have
-    /// `nodes` Elements, including the master, Void and CRC-32, and 32 masters may be nested. A damage is the first
-    /// one in the order of the Elements.
+    /// The header is at the offset `offset` of the file, and the content at the offset `base`. The tree may have
+    /// `nodes` Elements, including the master, Void and CRC-32, and 32 masters may be nested. Damage is the first one
+    /// in the order of the Elements.
     pub fn parse(
         alloc: Global,
         id: u32,
@@ -54,7 +54,7 @@ impl Tree {
         Tree::read(alloc, id, offset, body, base, nodes)
     }
 
-    // Returns the tree that the definition gives.
+    // Reads the tree for `parse`, which promises more about it.
     #[tactic(auto, using(crate::proofs::EndLemmas::masters))]
     fn read(
         alloc: Global,
@@ -77,7 +77,7 @@ impl Tree {
         Tree::of_children(id, offset, trees)
     }
 
-    // Returns a leaf at the offset `offset`.
+    // Returns a leaf with the ID `id` and the bytes `bytes`, whose header is at the offset `offset` of a file.
     pub(super) fn of_body(
         alloc: Global,
         id: u32,
@@ -100,7 +100,8 @@ impl Tree {
         })
     }
 
-    // Returns a master at the offset `offset`.
+    // Returns a master with the ID `id` and the children `trees`, whose header is at the offset `offset` of a file.
+    // Fails as if memory ran out if the children are too long together.
     fn of_children(id: u32, offset: u64, trees: Vec<Tree>) -> Result<Tree, TreeEnd>
         requires id { IsTrue (is_written_id id) }
         requires room { depth_all (nodes_of trees.items) < deepest }
@@ -121,7 +122,8 @@ impl Tree {
     }
 }
 
-// Returns the refusal of a tree with too many nodes or nested masters, at this Element.
+// Returns the refusal of a tree with too many Elements or nested masters. The first that is too many has the ID `id`
+// and the offset `offset`.
 fn too_many(id: u32, offset: u64) -> TreeEnd
     ensures { result ≡ TreeEnd.Damage (record { kind = Kind.TooMany; id = id; offset = offset }) }
 {
@@ -132,14 +134,15 @@ fn too_many(id: u32, offset: u64) -> TreeEnd
     })
 }
 
-// Checks whether the table has `id` as a master under `parent`.
+// Checks whether the schema has `id` as a master under `parent`; any other Element is read as a leaf.
 fn is_master_in(parent: u32, id: u32) -> bool
     ensures { result ≡ is_master_in parent id }
 {
     may_stand(id, parent) && is_master(id)
 }
 
-// Returns the tree of an Element with the header `header` and its body.
+// Reads the Element with the header `header` and the content `body` under `parent` as a tree. It may have `room` nested
+// masters, and `left` is the number of Elements that may still follow.
 #[cycle(reading)]
 fn tree_in(
     alloc: Global,
@@ -177,7 +180,8 @@ fn tree_in(
     Ok(Tree::of_body(alloc, header.id, header.offset, body)?)
 }
 
-// Returns the trees of the Elements of a body.
+// Reads the Elements in `body`, the content of a master with the ID `parent`, as trees. It is at the offset `place` of
+// the file. The trees may have `room` nested masters, and `left` is the number of Elements that may still follow.
 #[cycle(reading)]
 fn trees_in(
     alloc: Global,
@@ -207,7 +211,8 @@ fn trees_in(
     Ok(trees)
 }
 
-// Returns the header of the Element at the start of `rest`, the unread bytes of a master.
+// Returns the header of the Element at the start of `rest`. They are the unread bytes of a master with the ID `parent`,
+// at the offset `at` of the file.
 fn front_header(parent: u32, at: u64, rest: &[u8]) -> Result<Header, Damage>
     requires { at + length rest.now ≤ 2 ^ 63 }
     ensures { result ≡ header_at parent at rest.now }
@@ -216,7 +221,8 @@ fn front_header(parent: u32, at: u64, rest: &[u8]) -> Result<Header, Damage>
     read_header(rest, Parent::Tree(parent), end, at, end)
 }
 
-// Returns the header of the Element at the start of `rest`, the unread bytes of a master, and the length of its body.
+// Returns the header of the Element at the start of `rest`, and the length of its content in bytes. `rest` are the
+// unread bytes of a master with the ID `parent`, at the offset `at` of the file.
 fn header_in(parent: u32, at: u64, rest: &[u8]) -> Result<(Header, u64), Damage>
     requires { at + length rest.now ≤ 2 ^ 63 }
     ensures ok { IfOk result (λ found. header_at parent at rest.now ≡ Ok found.0) }
@@ -232,7 +238,8 @@ fn header_in(parent: u32, at: u64, rest: &[u8]) -> Result<(Header, u64), Damage>
     }
 }
 
-// Returns the bytes of the Element's body, and the bytes after the Element.
+// Splits `rest`, the unread bytes of a master at the offset `at` of the file. Returns the content of its first Element,
+// `size` bytes after `header`, and the bytes after the Element.
 fn cut<'a>(rest: &'a [u8], at: u64, header: &Header, size: u64) -> (&'a [u8], &'a [u8])
     requires fits { Fits at (at + length rest.now) header.now }
     requires size { size ≡ known header.now.size }

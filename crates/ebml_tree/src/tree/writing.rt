@@ -8,17 +8,17 @@ use ebml_numbers::{put_id, put_size, size_width};
 use mkv_schema::ids::{CRC_32, VOID};
 use std::alloc::AllocError;
 
-// Maximum number of bytes after a header (RFC 8794, section 6.2, Unknown Data Size).
+// Maximum number of bytes after an Element's header (RFC 8794, section 6.2, Unknown Data Size).
 pub(super) const LONGEST: u64 = 0xFF_FFFF_FFFF_FFFE;
 
-// Checks whether an Element is left out: Void, or CRC-32 (RFC 8794, section 11.3, Global Elements).
+// Checks whether Elements with the ID `id` are left out: Void, and CRC-32 (RFC 8794, section 11.3, Global Elements).
 pub(super) fn is_filler(id: u32) -> bool
     ensures { result ≡ is_filler id }
 {
     id == VOID || id == CRC_32
 }
 
-// Returns the length of an Element with `written` bytes after its header.
+// Returns the length in bytes of an Element with the ID `id` and `written` bytes of content, or 0 if it is left out.
 #[tactic(auto, using(crate::proofs::ContentLemmas::lengths))]
 pub(super) fn element_len(id: u32, written: u64) -> u64
     requires id { IsTrue (is_written_id id) }
@@ -32,7 +32,7 @@ pub(super) fn element_len(id: u32, written: u64) -> u64
     u64::from(put_id(id).len) + u64::from(size_width(written)) + written
 }
 
-// Appends the ID `id` and the size `written` to `out`.
+// Appends the header of an Element with the ID `id` and `written` bytes of content to `out`.
 #[tactic(auto, using(crate::proofs::ContentLemmas::lengths))]
 pub(super) fn write_header(id: u32, written: u64, out: &mut Vec<u8>) -> Result<(), AllocError>
     requires id { IsTrue (is_written_id id) }
