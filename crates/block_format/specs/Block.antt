@@ -34,11 +34,11 @@ nanoseconds scale ticks = ticks *ℤ pos scale
 abbrev pub time_of : ℕ → ℕ → Content → ℤ
 time_of scale timestamp content = nanoseconds scale (pos timestamp +ℤ content.relative)
 
--- A time in nanoseconds is too large for a block: its size is at least the limit.
+-- A time of `time` nanoseconds, before or after 0, is too large for a block: its absolute value is at least 2^56.
 abbrev pub is_too_large : ℤ → Bool
 is_too_large time = nat_le TOO_LARGE_TIME (nat_abs time)
 
--- The block's timestamp, its duration or a reference is too large.
+-- The timestamp, the duration or a reference of the block `block` is too large.
 abbrev pub has_too_large_time : Block → Bool
 has_too_large_time block =
     is_too_large block.time
@@ -47,7 +47,8 @@ has_too_large_time block =
 
 -- ---- blocks that are made of a content
 
--- the block of a SimpleBlock with the content `content`
+-- the block of a SimpleBlock with the content `content` at the offset `offset` of the file. Its Cluster has the Timestamp `timestamp`, in ticks of
+-- `scale` nanoseconds.
 abbrev pub simple_block_with : ℕ → ℕ → ℕ → Content → Block
 simple_block_with scale timestamp offset content = record {
   track = content.track;

@@ -9,19 +9,19 @@ use Rattle.mkv_io.specs.declared.damage.Kind.TheVariants.{ShortBlock, BadLacing}
 
 -- ---- the header
 
--- the length of the header: the track number, two bytes of time and one of flags
+-- the length in bytes of the header in `octets`, the content of a Block or SimpleBlock. It has the track number, two bytes of time and one of flags.
 abbrev pub header_len : List ℕ → ℕ
 header_len octets = announced octets + 3
 
--- The bytes end inside the header, or the track number begins with `00`, which gives no width.
+-- The content `octets` of a Block or SimpleBlock ends inside its header, or its track number begins with `00`, which gives no width.
 abbrev pub has_no_header : List ℕ → Bool
 has_no_header octets = slice_index octets 0 == 0 || nat_lt (length octets) (header_len octets)
 
--- the track number, which may be any data of a variable-size integer
+-- the track number in `octets`, the content of a Block or SimpleBlock, which may be any data of a variable-size integer
 abbrev pub track_in : List ℕ → ℕ
 track_in octets = vint_data (announced octets) octets
 
--- the signed number of ticks from the Cluster's Timestamp to the block's
+-- the signed number of ticks from the Cluster's Timestamp to the block with the content `octets`
 abbrev pub relative_in : List ℕ → ℤ
 relative_in octets = int_of (take 2 (drop (announced octets) octets))
 
@@ -29,7 +29,7 @@ relative_in octets = int_of (take 2 (drop (announced octets) octets))
 abbrev pub flags_in : List ℕ → ℕ
 flags_in octets = slice_index octets (announced octets + 2)
 
--- the bytes of a Block or SimpleBlock after its header
+-- the bytes after the header in `octets`, the content of a Block or SimpleBlock
 abbrev pub data_in : List ℕ → List ℕ
 data_in octets = drop (header_len octets) octets
 
@@ -39,19 +39,19 @@ data_in octets = drop (header_len octets) octets
 abbrev pub has_flag : ℕ → ℕ → Bool
 has_flag flag flags = not (bit_and flags flag == 0)
 
--- The flags have the keyframe flag of a SimpleBlock. A Block has no such flag.
+-- The flags `flags` have the keyframe flag of a SimpleBlock. A Block has no such flag.
 abbrev pub is_key : ℕ → Bool
 is_key flags = has_flag 0x80 flags
 
--- The block is decoded, but not shown.
+-- The flags `flags` state that the block is decoded, but not shown.
 abbrev pub is_invisible : ℕ → Bool
 is_invisible flags = has_flag 0x08 flags
 
--- The block may be left out if there is no time for it. A Block has no such flag.
+-- The flags `flags` state that the block may be left out if there is no time for it. A Block has no such flag.
 abbrev pub is_discardable : ℕ → Bool
 is_discardable flags = has_flag 0x01 flags
 
--- the kind of lacing that the two bits of the flags give
+-- the lacing for `bits`, the two bits of it in the flags of a block
 abbrev pub lace_of_bits : ℕ → Lace
 lace_of_bits bits =
     if bits == 0x00 then lace.None else
@@ -59,28 +59,28 @@ lace_of_bits bits =
     if bits == 0x04 then lace.Fixed else
     lace.Ebml
 
--- the kind of lacing, by its two bits
+-- the lacing in the flags `flags` of a block
 abbrev pub lace_of : ℕ → Lace
 lace_of flags = lace_of_bits (bit_and flags 0x06)
 
 -- ---- the frames
 
--- the bytes divided into frames with the sizes `sizes`
+-- the bytes `octets` divided into frames with the given sizes
 abbrev pub frames_cut : List ℕ → List ℕ → List (List ℕ)
 frames_cut [] octets = []
 frames_cut (size ∷ sizes) octets = take size octets ∷ frames_cut sizes (drop size octets)
 
--- the frames after the head of a lace, divided by the sizes in the head
+-- the frames of a lace: `octets`, divided by the head with the sizes that was read from their start, or damage if it wasn't valid
 abbrev pub frames_behind : List ℕ → Option (List ℕ × ℕ) → Result (List (List ℕ)) Kind
 frames_behind octets None = Err BadLacing
 frames_behind octets (Some (sizes, head)) = Ok (frames_cut sizes (drop head octets))
 
--- the frames of a lace; a byte before its head has the number of the frames, minus one
+-- the frames of a lace of the kind `kind`, or the kind of damage in it. A byte before its head has the number of the frames, minus one.
 abbrev pub laced_frames : Lace → List ℕ → Result (List (List ℕ)) Kind
 laced_frames kind [] = Err ShortBlock
 laced_frames kind (less_one ∷ octets) = frames_behind octets (lace_in kind (less_one + 1) octets)
 
--- the frames in the bytes after the header; without lacing they are one frame
+-- the frames in the bytes after the header of a block with the given lacing, or the kind of damage in them. Without lacing they are one frame.
 abbrev pub frames_in : Lace → List ℕ → Result (List (List ℕ)) Kind
 frames_in lace.None octets = Ok (octets ∷ [])
 frames_in lace.Xiph octets = laced_frames lace.Xiph octets
@@ -89,7 +89,7 @@ frames_in lace.Ebml octets = laced_frames lace.Ebml octets
 
 -- ---- the whole
 
--- the content of a Block or a SimpleBlock
+-- the content of a Block or SimpleBlock: track number, relative time in ticks, flags and frames
 pub record Content : Type 0 where
   pub track : ℕ
   pub relative : ℤ
@@ -101,7 +101,7 @@ abbrev pub content_with : List ℕ → Result (List (List ℕ)) Kind → Result 
 content_with octets (Err kind) = Err kind
 content_with octets (Ok frames) = Ok (record { track = track_in octets; relative = relative_in octets; flags = flags_in octets; frames = frames })
 
--- the content that the bytes encode, or the kind of their damage
+-- the content that `octets`, the bytes of a Block or SimpleBlock, encode, or the kind of their damage
 unfoldable pub content_in : List ℕ → Result Content Kind
 content_in octets =
     if has_no_header octets then Err ShortBlock else content_with octets (frames_in (lace_of (flags_in octets)) (data_in octets))

@@ -23,41 +23,41 @@ pub record Rules : Type 0 where
   pub limits : Bool
   pub scale : ℕ
 
--- the rules for a reader with limits and `scale` nanoseconds per tick
+-- the rules for reading with the limits of a reader, with `scale` nanoseconds per tick
 abbrev pub with_limits : ℕ → Rules
 with_limits scale = record { limits = true; scale = scale }
 
--- the rules for reading a written file back: without the limits of a reader
+-- the rules for reading a written file back, without the limits of a reader, with `scale` nanoseconds per tick
 abbrev pub without_limits : ℕ → Rules
 without_limits scale = record { limits = false; scale = scale }
 
 -- ---- every block
 
--- the damage of a block whose body is longer than a reader's limit
+-- the damage of a SimpleBlock or BlockGroup with the header `h` that is longer than a reader's limit, if the rules `r` have limits
 abbrev pub too_long : Rules → Header → Option Damage
 too_long r h = where_it (r.limits && nat_lt MAX_BLOCK_LEN (known h.size)) (damage BlockTooLarge h.id h.offset)
 
--- the Timestamp before the block, or NoTimestamp
+-- the Timestamp of the Cluster before the block with the header `h`, or the damage NoTimestamp
 abbrev pub timestamp_or : Header → Option ℕ → Result ℕ Damage
 timestamp_or h None = Err (damage NoTimestamp h.id h.offset)
 timestamp_or h (Some timestamp) = Ok timestamp
 
--- the Timestamp of a block that isn't too long
+-- the Timestamp of the Cluster before the block with the header `h`, or its damage, also if it is too long
 abbrev pub timestamp_for : Rules → Option ℕ → Header → Result ℕ Damage
 timestamp_for r timestamp h = and_then (unless (too_long r h) timestamp) (timestamp_or h)
 
--- a result whose damage gets the ID `id` and the offset `offset`
+-- the given result, whose damage gets the ID `id` and the offset `offset` of its Element
 abbrev pub at_place : {A : Type 0} → ℕ → ℕ → Result A Kind → Result A Damage
 at_place id offset (Ok x) = Ok x
 at_place id offset (Err kind) = Err (damage kind id offset)
 
--- a block whose timestamps aren't too large for a reader
+-- the block `block`, or the damage TimeTooLarge of its Element with the ID `id` if a time is too large for a reader
 abbrev pub in_time : Rules → ℕ → Block → Result Block Damage
 in_time r id block = unless (where_it (r.limits && has_too_large_time block) (damage TimeTooLarge id block.offset)) block
 
 -- ---- a SimpleBlock
 
--- the block of a SimpleBlock after the Timestamp `timestamp` of its Cluster, or its first damage
+-- the block of the SimpleBlock `h` in the content `bytes` after the Timestamp `timestamp` of its Cluster, or its first damage
 unfoldable pub simple_block : Rules → List ℕ → Option ℕ → Header → Result Block Damage
 simple_block r bytes timestamp h =
     and_then (timestamp_for r timestamp h) (λ time.
@@ -66,57 +66,58 @@ simple_block r bytes timestamp h =
 
 -- ---- a BlockGroup
 
--- the children of the BlockGroup `h`, up to the first damage
+-- the children of the BlockGroup `h` in the content `bytes`, up to the first damage
 abbrev pub group_run : List ℕ → Header → Run
 group_run bytes h = children_in in_master bytes h.body (stated_end h)
 
--- the damage of the first child that isn't a value of its kind, or the damage that ends the children
+-- the damage of the first child in `run` of a BlockGroup that isn't a value of its kind, or the damage after its children
 abbrev pub group_refusal : List ℕ → Run → Option Damage
 group_refusal bytes run = first_damage (bad_value bytes BLOCK_GROUP run.list ∷ run.damage ∷ [])
 
--- the children of the BlockGroup `h`, or the first damage among them
+-- the children of the BlockGroup `h` in the content `bytes`, or the first damage among them
 abbrev pub group_children : List ℕ → Header → Result (List Header) Damage
 group_children bytes h = unless (group_refusal bytes (group_run bytes h)) (group_run bytes h).list
 
--- the first Block of a group, or MissingChild
+-- the first Block of the BlockGroup `h`, or the damage MissingChild
 abbrev pub block_or : Header → Option Header → Result Header Damage
 block_or h None = Err (damage MissingChild BLOCK h.offset)
 block_or h (Some block) = Ok block
 
--- the ReferenceBlocks among the children; each of them counts
+-- the ReferenceBlocks among `children` of a BlockGroup; each of them counts
 abbrev pub references_among : List Header → List Header
 references_among children = filter (λ c. c.id == REFERENCE_BLOCK) children
 
--- the damage of the first ReferenceBlock after a reader's limit
+-- the damage of the first ReferenceBlock among `children` after a reader's limit, if the rules `r` have limits
 abbrev pub too_many_references : Rules → List Header → Option Damage
 too_many_references r children =
     if r.limits then option_map (λ (c : Header). damage TooMany c.id c.offset) (slice_get (references_among children) MAX_REFERENCES) else None
 
--- the duration in nanoseconds by the first BlockDuration, if there is one
+-- the duration in nanoseconds by the first BlockDuration among `children` of a BlockGroup, if there is one; `scale` is the nanoseconds per tick
 abbrev pub duration_of : ℕ → List ℕ → List Header → Option ℕ
 duration_of scale bytes children = option_map (λ (c : Header). uint_of (body_of bytes c) * scale) (first_of BLOCK_DURATION children)
 
--- the ReferenceBlocks among the children of a BlockGroup, in nanoseconds
+-- the references in nanoseconds by the ReferenceBlocks among `children` of a BlockGroup; `scale` is the nanoseconds per tick
 abbrev pub references_of : ℕ → List ℕ → List Header → List ℤ
 references_of scale bytes children = map (λ (c : Header). nanoseconds scale (int_of (body_of bytes c))) (references_among children)
 
--- the IDs of Elements that aren't copied: the parts of the block itself, and Elements that don't describe it
+-- the IDs of children of a BlockGroup that aren't kept: the parts of the block itself, and Elements that don't describe it
 abbrev pub left_out : List ℕ
 left_out = BLOCK ∷ BLOCK_DURATION ∷ REFERENCE_BLOCK ∷ VOID ∷ CRC_32 ∷ SLICES ∷ []
 
--- The output gets a copy of each child of a BlockGroup with the ID `id`.
+-- An output keeps each child of a BlockGroup with the ID `id`, as it is.
 abbrev pub is_kept : ℕ → Bool
 is_kept id = not (list_any (λ other. id == other) left_out)
 
--- the bytes of an Element, with its header
+-- the bytes of the Element with the header `h` in the content `bytes`, its header included
 abbrev pub element_octets : List ℕ → Header → List ℕ
 element_octets bytes h = octets_between bytes h.offset (stated_end h)
 
--- the bytes of all other Elements of a group, in their order, which are copied
+-- the bytes of the kept ones among `children` of a BlockGroup, in their order
 abbrev pub kept_of : List ℕ → List Header → List ℕ
 kept_of bytes children = flat_map (λ (c : Header). element_octets bytes c) (filter (λ (c : Header). is_kept c.id) children)
 
--- the block of a group with the children `children` and the content `content` of its Block; it is a keyframe if it has no references
+-- the block of a BlockGroup at the offset `offset`, with the children `children` and the content `content` of its Block. It is a keyframe if it has
+-- no references.
 abbrev pub group_with : ℕ → List ℕ → ℕ → ℕ → List Header → Content → Block
 group_with scale bytes timestamp offset children content = record {
   track = content.track;
@@ -133,14 +134,14 @@ group_with scale bytes timestamp offset children content = record {
   offset = offset;
 }
 
--- the block of a group with the children `children` and the Block `block`
+-- the block of a BlockGroup at the offset `offset`, with the children `children` and the Block `block`, or its first damage
 abbrev pub group_among : Rules → List ℕ → ℕ → ℕ → List Header → Header → Result Block Damage
 group_among r bytes timestamp offset children block =
     and_then (at_place BLOCK offset (content_in (body_of bytes block))) (λ content.
     and_then (unless (too_many_references r children) content) (λ content.
     in_time r BLOCK (group_with r.scale bytes timestamp offset children content)))
 
--- the block of a BlockGroup after the Timestamp `timestamp` of its Cluster, or its first damage
+-- the block of the BlockGroup `h` in the content `bytes` after the Timestamp `timestamp` of its Cluster, or its first damage
 unfoldable pub block_group : Rules → List ℕ → Option ℕ → Header → Result Block Damage
 block_group r bytes timestamp h =
     and_then (timestamp_for r timestamp h) (λ time.

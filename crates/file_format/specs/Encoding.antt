@@ -13,23 +13,23 @@ use Rattle.tree_format.specs.Values.{first_child, uint_in, failing_child}
 
 -- ---- one ContentEncoding
 
--- the ContentCompAlgo of the first ContentCompression, or 0, the table's default, if there is none
+-- the ContentCompAlgo of the first ContentCompression of the ContentEncoding `encoding`, or 0, the schema's default, if there is none
 abbrev pub algorithm_of : Node → ℕ
 algorithm_of encoding = option_map_or (λ c. uint_in CONTENT_COMP_ALGO c) (first_child CONTENT_COMPRESSION encoding) 0
 
--- the first ContentCompSettings of the first ContentCompression, or no bytes if there is none
+-- the first ContentCompSettings of the first ContentCompression of the ContentEncoding `encoding`, or no bytes if there is none
 abbrev pub settings_of : Node → List ℕ
 settings_of encoding = option_map_or body_of (option_and_then (λ c. first_child CONTENT_COMP_SETTINGS c) (first_child CONTENT_COMPRESSION encoding)) []
 
--- the ContentCompAlgo of header stripping
+-- the ContentCompAlgo that means header stripping
 abbrev pub header_stripping : ℕ
 header_stripping = 3
 
--- the maximum number of bytes that are put back before a frame
+-- the maximum number of bytes that are put back before each frame
 abbrev pub most_stripped : ℕ
 most_stripped = 4096
 
--- The encoding only compresses frames (scope 1, type 0), by header stripping, with at most `most_stripped` bytes.
+-- The ContentEncoding `encoding` only compresses frames (scope 1, type 0), by header stripping, with at most `most_stripped` bytes.
 abbrev pub strips_headers : Node → Bool
 strips_headers encoding =
     uint_in CONTENT_ENCODING_SCOPE encoding == 1
@@ -39,39 +39,39 @@ strips_headers encoding =
 
 -- ---- a track
 
--- the ContentEncoding Elements of a ContentEncodings
+-- the ContentEncodings' children with the ID ContentEncoding, in order
 abbrev pub encodings_of : Node → List Node
 encodings_of encodings = filter (λ n. id_of n == CONTENT_ENCODING) (children encodings)
 
--- The list of encodings is empty, or its only encoding strips headers.
+-- The list of ContentEncoding Elements is empty, or its only one strips headers, so that it can be undone.
 abbrev pub can_be_undone : List Node → Bool
 can_be_undone [] = true
 can_be_undone (e ∷ []) = strips_headers e
 can_be_undone (e ∷ f ∷ es) = false
 
--- The bytes are an empty float, or 1.0 in four or eight bytes.
+-- The bytes `octets` are an empty float, or 1.0 in four or eight bytes.
 abbrev pub is_one : List ℕ → Bool
 is_one octets =
     bytes_eq octets []
     || bytes_eq octets (0x3F ∷ 0x80 ∷ 0 ∷ 0 ∷ [])
     || bytes_eq octets (0x3F ∷ 0xF0 ∷ 0 ∷ 0 ∷ 0 ∷ 0 ∷ 0 ∷ 0 ∷ [])
 
--- the damage of the first ContentEncodings, if it can't be undone
+-- the damage of the first ContentEncodings of the TrackEntry `entry`, if it can't be undone
 abbrev pub bad_encoding : Node → Option Damage
 bad_encoding entry = failing_child Encoding CONTENT_ENCODINGS (λ e. can_be_undone (encodings_of e)) entry
 
--- the damage of the first TrackTimestampScale, if it isn't 1
+-- the damage of the first TrackTimestampScale of the TrackEntry `entry`, if it isn't 1
 abbrev pub bad_scale : Node → Option Damage
 bad_scale entry = failing_child TrackScale TRACK_TIMESTAMP_SCALE (λ s. is_one (body_of s)) entry
 
--- the causes for which a track's frames can't be used, in the order of the checks
+-- the possible damage that makes the frames of the track with the TrackEntry `entry` unusable, in the order of the checks
 abbrev pub usable_causes : Node → List (Option Damage)
 usable_causes entry = bad_encoding entry ∷ bad_scale entry ∷ []
 
--- the bytes that header stripping removed from the start of each frame, or no bytes
+-- the bytes that header stripping removed from the start of each frame of the track with the TrackEntry `entry`, or no bytes
 abbrev pub prefix_of : Node → List ℕ
 prefix_of entry = option_map_or settings_of (option_and_then (λ e. first_child CONTENT_ENCODING e) (first_child CONTENT_ENCODINGS entry)) []
 
--- the bytes to put back before each frame, unless the track can't be used
+-- the bytes to put back before each frame of the track with the TrackEntry `entry`, or the damage that makes its frames unusable
 abbrev pub usable_prefix : Node → Result (List ℕ) Damage
 usable_prefix entry = unless (first_damage (usable_causes entry)) (prefix_of entry)

@@ -13,32 +13,33 @@ use Rattle.tree_format.specs.Order.{tree_without_limits}
 use Rattle.file_format.specs.Entry.{entries_of}
 use Rattle.file_format.specs.Refusal.{refusal_of}
 
--- a Tracks Element of a content as a tree, or the first damage in it: with a reader's limits, and without them
+-- the Tracks with the header `h` in the content `bytes` as a tree, or the first damage in it, for a reader with limits
 abbrev pub tracks_tree : List ℕ → Header → Result Node Damage
 tracks_tree bytes h = tree_of h.id h.offset (body_of bytes h) h.body MAX_NODES
 
--- a Tracks Element of a content as a tree, or the first damage in it, for a reader without limits
+-- the Tracks with the header `h` in the content `bytes` as a tree, or the first damage in it, for a reader without limits
 abbrev pub tracks_without_limits : List ℕ → Header → Result Node Damage
 tracks_without_limits bytes h = tree_without_limits h.id h.offset (body_of bytes h) h.body
 
--- the entries of a Tracks Element, unless something refuses them
+-- the TrackEntries of the Tracks `tracks`, or the damage that refuses them
 abbrev pub entries_in : Node → Result (List Node) Damage
 entries_in tracks = unless (refusal_of tracks) (entries_of tracks)
 
--- the entries of a Tracks Element that `read` reads, or none if there is no Tracks
+-- the TrackEntries of the Tracks with the given header, which `read` reads, or none if there is no Tracks
 abbrev pub entries_at : (Header → Result Node Damage) → Option Header → Result (List Node) Damage
 entries_at read None = Ok []
 entries_at read (Some h) = and_then (read h) entries_in
 
--- the TrackEntries of the first Tracks of a content with the Segment `segment`, for a reader with limits
+-- the TrackEntries of the first Tracks of the content `bytes` with the Segment `segment`, or its damage, for a reader with limits
 unfoldable pub file_entries : List ℕ → Header → Result (List Node) Damage
 file_entries bytes segment = entries_at (tracks_tree bytes) (first_of TRACKS (segment_run bytes segment).list)
 
--- the TrackEntries of the first Tracks of a content with the Segment `segment`, for a reader without limits on nodes and nested masters
+-- the TrackEntries of the first Tracks of the content `bytes` with the Segment `segment`, or its damage. The reader has no limits on Elements and
+-- nested masters.
 unfoldable pub entries_without_limits : List ℕ → Header → Result (List Node) Damage
 entries_without_limits bytes segment = entries_at (tracks_without_limits bytes) (first_of TRACKS (segment_run bytes segment).list)
 
--- The entries that a reader with limits finds are the entries without limits.
+-- If a reader with limits finds TrackEntries, a reader without limits finds the same ones.
 abbrev pub LimitsChangeNoEntry : Type 0
 LimitsChangeNoEntry =
     (bytes : List ℕ) (segment : Header) (entries : List Node) → file_entries bytes segment ≡ Ok entries

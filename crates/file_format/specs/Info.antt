@@ -15,47 +15,47 @@ use Rattle.file_format.specs.declared.scale.TheConstants.{DEFAULT_SCALE}
 
 -- ---- an Info
 
--- the nanoseconds per tick: the TimestampScale, or the table's default if it is empty or missing
+-- the nanoseconds per tick that the Info `info` gives: its TimestampScale, or the schema's default if that is empty or missing
 abbrev pub scale_of : Node → ℕ
 scale_of info = uint_in TIMESTAMP_SCALE info
 
--- the damage that refuses an Info: a TimestampScale of 0
+-- the damage that refuses the Info `info`: a TimestampScale of 0
 abbrev pub info_refusal : Node → Option Damage
 info_refusal info = failing_child BadValue TIMESTAMP_SCALE (λ n. not (integer_of n == 0)) info
 
 -- ---- a file
 
--- the first Info of a content with the Segment `segment`, before any damage of level 1
+-- the first Info of the content `bytes` with the Segment `segment`, before any damage at level 1
 abbrev pub first_info : List ℕ → Header → Option Header
 first_info bytes segment = first_of INFO (segment_run bytes segment).list
 
--- an Info of a content as a tree, or the first damage in it: with a reader's limits, and without them
+-- the Info with the header `h` in the content `bytes` as a tree, or the first damage in it, for a reader with limits
 abbrev pub info_tree : List ℕ → Header → Result Node Damage
 info_tree bytes h = tree_of h.id h.offset (body_of bytes h) h.body MAX_NODES
 
--- an Info of a content as a tree, or the first damage in it, for a reader without limits
+-- the Info with the header `h` in the content `bytes` as a tree, or the first damage in it, for a reader without limits
 abbrev pub info_without_limits : List ℕ → Header → Result Node Damage
 info_without_limits bytes h = tree_without_limits h.id h.offset (body_of bytes h) h.body
 
--- the scale of an Info that was read, or the default if it has damage
+-- the nanoseconds per tick that the given Info has, or the default if reading it found damage
 abbrev pub scale_in : Result Node Damage → ℕ
 scale_in (Ok info) = scale_of info
 scale_in (Err damage) = DEFAULT_SCALE
 
--- the scale of an Info that `read` reads, or the default if there is none
+-- the nanoseconds per tick of the Info with the given header, which `read` reads, or the default if there is none
 abbrev pub scale_at : (Header → Result Node Damage) → Option Header → ℕ
 scale_at read None = DEFAULT_SCALE
 scale_at read (Some h) = scale_in (read h)
 
--- the nanoseconds per tick by the first Info of a content with the Segment `segment`, for a reader with limits
+-- the nanoseconds per tick by the first Info of the content `bytes` with the Segment `segment`, for a reader with limits
 unfoldable pub file_scale : List ℕ → Header → ℕ
 file_scale bytes segment = scale_at (info_tree bytes) (first_info bytes segment)
 
--- the nanoseconds per tick by the first Info of a content with the Segment `segment`, for a reader without limits
+-- the nanoseconds per tick by the first Info of the content `bytes` with the Segment `segment`, for a reader without limits
 unfoldable pub scale_without_limits : List ℕ → Header → ℕ
 scale_without_limits bytes segment = scale_at (info_without_limits bytes) (first_info bytes segment)
 
--- If a reader with limits can read the first Info, or there is none, both scales are equal.
+-- If a reader with limits can read the first Info, or there is none, a reader without limits finds the same nanoseconds per tick.
 abbrev pub LimitsChangeNoScale : Type 0
 LimitsChangeNoScale =
     (bytes : List ℕ) (segment : Header) → IfSome (first_info bytes segment) (λ h. IsOk (info_tree bytes h))
