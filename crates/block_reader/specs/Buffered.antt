@@ -5,8 +5,8 @@ use Rattle.block_format.specs.Content.{frames_cut}
 use Rattle.block_format.specs.Block.{Block}
 use Rattle.block_reader.specs.declared.head.BlockHead.{BlockHead}
 
--- the bytes of an element's body, the block's head, frame count, frame bytes and sizes, references, and kept children of its group. A skipped
--- block has no frame bytes or sizes.
+-- the content of a block buffer. It has the bytes that were read, the head, and the number, bytes and sizes of the frames. It also has the
+-- references, and the kept children of a group. A skipped block has no bytes or sizes of frames.
 pub record Buffered : Type 0 where
   pub octets : List ℕ
   pub head : BlockHead
@@ -33,7 +33,7 @@ block_of b = record {
   offset = b.head.offset;
 }
 
--- A reader's result agrees with `found`: the buffer `b` holds the block that `found` names, or both are the same damage.
+-- A reader's result agrees with the expected one, `found`: the buffer `b` holds its block, or both are the same damage.
 abbrev pub HoldsFound : {T : Type 0} → Result T Damage → Buffered → Result Block Damage → Type 0
 HoldsFound (Ok done) b found = found ≡ Ok (block_of b)
 HoldsFound (Err d) b found = found ≡ Err d

@@ -17,13 +17,13 @@ use Rattle.block_reader.specs.Spelled.{header_in}
 
 -- ---- number of frames
 
--- the number of frames in a lace of `len` bytes, if its first bytes `front` are enough to know that it is valid. The first byte is this number
+-- the number of frames in a lace of `len` bytes, if its first bytes, given here, are enough to know that it is valid. The first byte is this number
 -- minus one.
 abbrev pub laced_count : Lace → List ℕ → ℕ → Option ℕ
 laced_count kind [] len = None
 laced_count kind (less_one ∷ front) len = if is_settled kind (less_one + 1) front (len - 1) then Some (less_one + 1) else None
 
--- the number of frames in the `len` bytes after a header, if the bytes `front` at their start are enough to know it; 1 without lacing
+-- the number of frames in the `len` bytes after a block's header, if their first bytes, `front`, are enough to know it; 1 without lacing
 abbrev pub frame_count : Lace → List ℕ → ℕ → Option ℕ
 frame_count lace.None front len = Some 1
 frame_count lace.Xiph front len = laced_count lace.Xiph front len
@@ -32,7 +32,7 @@ frame_count lace.Ebml front len = laced_count lace.Ebml front len
 
 -- ---- track
 
--- the TrackNumber, if the header is complete in `front`
+-- the TrackNumber of a SimpleBlock whose content begins with `front`, if its header is complete there
 abbrev pub front_track : List ℕ → Option ℕ
 front_track front = option_map (λ (h : BlockHeader). h.track) (header_in front)
 
@@ -52,24 +52,24 @@ head_of b = record {
   offset = b.offset;
 }
 
--- the SimpleBlock with the header in `front`, without its frames
+-- the SimpleBlock with the header in `front` at the offset `offset` of the file, without its frames. Its Cluster has the Timestamp `timestamp`.
 abbrev pub block_in_front : ℕ → ℕ → ℕ → List ℕ → Block
 block_in_front scale timestamp offset front =
     simple_block_with scale timestamp offset (record { track = track_in front; relative = relative_in front; flags = flags_in front; frames = [] })
 
--- the head of `b` with `frames` frames, if this number is known and the time isn't too large
+-- the head of the block `b` with its number of frames, if that is known and the time isn't too large
 abbrev pub head_with : Block → Option ℕ → Option BlockPreview
 head_with b None = None
 head_with b (Some frames) = if has_too_large_time b then None else Some (record { head = head_of b; frames = frames })
 
--- the head and frame count of a SimpleBlock with the header `h` whose body begins with `front`. There is none if `front` isn't enough to know
+-- the head and frame count of the SimpleBlock with the header `h`, whose content begins with `front`. There is none if `front` isn't enough to know
 -- that the block is valid.
 abbrev pub front_head : ℕ → ℕ → Header → List ℕ → Option BlockPreview
 front_head scale timestamp h front =
     if has_no_header front then None else
     head_with (block_in_front scale timestamp h.offset front) (frame_count (lace_of (flags_in front)) (data_in front) (known h.size - header_len front))
 
--- `found` is a block with the head and the frame count in `f`, without references or kept children.
+-- The expected result `found` is a block with the head and the frame count in `f`, without references or kept children.
 pub record HasHead (f : BlockPreview) (found : Result Block Damage) : Type 0 where
   pub given : Block
   pub is : found ≡ Ok given

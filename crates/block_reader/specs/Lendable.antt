@@ -11,19 +11,20 @@ use Rattle.block_reader.specs.declared.parts.Parts.{Parts}
 use Rattle.block_reader.specs.Buffered.{Buffered}
 use Rattle.block_reader.specs.Time.{IsSmallTime}
 
--- The time and the duration in `head` aren't too large.
+-- The time and the duration in `head` are below 2^56 nanoseconds in size.
 pub record HasSmallTimes (head : BlockHead) : Type 0 where
   pub time : IsSmallTime head.time
   pub duration : IfSome head.duration (λ d. d < TOO_LARGE_TIME)
 
--- The buffer `b` has no block available.
+-- The buffer `b` has no block that can be borrowed.
 pub record LendsNothing (b : Buffered) : Type 0 where
   pub body : b.body ≡ []
   pub sizes : b.sizes ≡ []
   pub references : b.references ≡ []
   pub kept : b.kept ≡ []
 
--- The parts of `b` are within their limits, with or without a block: times, frame count, frames and sizes, references, and kept children.
+-- The parts of the block in the buffer `b` are within their limits, also without a block. They are times, frame count, frames and sizes, references,
+-- and kept children.
 pub record LendsFew (b : Buffered) : Type 0 where
   pub times : HasSmallTimes b.head
   pub frames : b.frames ≤ 256
@@ -34,7 +35,7 @@ pub record LendsFew (b : Buffered) : Type 0 where
   pub most_references : length b.references ≤ MAX_REFERENCES
   pub kept : length b.kept ≤ MAX_BLOCK_LEN
 
--- The buffer `b` has a block that can be written. It is within the limits, and its frames, one or more, suit its kind of lacing.
+-- The buffer `b` has a block that can be written. Its parts are within their limits, and its frames, one or more, suit its lacing.
 pub record IsLendable (b : Buffered) : Type 0 where
   pub few : LendsFew b
   pub some : 1 ≤ length b.sizes
@@ -47,7 +48,7 @@ Lends b = LendsNothing b ⊎ IsLendable b
 
 -- ---- parts of a block
 
--- the buffer's view of the parts `p` of a block with the body `octets`
+-- the content of a buffer with the bytes `octets` and the parts `p` of a block
 abbrev pub lent : List ℕ → Parts → Buffered
 lent octets p = record {
   octets = octets;
@@ -59,7 +60,7 @@ lent octets p = record {
   kept = p.gathered.kept.items;
 }
 
--- The buffer's parts `p` hold no block.
+-- The parts `p` of a buffer belong to no block.
 pub record IsEmpty (p : Parts) : Type 0 where
   pub start : p.start ≡ 0
   pub end : p.end ≡ 0
@@ -67,31 +68,31 @@ pub record IsEmpty (p : Parts) : Type 0 where
   pub references : p.gathered.references.items ≡ []
   pub kept : p.gathered.kept.items ≡ []
 
--- The frames of `p` are a range of `octets`.
+-- The frames of the parts `p` are a range of the bytes `octets`.
 pub record IsWithin (octets : List ℕ) (p : Parts) : Type 0 where
   pub order : p.start ≤ p.end
   pub inside : p.end ≤ length octets
 
--- The parts `p` are a block in `octets` that can be written.
+-- The parts `p` are of a block in the bytes `octets` that can be written.
 pub record IsBlock (octets : List ℕ) (p : Parts) : Type 0 where
   pub within : IsWithin octets p
   pub lendable : IsLendable (lent octets p)
 
--- The parts `p` make no block in `octets`, or one that can be written. Their times and frame count are small in either case.
+-- The parts `p` are of no block in the bytes `octets`, or of one that can be written. Their times and frame count are within limits in either case.
 pub record AreParts (octets : List ℕ) (p : Parts) : Type 0 where
   pub within : IsWithin octets p
   pub times : HasSmallTimes p.head
   pub frames : p.frames ≤ 256
   pub lends : Lends (lent octets p)
 
--- The last body is the first `len` bytes of `octets`, which are at most 32 MiB and 1,024 bytes long, and `p` are its parts.
+-- A buffer has the bytes `octets`, at most 32 MiB and 1,024 bytes. Its last block is the first `len` of them, and `p` are its parts.
 pub record IsBuffer (len : ℕ) (octets : List ℕ) (p : Parts) : Type 0 where
   pub within : len ≤ length octets
   pub few : len ≤ MAX_BLOCK_LEN
   pub most : length octets ≤ MAX_BLOCK_LEN + LITTLE
   pub parts : AreParts (take len octets) p
 
--- The times in `head` and the references `refs` can be written, and the lacing is the one that `flags` names.
+-- The times in `head` and the references `refs` can be written, and the lacing in `head` is the one that `flags` names.
 pub record CanLead (flags : ℕ) (refs : List ℤ) (head : BlockHead) : Type 0 where
   pub times : HasSmallTimes head
   pub references : All IsSmallTime refs

@@ -27,19 +27,21 @@ block_with h frames references kept = record {
   offset = h.offset;
 }
 
--- A reader's head, with the frames, references and kept children, is the block that `found` names, or both are the same damage.
+-- A reader's head agrees with the expected block, `found`. It makes this block with the frames, references and kept children, or both are the same
+-- damage.
 abbrev pub MakesHead : List (List ℕ) → List ℤ → List ℕ → Result Block Damage → Result BlockHead Damage → Type 0
 MakesHead frames references kept found (Ok head) = found ≡ Ok (block_with head frames references kept)
 MakesHead frames references kept found (Err d) = found ≡ Err d
 
--- A group's time, its duration or a reference is too large at `scale` nanoseconds a tick.
+-- The time `ticks` of a BlockGroup, its duration or a reference is too large, in ticks of `scale` nanoseconds.
 abbrev pub has_too_large_ticks : ℕ → ℤ → Option ℕ → List ℤ → Bool
 has_too_large_ticks scale ticks duration references =
     is_too_large_at scale ticks
     || option_map_or (λ n. is_too_large (pos (n * scale))) duration false
     || list_any (is_too_large_at scale) references
 
--- `t` and the references in `now` are the times of the group in nanoseconds, and none is too large.
+-- `t` has the time and duration of a BlockGroup in nanoseconds, and `now` its references, which `old` has in ticks of `scale` nanoseconds. None is
+-- too large.
 pub record HasTimes (scale : ℕ) (ticks : ℤ) (old now : Gathered) (t : Times) : Type 0 where
   pub fits : has_too_large_ticks scale ticks old.duration old.references.items ≡ false
   pub time : t.time ≡ nanoseconds scale ticks

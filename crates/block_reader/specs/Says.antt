@@ -24,38 +24,42 @@ use Rattle.block_reader.specs.Spelled.{IsFront, content_of}
 
 -- ---- head of a block
 
--- `result` is the head of the SimpleBlock with header `h` and content `s`, for all frames, or the damage of a too large time.
+-- `result` is the head of the SimpleBlock with the header `h` and the parsed content `s`, for all frames. Or it is the damage of a time that is too
+-- large.
 abbrev pub MakesSimpleHead : ℕ → ℕ → Header → Spelled → Result BlockHead Damage → Type 0
 MakesSimpleHead scale timestamp h s result = (frames : List (List ℕ))
     → MakesHead frames [] [] (in_time (with_limits scale) h.id (simple_block_with scale timestamp h.offset (content_of s frames))) result
 
--- The option is the times of a group, or absent because one of them is too large.
+-- The result has the times of a BlockGroup in nanoseconds, as `HasTimes` requires, or none because one of them is too large.
 abbrev pub TellsTimes : ℕ → ℤ → Gathered → Gathered → Option Times → Type 0
 TellsTimes scale ticks old new (Some times) = HasTimes scale ticks old new times
 TellsTimes scale ticks old new None = has_too_large_ticks scale ticks old.duration old.references.items ≡ true
 
--- the block of a group with the children `children` and the content `content`, unless its references are too many or a time is too large
+-- the block of a BlockGroup with the children `children` and the content `content`. There is damage if it has too many references or a time that is
+-- too large.
 abbrev pub block_in_group : ℕ → ℕ → ℕ → List ℕ → List Header → Content → Result Block Damage
 block_in_group scale timestamp offset bytes children content =
     and_then (unless (too_many_references (with_limits scale) children) content) (λ each. in_time (with_limits scale) BLOCK (group_with scale bytes timestamp offset children each))
 
--- `result` is the head of a group with the gathered children `old` and the content `s`, for all bytes and frames, or its first damage.
+-- `result` is the head of a BlockGroup with the gathered children `old` and the parsed Block `s`, or its first damage. The references are in
+-- nanoseconds in `new`.
 abbrev pub MakesGroupHead : ℕ → ℕ → ℕ → Spelled → Gathered → Gathered → Result BlockHead Damage → Type 0
 MakesGroupHead scale timestamp offset s old new result = (bytes : List ℕ) (children : List Header) (frames : List (List ℕ)) → Gathers bytes children old
     → MakesHead frames new.references.items new.kept.items (block_in_group scale timestamp offset bytes children (content_of s frames)) result
 
--- `found` is the head and frame count of each SimpleBlock with the header `h` whose body begins with `front`.
+-- `found` is the head and frame count of each SimpleBlock with the header `h` whose content begins with `front`.
 abbrev pub Settles : ℕ → ℕ → Header → List ℕ → BlockPreview → Type 0
 Settles scale timestamp h front found = (bytes : List ℕ) → IsFront front (body_of bytes h) → length (body_of bytes h) ≡ known h.size
     → HasHead found (simple_block (with_limits scale) bytes (Some timestamp) h)
 
 -- ---- bytes of a block
 
--- A reader's result for the body `octets` of a SimpleBlock with the header `h` is right: the block in `b`, or its damage.
+-- The result of parsing `octets` as the SimpleBlock with the header `h`: the buffer `b` holds its block, or it is its damage.
 abbrev pub SpellsSimple : {T : Type 0} → ℕ → ℕ → Header → List ℕ → Buffered → Result T Damage → Type 0
 SpellsSimple scale timestamp h octets b found = (bytes : List ℕ) → octets ≡ body_of bytes h → HoldsFound found b (simple_block (with_limits scale) bytes (Some timestamp) h)
 
--- A reader's result for the body `octets` of a BlockGroup in a file of `total` bytes is right: the block in `b`, or its damage.
+-- The result of parsing `octets` as the BlockGroup with the header `h` in a file of `total` bytes. The buffer `b` holds its block, or the result is
+-- its damage.
 abbrev pub SpellsGroup : {T : Type 0} → ℕ → ℕ → ℕ → Header → List ℕ → Buffered → Result T Damage → Type 0
 SpellsGroup total scale timestamp h octets b found = (bytes : List ℕ) → length bytes ≡ total → octets ≡ body_of bytes h
     → HoldsFound found b (block_group (with_limits scale) bytes (Some timestamp) h)
@@ -64,7 +68,7 @@ SpellsGroup total scale timestamp h octets b found = (bytes : List ℕ) → leng
 abbrev pub LendsFound : {T E : Type 0} → Buffered → Result (Result T Damage) E → Type 0
 LendsFound b result = MatchResult result (λ found. MatchResult found (λ _. IsLendable b) (λ _. LendsNothing b)) (λ _. LendsNothing b)
 
--- `new` equals `old` unless a block was found.
+-- `new` equals `old`, unless the result is a block.
 abbrev pub StaysElse : {A T E : Type 0} → A → A → Result (Result T Damage) E → Type 0
 StaysElse old new (Ok (Ok _)) = ⊤
 StaysElse old new (Ok (Err d)) = new ≡ old
@@ -72,12 +76,12 @@ StaysElse old new (Err e) = new ≡ old
 
 -- ---- the children of a group
 
--- `new` is `old` with the child `child` added, which has the body `value` and the bytes `octets`.
+-- The data `new` are the data `old` with the child `child` added, which has the content `value` and the bytes `octets`.
 abbrev pub GathersChild : Header → List ℕ → List ℕ → Gathered → Gathered → Type 0
 GathersChild child value octets old new = (bytes : List ℕ) (before : List Header) → value ≡ body_of bytes child → octets ≡ element_octets bytes child
     → Gathers bytes before old → Gathers bytes (before ++ child ∷ []) new
 
--- `new` is `old` with one more ReferenceBlock of `ticks` ticks.
+-- The data `new` are the data `old` with the ReferenceBlock `child` added, for a block `ticks` ticks away.
 abbrev pub GathersReference : Header → ℤ → Gathered → Gathered → Type 0
 GathersReference child ticks old new = (bytes : List ℕ) (before : List Header) → ticks ≡ int_of (body_of bytes child)
     → Gathers bytes before old → Gathers bytes (before ++ child ∷ []) new

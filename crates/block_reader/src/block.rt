@@ -26,8 +26,8 @@ pub struct Times {
     pub duration: Option<u64>,
 }
 
-/// Returns the head of the SimpleBlock with the header `header` and the content `spelled`, or damage if its time is
-/// too large. `timestamp` is its Cluster's, in ticks of `scale` nanoseconds.
+/// Returns the head of the SimpleBlock with the header `header` and the parsed content `spelled`, or damage if its time
+/// is too large. Its Cluster has the Timestamp `timestamp`, in ticks of `scale` nanoseconds.
 pub fn simple_head(
     scale: u64,
     timestamp: u64,
@@ -53,8 +53,9 @@ pub fn simple_head(
     })
 }
 
-// Returns the time and duration of a group, or nothing if one of its times is too large. The references are in
-// nanoseconds afterwards.
+// Returns the time and duration of a BlockGroup in nanoseconds, or nothing if one of its times is too large. Its
+// Cluster has the Timestamp `timestamp`, and its Block the time `relative` from there, in ticks of `scale` nanoseconds.
+// The references in `gathered` are in nanoseconds afterwards.
 fn times_of(scale: u64, timestamp: u64, relative: i64, gathered: &mut Gathered) -> Option<Times>
     ensures exact { TellsTimes scale (pos timestamp +ℤ relative) gathered.old gathered.new result }
     ensures block { gathered.new.block ≡ gathered.old.block }
@@ -71,8 +72,9 @@ fn times_of(scale: u64, timestamp: u64, relative: i64, gathered: &mut Gathered) 
     Some(Times { time, duration })
 }
 
-/// Returns the head of the BlockGroup at byte `offset` of the file. Fails with the first damage: too many
-/// ReferenceBlocks, or a time that is too large. Afterwards the references are in nanoseconds.
+/// Returns the head of the BlockGroup at the offset `offset` of the file, with the parsed Block `spelled` and the
+/// children `gathered`. Fails with the first damage: too many ReferenceBlocks, or a time that is too large. Its Cluster
+/// has the Timestamp `timestamp`, in ticks of `scale` nanoseconds. Afterwards the references are in nanoseconds.
 pub fn group_head(
     scale: u64,
     timestamp: u64,

@@ -25,8 +25,8 @@ use mkv_schema::Header;
 use std::alloc::Global;
 use std::marker::Model;
 
-/// One block: the bytes of its element's body, and its parsed parts. The buffer is reused for each block, and grows
-/// if one is larger than all before it.
+/// Buffer for one block: the bytes of its SimpleBlock or BlockGroup, and its parsed parts. The buffer is reused for
+/// each block, and grows if one is larger than all before it.
 #[derive(Drop)]
 pub struct BlockBuffer {
     octets: Vec<u8>,
@@ -60,7 +60,8 @@ impl BlockBuffer {
         }
     }
 
-    /// Reads the body of a SimpleBlock or BlockGroup through `window`. The previous block is lost.
+    /// Reads the content of the SimpleBlock or BlockGroup with the header `header` from `file`, through `window`. The
+    /// previous block is lost.
     pub fn read<R: Reads>(
         &mut self,
         window: &mut Window,
@@ -92,7 +93,7 @@ impl BlockBuffer {
         Ok(())
     }
 
-    /// Skips the frames of a SimpleBlock: the buffer keeps the head and frame count of `front`, and nothing else.
+    /// Skips the frames of a SimpleBlock: the buffer only keeps the head and frame count of it, `front`.
     pub fn pass(&mut self, front: BlockPreview)
         requires small { HasSmallTimes front.head }
         requires few { front.frames ≤ 256 }
@@ -105,8 +106,8 @@ impl BlockBuffer {
         self.parts.pass(front);
     }
 
-    /// Parses the bytes as a SimpleBlock with the header `header`, or returns the first damage. The Cluster's
-    /// Timestamp is `timestamp` ticks of `scale` nanoseconds.
+    /// Parses the bytes that were read as a SimpleBlock with the header `header`, or returns the first damage. Its
+    /// Cluster has the Timestamp `timestamp`, in ticks of `scale` nanoseconds.
     pub fn spell_simple(&mut self, scale: u64, timestamp: u64, header: &Header) -> Found
         requires few { known header.now.size ≤ MAX_BLOCK_LEN }
         requires length { length self.old.octets ≡ known header.now.size }
@@ -120,8 +121,8 @@ impl BlockBuffer {
         self.parts.settle(found)
     }
 
-    /// Parses the bytes as a BlockGroup with the header `header` in a file of `total` bytes, or returns the first
-    /// damage. The Cluster's Timestamp is `timestamp` ticks of `scale` nanoseconds.
+    /// Parses the bytes that were read as a BlockGroup with the header `header` in a file of `total` bytes, or returns
+    /// the first damage. Its Cluster has the Timestamp `timestamp`, in ticks of `scale` nanoseconds.
     pub fn spell_group(&mut self, scale: u64, timestamp: u64, header: &Header, total: u64) -> Found
         requires few { known header.now.size ≤ MAX_BLOCK_LEN }
         requires length { length self.old.octets ≡ known header.now.size }

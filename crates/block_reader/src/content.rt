@@ -13,27 +13,27 @@ use mkv_io::Kind;
 use smallvec::SmallVec;
 use std::alloc::{AllocError, Global};
 
-/// Header of a Block or a SimpleBlock
+/// Parsed header of a Block or SimpleBlock
 #[derive(Clone, Copy)]
 pub struct BlockHeader {
     /// TrackNumber of its track
     pub track: u64,
-    /// Ticks from the Cluster's Timestamp
+    /// Signed ticks from the Cluster's Timestamp
     pub relative: i64,
     pub flags: u8,
     /// Length of the header in bytes
     pub len: usize,
 }
 
-/// Parsed Block or SimpleBlock, without the sizes of its frames
+/// Parsed Block or SimpleBlock, without its frames and their sizes
 #[derive(Clone, Copy, Debug, PartialEq, Eq)]
 pub struct Spelled {
     /// TrackNumber of its track
     pub track: u64,
-    /// Ticks from the Cluster's Timestamp
+    /// Signed ticks from the Cluster's Timestamp
     pub relative: i64,
     pub flags: u8,
-    /// Number of bytes before the frames
+    /// Number of bytes before the first frame
     pub start: usize,
 }
 
@@ -44,7 +44,7 @@ pub fn has_flag(flag: u8, flags: u8) -> bool
     flags & flag != 0
 }
 
-/// Returns the kind of lacing that the flags name.
+/// Returns the lacing that the flags of a block name.
 pub fn lace_of(flags: u8) -> Lace
     ensures { result ≡ lace_of flags }
 {
@@ -56,7 +56,8 @@ pub fn lace_of(flags: u8) -> Lace
     }
 }
 
-// Returns the number in a size of `len` bytes. An unknown size has all bits 1.
+// Returns the track number that was read as a variable-size integer of `len` bytes. An unknown size is the number with
+// all bits 1.
 fn data_of(size: Size, len: u8) -> u64
     requires { len ≤ 8 }
     ensures { result ≡ data_of size len }
@@ -67,7 +68,7 @@ fn data_of(size: Size, len: u8) -> u64
     }
 }
 
-/// Returns the header at the start of `octets`, or nothing if it is incomplete.
+/// Returns the header at the start of `octets`, the content of a Block or SimpleBlock, or nothing if it is incomplete.
 pub fn header_in(octets: &[u8]) -> Option<BlockHeader>
     ensures { result ≡ header_in octets.now }
 {
@@ -86,7 +87,8 @@ pub fn header_in(octets: &[u8]) -> Option<BlockHeader>
     })
 }
 
-// Notes all of `octets` as the size of one frame, and returns the length of the lace's head, which is 0.
+// Writes the length of `octets` to `sizes` as the size of the only frame of a block without lacing. Returns the length
+// of the lace's head, which is 0.
 fn one_frame(octets: &[u8], sizes: &mut SmallVec<u32, 8, Global>) -> Result<usize, AllocError>
     requires short { length octets.now ≤ MAX_BLOCK_LEN }
     requires empty { sizes.old.items ≡ [] }
@@ -97,7 +99,8 @@ fn one_frame(octets: &[u8], sizes: &mut SmallVec<u32, 8, Global>) -> Result<usiz
     Ok(0)
 }
 
-// Cuts a lace into frames. `octets` begins with the number of frames minus one and the head of the lace.
+// Divides a lace of the kind `kind` into frames, and writes their sizes to `sizes`. `octets` begins with the number of
+// frames minus one and the head of the lace. Returns the number of bytes before the first frame, or the kind of damage.
 fn laced_frames(
     kind: Lace,
     octets: &[u8],
@@ -118,8 +121,8 @@ fn laced_frames(
     }
 }
 
-// Cuts the bytes after a block's header into frames, with their sizes in `sizes`. Returns the number of bytes before
-// the first frame.
+// Divides `octets`, the bytes after a block's header, into frames, and writes their sizes to `sizes`. Returns the
+// number of bytes before the first frame, or the kind of damage.
 fn cut(
     kind: Lace,
     octets: &[u8],
@@ -136,8 +139,8 @@ fn cut(
     }
 }
 
-/// Parses `octets` as a Block or SimpleBlock, with the frame sizes in `sizes`. Fails if the bytes end inside the
-/// header, or don't match the lacing that it names.
+/// Parses `octets` as the content of a Block or SimpleBlock, and writes the sizes of its frames to `sizes`. Fails if
+/// the bytes end inside the header, or don't match the lacing that it names.
 pub fn spell(
     octets: &[u8],
     sizes: &mut SmallVec<u32, 8, Global>,

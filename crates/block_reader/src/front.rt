@@ -1,5 +1,5 @@
-//! Facts that are known from the first bytes of a SimpleBlock's body: RFC 9559, sections 10.2 (SimpleBlock Structure)
-//! and 10.3 (Block Lacing).
+//! The head and frame count of a SimpleBlock, as far as its first bytes have them: RFC 9559, sections 10.2 (SimpleBlock
+//! Structure) and 10.3 (Block Lacing).
 
 ghost use Rattle.std.specs.Prelude.{◌≡◌, ◌≤◌, length, IfSome};
 ghost use Rattle.mkv_schema.specs.Element.{known};
@@ -25,8 +25,8 @@ pub struct BlockPreview {
     pub frames: u16,
 }
 
-// Returns the number of frames in a lace of `len` bytes that begins with `front`, or nothing if `front` isn't enough
-// to know it.
+// Returns the number of frames in a lace of `len` bytes that begins with `front`. Returns nothing if `front` isn't
+// enough to know that the lace is valid.
 fn laced_count(kind: Lace, front: &[u8], len: usize) -> Option<u16>
     requires inside { length front.now ≤ len }
     requires short { len ≤ MAX_BLOCK_LEN }
@@ -56,7 +56,8 @@ fn frame_count(kind: Lace, front: &[u8], len: usize) -> Option<u16>
     }
 }
 
-/// Returns the TrackNumber of a SimpleBlock whose body begins with `front`, or nothing if its header is incomplete.
+/// Returns the TrackNumber of a SimpleBlock whose content begins with `front`, or nothing if its header is incomplete
+/// there.
 pub fn front_track(front: &[u8]) -> Option<u64>
     ensures { result ≡ front_track front.now }
 {
@@ -64,8 +65,9 @@ pub fn front_track(front: &[u8]) -> Option<u64>
     Some(header.track)
 }
 
-/// Returns the head and frame count of a SimpleBlock whose body begins with `front`. Returns nothing if `front` isn't
-/// enough to know that the block is valid. The Cluster's Timestamp is `timestamp` ticks of `scale` nanoseconds.
+/// Returns the head and frame count of the SimpleBlock with the header `header`, whose content begins with `front`.
+/// Returns nothing if `front` isn't enough to know that the block is valid. Its Cluster has the Timestamp `timestamp`,
+/// in ticks of `scale` nanoseconds.
 pub fn front_head(scale: u64, timestamp: u64, header: &Header, front: &[u8]) -> Option<BlockPreview>
     requires few { known header.now.size ≤ MAX_BLOCK_LEN }
     requires front { length front.now ≤ known header.now.size }

@@ -18,7 +18,7 @@ use mkv_schema::Header;
 use mkv_schema::ids::{BLOCK, BLOCK_DURATION, BLOCK_GROUP, CRC_32, REFERENCE_BLOCK, VOID};
 use std::alloc::{AllocError, Global};
 
-/// Facts that were gathered from the children of a BlockGroup
+/// Data that were gathered from the children of a BlockGroup
 #[derive(Drop)]
 pub struct Gathered {
     /// First Block
@@ -33,8 +33,8 @@ pub struct Gathered {
     pub kept: Vec<u8>,
 }
 
-// Returns the bytes of `child`, header and body. `body` is the body of its master, which begins at byte `base` of the
-// file.
+// Returns the bytes of `child` of a BlockGroup, header included. `body` is the content of the BlockGroup, at the offset
+// `base` of the file.
 fn element_of<'a>(body: &'a [u8], base: u64, child: &Header) -> &'a [u8]
     requires short { base + length body.now ≤ LONGEST_FILE }
     requires from { base ≤ child.now.offset }
@@ -59,7 +59,7 @@ fn is_child_value(id: u32, value: &[u8]) -> bool
     }
 }
 
-// Role of a child of a BlockGroup
+// Role of a child in its BlockGroup
 #[derive(Clone, Copy)]
 enum Part {
     Block,
@@ -71,7 +71,7 @@ enum Part {
     LeftOut,
 }
 
-// Returns the part of a BlockGroup that a child with the ID `id` is.
+// Returns the role that a child with the ID `id` has in its BlockGroup.
 fn part_of(id: u32) -> Part
     ensures { IsPart id result }
 {
@@ -85,7 +85,7 @@ fn part_of(id: u32) -> Part
 }
 
 impl Gathered {
-    /// Returns an empty record, which takes no memory.
+    /// Returns empty data, which take no memory.
     pub fn new(alloc: Global) -> Gathered
         ensures exact { (bytes : List ℕ) → Gathers bytes [] result }
         ensures references { result.references.items ≡ [] }
@@ -100,7 +100,7 @@ impl Gathered {
         }
     }
 
-    /// Removes everything, without freeing memory.
+    /// Removes all data, without freeing memory.
     pub fn clear(&mut self)
         ensures exact { (bytes : List ℕ) → Gathers bytes [] self.new }
         ensures block { self.new.block ≡ None }
@@ -114,9 +114,9 @@ impl Gathered {
         self.kept.clear();
     }
 
-    /// Gathers the children of a group with the body `body`, which begins at byte `base` of a file of `total` bytes.
-    /// Fails with the first damage: an invalid value, or a place without a valid element. If memory runs out, only
-    /// some children are gathered.
+    /// Gathers the data of the children of a BlockGroup with the content `body`, which is at the offset `base` of a
+    /// file of `total` bytes. Fails with the first damage: an invalid value, or a place without a valid Element. If
+    /// memory runs out, only some children are gathered.
     pub fn gather(
         &mut self,
         body: &[u8],
@@ -146,7 +146,7 @@ impl Gathered {
         Ok(Ok(()))
     }
 
-    // Adds `child`, with the body `value` and the whole element `octets`.
+    // Adds the data of `child`, which has the content `value` and the bytes `octets`, header included.
     fn add(&mut self, child: &Header, value: &[u8], octets: &[u8]) -> Result<(), AllocError>
         requires { is_known_value GROUP_ID child.now.id value.now ≡ true }
         ensures exact { OnOk result (GathersChild child.now value.now octets.now self.old self.new) }
@@ -164,7 +164,7 @@ impl Gathered {
         Ok(())
     }
 
-    // Adds the ReferenceBlock `child` of `ticks` ticks.
+    // Adds the ReferenceBlock `child`, for a block `ticks` ticks away.
     fn add_reference(&mut self, child: &Header, ticks: i64)
         requires { child.now.id ≡ REFERENCE_BLOCK }
         ensures exact { GathersReference child.now ticks self.old self.new }

@@ -24,19 +24,19 @@ use std::alloc::{AllocError, Global};
 /// Result of parsing a block: success, or the first damage
 pub type Found = Result<Result<(), Damage>, AllocError>;
 
-/// Parts of a block, whose frames are a range of its element's body
+/// Parts of a parsed block; its frames are a range of the bytes that were read
 #[derive(Drop)]
 pub struct Parts {
     pub head: BlockHead,
     /// Number of frames
     pub frames: u16,
-    /// Start of the frames in the body
+    /// Index of the first byte of the frames, in the bytes that were read
     pub start: usize,
-    /// End of the frames in the body
+    /// Index after the last byte of the frames, in the bytes that were read
     pub end: usize,
     /// Size of each frame in bytes
     pub sizes: SmallVec<u32, 8, Global>,
-    /// Facts from a group's children; empty for a SimpleBlock
+    /// Data of a BlockGroup's children; empty for a SimpleBlock
     pub gathered: Gathered,
 }
 
@@ -79,7 +79,7 @@ impl Parts {
         self.gathered.clear();
     }
 
-    /// Removes the block, and takes the head and frame count of `front`.
+    /// Removes the block, and keeps only the head and frame count of a skipped one, `front`.
     pub fn pass(&mut self, front: BlockPreview)
         ensures empty { IsEmpty self.new }
         ensures head { self.new.head ≡ front.head }
@@ -90,8 +90,8 @@ impl Parts {
         self.frames = front.frames;
     }
 
-    /// Parses `octets` as a SimpleBlock with the header `header`, or returns the first damage. The Cluster's
-    /// Timestamp is `timestamp` ticks of `scale` nanoseconds.
+    /// Parses `octets` as the SimpleBlock with the header `header`, or returns the first damage. Its Cluster has the
+    /// Timestamp `timestamp`, in ticks of `scale` nanoseconds.
     pub fn simple(&mut self, octets: &[u8], scale: u64, timestamp: u64, header: &Header) -> Found
         requires few { known header.now.size ≤ MAX_BLOCK_LEN }
         requires length { length octets.now ≡ known header.now.size }
@@ -117,8 +117,8 @@ impl Parts {
         }
     }
 
-    /// Parses `octets` as a BlockGroup with the header `header` in a file of `total` bytes, or returns the first
-    /// damage. The Cluster's Timestamp is `timestamp` ticks of `scale` nanoseconds.
+    /// Parses `octets` as the BlockGroup with the header `header` in a file of `total` bytes, or returns the first
+    /// damage. Its Cluster has the Timestamp `timestamp`, in ticks of `scale` nanoseconds.
     pub fn group(
         &mut self,
         octets: &[u8],
@@ -167,7 +167,7 @@ impl Parts {
         }
     }
 
-    /// Removes partial results unless a block was found, and returns `found`.
+    /// Returns the result `found` of parsing a block. Unless a block was found, removes its partial results first.
     pub fn settle(&mut self, found: Found) -> Found
         ensures same { result ≡ found }
         ensures found { IfOk found (λ found. OnOk found (self.new ≡ self.old)) }

@@ -7,7 +7,7 @@ ghost use Rattle.block_reader.specs.Time.{scaled, scaled_duration, is_too_large_
 
 use block_format::TOO_LARGE_TIME;
 
-// Returns `ticks` ticks of `scale` nanoseconds in nanoseconds, or nothing if the time is too large.
+// Returns `ticks` ticks of `scale` nanoseconds in nanoseconds, or nothing if that is 2^56 or more in size.
 fn scaled(ticks: i128, scale: u64) -> Option<i64>
     ensures { result ≡ scaled scale ticks }
 {
@@ -19,15 +19,16 @@ fn scaled(ticks: i128, scale: u64) -> Option<i64>
     Some(if ticks < 0 { -nanoseconds } else { nanoseconds })
 }
 
-/// Returns a block's time in nanoseconds, or nothing if it is too large. `relative` is in ticks from the Cluster's
-/// Timestamp.
+/// Returns the time of a block in nanoseconds, or nothing if it is too large. It is `relative` ticks after `timestamp`,
+/// the Timestamp of its Cluster; a tick has `scale` nanoseconds.
 pub fn block_time(scale: u64, timestamp: u64, relative: i64) -> Option<i64>
     ensures { result ≡ scaled scale (pos timestamp +ℤ relative) }
 {
     scaled(i128::from(timestamp) + i128::from(relative), scale)
 }
 
-/// Scales the reference times in place. Returns false if one is too large; some are scaled then.
+/// Converts the references `times` from ticks of `scale` nanoseconds to nanoseconds. Returns false if one is too large;
+/// some are converted then.
 pub fn scale_all(times: &mut [i64], scale: u64) -> bool
     ensures fits { list_any (is_too_large_at scale) times.old ≡ not result }
     ensures scaled { IsTrue result → times.new ≡ map (nanoseconds scale) times.old }

@@ -6,11 +6,11 @@ use Rattle.block_format.specs.Events.{is_closed}
 use Rattle.cluster_reader.specs.declared.place.Place.{Place}
 use Rattle.cluster_reader.specs.declared.place.OpenCluster.{OpenCluster}
 
--- the maximum end of a Segment or Cluster in a parent that ends at `e`
+-- the greatest end of the Segment or Cluster `h` in a parent that ends at the offset `e`
 abbrev pub bound_in : ℕ → Header → ℕ
 bound_in e h = if is_unknown h.size then e else end_in e h
 
--- the first place in `segment`, in a file of `total` bytes
+-- the place of the first Element in `segment`, in a file of `total` bytes
 abbrev pub first_place : Header → ℕ → Place
 first_place segment total = record {
   size = segment.size;
@@ -19,7 +19,7 @@ first_place segment total = record {
   cluster = None;
 }
 
--- the Cluster with the header `h`, before its first child, in a file of `total` bytes and a Segment that ends at `e`
+-- the Cluster with the header `h` at its first child, in a file of `total` bytes and a Segment that ends at the offset `e`
 abbrev pub cluster_in : ℕ → ℕ → Header → OpenCluster
 cluster_in total e h = record {
   end = bound_in e h;
@@ -28,7 +28,7 @@ cluster_in total e h = record {
   timestamp = None;
 }
 
--- the place after damage in the Cluster `c`: after the Cluster if it is closed, otherwise the end
+-- the place after damage in the Cluster `c`, given the place `p` in it: after the Cluster if it is closed, and otherwise the end
 abbrev pub behind_damage : Place → OpenCluster → Place
 behind_damage p c = record p { at = if c.closed then c.end else p.end; cluster = None }
 
@@ -40,7 +40,7 @@ pub record IsInCluster (p e : ℕ) (c : OpenCluster) : Type 0 where
   pub within : c.end ≤ e
   pub closed : c.closed ≡ true → c.unknown ≡ false
 
--- The offset `p` is at most the end of the current Cluster, if there is one.
+-- The offset `p` is within the given Cluster as `IsInCluster` requires, if there is one. The Segment ends at the offset `e`.
 abbrev pub IsInAny : ℕ → ℕ → Option OpenCluster → Type 0
 IsInAny p e None = ⊤
 IsInAny p e (Some c) = IsInCluster p e c
@@ -61,10 +61,10 @@ turns_to_leave (Some c) = 1
 abbrev pub turns_left : Place → ℕ
 turns_left p = 2 * (p.end - p.at) + turns_to_leave p.cluster
 
--- the end of the Segment of `p`
+-- the place at the end of the Segment of `p`, outside any Cluster
 abbrev pub at_end : Place → Place
 at_end p = record p { at = p.end; cluster = None }
 
--- the place after a child of the Cluster `c`, with the Timestamp that was read, if any
+-- the place after the child `child` of the Cluster `c`, given a place `p` in it. `timestamp` is the Cluster's Timestamp, if it was read.
 abbrev pub behind_child : Place → OpenCluster → Header → Option ℕ → Place
 behind_child p c child timestamp = record p { at = end_in c.end child; cluster = Some (record c { timestamp = timestamp }) }

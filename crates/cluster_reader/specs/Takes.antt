@@ -1,4 +1,4 @@
--- The known part of a block that a cursor returns, as its filter chooses.
+-- The part of a block that a cursor knows, as its filter chooses.
 use Rattle.std.specs.Prelude.{◌≡◌, ℕ, ◌==◌, min, Bool, true, false, if◌then◌else◌, List, [], ◌∷◌, length, take, Option, Some, None, Result, Ok, Err}
 use Rattle.mkv_io.specs.declared.damage.Damage.{Damage}
 use Rattle.mkv_schema.specs.declared.ids.TheConstants.{SIMPLE_BLOCK}
@@ -14,40 +14,40 @@ use Rattle.cluster_reader.specs.declared.child.TheConstants.{MAX_PREVIEW_LEN}
 use Rattle.cluster_reader.specs.declared.filter.BlockFilter.{BlockFilter}
 use Rattle.cluster_reader.specs.declared.filter.BlockFilter.TheVariants.{All, Track, Heads}
 
--- The filter wants the frames of a block of the track `track`.
+-- The filter wants the frames of a block of the track with the TrackNumber `track`.
 abbrev pub wants : BlockFilter → ℕ → Bool
 wants All track = true
 wants (Track wanted) track = track == wanted
 wants Heads track = false
 
--- The buffer has the track of `b`, and all of `b` if it is a block of the track `wanted`.
+-- The buffer `lent` has the track of the block `b`, and all of it if it is a block of the track `wanted`.
 pub record IsKnownFor (wanted : ℕ) (b : Block) (lent : Buffered) : Type 0 where
   pub track : b.track ≡ lent.head.track
   pub whole : lent.head.track ≡ wanted → b ≡ block_of lent
 
--- The buffer has the head and frame count of `b`.
+-- The buffer `lent` has the head and the frame count of the block `b`.
 pub record IsKnownByHead (b : Block) (lent : Buffered) : Type 0 where
   pub head : head_of b ≡ lent.head
   pub frames : length b.frames ≡ lent.frames
 
--- The buffer has the part of the block `b` that the filter wants.
+-- The buffer `lent` has the part of the block `b` that the filter wants.
 abbrev pub IsKnown : BlockFilter → Block → Buffered → Type 0
 IsKnown All b lent = b ≡ block_of lent
 IsKnown (Track track) b lent = IsKnownFor track b lent
 IsKnown Heads b lent = IsKnownByHead b lent
 
--- `found` is a block, and the buffer has the part of it that `takes` wants.
+-- The expected result `found` is a block, and the buffer `lent` has the part of it that `takes` wants.
 pub record MakesBlock (takes : BlockFilter) (lent : Buffered) (found : Result Block Damage) : Type 0 where
   pub given : Block
   pub is : found ≡ Ok given
   pub known : IsKnown takes given lent
 
--- A reader's result is right for `found`: a block as in `MakesBlock`, or the same damage.
+-- The result of reading a block is the expected one, `found`. The buffer `lent` has the part of it that `takes` wants, or both are the same damage.
 abbrev pub MakesWanted : {T : Type 0} → BlockFilter → Result T Damage → Buffered → Result Block Damage → Type 0
 MakesWanted takes (Ok done) lent found = MakesBlock takes lent found
 MakesWanted takes (Err d) lent found = found ≡ Err d
 
--- `found` is only one block, and the buffer has the part of it that `takes` wants.
+-- The expected results `found` are only one block, and the buffer `lent` has the part of it that `takes` wants.
 pub record FindsBlock (takes : BlockFilter) (lent : Buffered) (found : List Found) : Type 0 where
   pub given : Block
   pub is : found ≡ Ok given ∷ []
@@ -55,32 +55,32 @@ pub record FindsBlock (takes : BlockFilter) (lent : Buffered) (found : List Foun
 
 -- ---- a SimpleBlock that is skipped
 
--- the head and frame count, unless `takes` wants the block
+-- the given head and frame count, unless `takes` wants the block
 abbrev pub unless_wanted : BlockFilter → Option BlockPreview → Option BlockPreview
 unless_wanted takes None = None
 unless_wanted takes (Some front) = if wants takes front.head.track then None else Some front
 
--- the head and frame count of a SimpleBlock that the filter `takes` doesn't want. There is none if the first bytes `front` of its body aren't
--- enough to know them.
+-- the head and frame count of the SimpleBlock `h`, if the filter `takes` doesn't want it. There is none if the first bytes `front` of its content
+-- aren't enough to know them. `ticks` is its Cluster's Timestamp.
 abbrev pub settled_by : BlockFilter → ℕ → ℕ → Header → List ℕ → Option BlockPreview
 settled_by takes scale ticks h front = unless_wanted takes (front_head scale ticks h front)
 
--- the bytes of a body that are checked: those held from its first byte on, at most MAX_PREVIEW_LEN
+-- the first bytes of the content of the SimpleBlock `h` that are checked: the ones in the window `w`, at most MAX_PREVIEW_LEN
 abbrev pub held_front : ReadAhead → Header → List ℕ
 held_front w h = take (min (known h.size) MAX_PREVIEW_LEN) (front_from w h.body)
 
--- the head and frame count of a child that is a SimpleBlock, if the filter `takes` doesn't want it. There is none if the bytes in the window `w`
--- aren't enough to know them.
+-- the head and frame count of the child `h` of a Cluster, if it is a SimpleBlock and the filter `takes` doesn't want it. There is none if the bytes
+-- in the window `w` aren't enough to know them. `ticks` is its Cluster's Timestamp.
 abbrev pub settled_in : BlockFilter → ℕ → ℕ → Header → ReadAhead → Option BlockPreview
 settled_in takes scale ticks h w = if h.id == SIMPLE_BLOCK then settled_by takes scale ticks h (held_front w h) else None
 
--- A block was skipped, and the buffer has the head and frame count of `front`.
+-- A block was skipped (`answer`), and the buffer `lent` has the head and frame count of `front`.
 pub record IsPassed (front : BlockPreview) (lent : Buffered) (answer : Bool) : Type 0 where
   pub passed : answer ≡ true
   pub head : lent.head ≡ front.head
   pub frames : lent.frames ≡ front.frames
 
--- A block was skipped exactly if its head and frame count are known from its first bytes. The buffer has them then.
+-- A block was skipped (`passed`) exactly if its head and frame count are given, known from its first bytes. The buffer `lent` has them then.
 abbrev pub IsPassedWhere : Option BlockPreview → Buffered → Bool → Type 0
 IsPassedWhere None lent passed = passed ≡ false
 IsPassedWhere (Some front) lent passed = IsPassed front lent passed

@@ -4,7 +4,7 @@ use Rattle.mkv_io.specs.Faults.{counted, last_count}
 use Rattle.mkv_io.specs.declared.damage.Damage.{Damage}
 use Rattle.cluster_reader.specs.declared.damages.TheConstants.{MAX_REPORTED}
 
--- the damaged places that are reported one by one, and the number of others
+-- the report of a file's damaged places: the ones that are reported one by one, and the number of others
 pub record ToldDamages : Type 0 where
   pub first : List Damage
   pub more : ℕ
@@ -13,7 +13,7 @@ pub record ToldDamages : Type 0 where
 abbrev pub told_damages : List Damage → ToldDamages
 told_damages list = record { first = take MAX_REPORTED list; more = min (length list - MAX_REPORTED) last_count }
 
--- the report `t` with `d` added, or only counted after the first hundred
+-- the report `t` with the damage `d` added, or only counted after the first hundred
 abbrev pub with_damage : ToldDamages → Damage → ToldDamages
 with_damage t d = if nat_lt (length t.first) MAX_REPORTED then record { first = t.first ++ d ∷ []; more = t.more } else record { first = t.first; more = counted t.more 1 }
 

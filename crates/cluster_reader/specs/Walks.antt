@@ -1,4 +1,4 @@
--- A walk over the elements of a file, one turn at a time.
+-- A walk over the Elements of a file, one turn at a time, which a cursor makes.
 use Rattle.std.specs.Prelude.{◌≡◌, ◌≤◌, ◌<◌, ⊤, ℕ, true, not, ◌==◌, ◌||◌, Bool, false, if◌then◌else◌, List, [], ◌∷◌, length, Option, Some, None, Result, Ok, Err, IfOk, IsTrue}
 use Rattle.mkv_io.specs.declared.damage.Damage.{Damage}
 use Rattle.mkv_io.specs.declared.outside.ReadEnd.{ReadEnd}
@@ -28,7 +28,7 @@ use Rattle.cluster_reader.specs.declared.turn.Child.TheVariants as child
 use Rattle.cluster_reader.specs.declared.walk.Walk.{Walk}
 use Rattle.cluster_reader.specs.declared.place.OpenCluster.{OpenCluster}
 
--- the reading at the walk `w`, with no event counted
+-- the walk `w` as a reading, with no event counted
 abbrev pub shown : Walk → Reading
 shown w = record {
   file = w.file;
@@ -43,75 +43,77 @@ shown w = record {
 
 -- ---- a child
 
--- the block of a SimpleBlock or BlockGroup, or its damage
+-- the block of the SimpleBlock or BlockGroup `h` in the content `bytes`, or its damage; `timestamp` is its Cluster's
 abbrev pub block_found : Rules → List ℕ → Option ℕ → Header → Found
 block_found r bytes timestamp h =
     if h.id == SIMPLE_BLOCK then simple_block r bytes timestamp h else block_group r bytes timestamp h
 
--- The result of reading a child is right: no event and the Timestamp that was read, a block with its wanted part, or its damage.
+-- The result of reading the child `h` of a Cluster. It is the Timestamp after a child that isn't a block, a block whose wanted part the buffer `b`
+-- has, or its damage.
 abbrev pub Finds : BlockFilter → List ℕ → ℕ → Option ℕ → Header → Buffered → Child → Type 0
 Finds takes bytes scale timestamp h b (child.Passed behind) =
     (found_at (with_limits scale) bytes timestamp h ≡ []) × (behind ≡ timestamp_behind bytes timestamp h)
 Finds takes bytes scale timestamp h b child.Block = FindsBlock takes b (found_at (with_limits scale) bytes timestamp h)
 Finds takes bytes scale timestamp h b (child.Damaged d) = found_at (with_limits scale) bytes timestamp h ≡ Err d ∷ []
 
--- The result of reading a child is right, if the walk's file is visible to the proof.
+-- The result of reading the child `h` of a Cluster is as `Finds` requires, if the file is visible to the proof. The walk changed from `old` to `new`.
 abbrev pub FindsIn : {S : Type 0} → Ghosts S → S → Walk → Walk → Option ℕ → Header → BlockFilter → Child → Type 0
 FindsIn r src old new timestamp h takes found = IfTold r src old.file (λ bytes. Finds takes bytes old.scale timestamp h new.block found)
 
--- If the walk's file is visible to the proof, the result of reading a block is right: its wanted part, or its damage.
+-- The result of reading the block `h` is its wanted part in the buffer of `new`, or its damage. The file must be visible to the proof. The walk
+-- changed from `old` to `new`.
 abbrev pub MakesIn : {S T : Type 0} → Ghosts S → S → Walk → Walk → Option ℕ → Header → BlockFilter → Result T Damage → Type 0
 MakesIn r src old new timestamp h takes found =
     IfTold r src old.file (λ bytes. MakesWanted takes found new.block (block_found (with_limits old.scale) bytes timestamp h))
 
--- A skipped SimpleBlock is a block, and the buffer has its wanted part, if the walk's file is visible to the proof.
+-- If the SimpleBlock `h` was skipped (`passed`), it is a block, and the buffer of `new` has its wanted part. The file must be visible to the proof.
 abbrev pub PassesIn : {S : Type 0} → Ghosts S → S → Walk → Walk → ℕ → Header → BlockFilter → Bool → Type 0
 PassesIn r src old new ticks h takes passed =
     IsTrue passed → IfTold r src old.file (λ bytes. MakesBlock takes new.block (simple_block (with_limits old.scale) bytes (Some ticks) h))
 
--- In each file with the bytes of the window, `front` is the head and frame count of the SimpleBlock with the header `h`.
+-- `front` is the head and frame count of the SimpleBlock `h` in each file that has the bytes in the window `window`.
 abbrev pub SettlesHeld : ℕ → ℕ → Header → ReadAhead → BlockPreview → Type 0
 SettlesHeld scale ticks h window front = (bytes : List ℕ) → length (body_of bytes h) ≡ known h.size → Holds bytes window
     → HasHead front (simple_block (with_limits scale) bytes (Some ticks) h)
 
--- A wanted block from a child can be written.
+-- A wanted block in the result of reading a child is in the buffer `b` and can be written.
 abbrev pub LendsForChild : BlockFilter → Child → Buffered → Type 0
 LendsForChild takes (child.Passed behind) b = ⊤
 LendsForChild takes child.Block b = LendsWanted takes Block b
 LendsForChild takes (child.Damaged d) b = ⊤
 
--- A child with the ID `id` is read: a Timestamp, SimpleBlock or BlockGroup.
+-- A child of a Cluster with the ID `id` is read: a Timestamp, SimpleBlock or BlockGroup. Others are skipped.
 abbrev pub is_looked_at : ℕ → Bool
 is_looked_at id = id == TIMESTAMP || (id == SIMPLE_BLOCK || id == BLOCK_GROUP)
 
--- A child with the ID `id` changes only the block and the window of the walk, and nothing if its body isn't read.
+-- Reading a child with the ID `id` changed only block and window from the walk `old` to `new`, and nothing if its content isn't read.
 pub record KeepsWalk (id : ℕ) (old new : Walk) : Type 0 where
   pub only : new ≡ record old { block = new.block; window = new.window }
   pub other : is_looked_at id ≡ false → new ≡ old
 
 -- ---- a turn
 
--- A turn takes the first event that was left, like a cursor, or leaves the events unchanged.
+-- A turn has changed the walk from `old` to `new`. It returned the first event that was left, as a cursor does, or left the events unchanged.
 abbrev pub Turns : BlockFilter → List ℕ → Walk → Walk → Result (Option Step) ReadEnd → Type 0
 Turns takes bytes old new (Ok None) = left_of bytes (shown new) ≡ left_of bytes (shown old)
 Turns takes bytes old new (Ok (Some step)) = GivesWanted takes bytes (shown old) (shown new) (Ok step)
 Turns takes bytes old new (Err end) = left_of bytes (shown new) ≡ left_of bytes (shown old)
 
--- A turn is right for each filter.
+-- A turn has changed the walk from `old` to `new` as `Turns` requires for each filter.
 abbrev pub TurnsForAll : List ℕ → Walk → Walk → Result (Option Step) ReadEnd → Type 0
 TurnsForAll bytes old new result = (takes : BlockFilter) → Turns takes bytes old new result
 
--- A turn moves the place forwards; one that returns no event leaves fewer turns.
+-- A turn moved the place from `old` forwards to `new`; a turn that returns no event leaves fewer turns.
 abbrev pub TurnsOn : Place → Place → Option Step → Type 0
 TurnsOn old new None = (turns_left new < turns_left old) × (old.at ≤ new.at)
 TurnsOn old new (Some step) = GoesOn step old.at new.at
 
--- By the result of a turn, its block can be written if there is one and the filter `takes` wants it.
+-- If a turn returned a block that the filter `takes` wants, it is in the buffer `b` and can be written.
 abbrev pub LendsForTurn : BlockFilter → Option Step → Buffered → Type 0
 LendsForTurn takes None b = ⊤
 LendsForTurn takes (Some step) b = LendsWanted takes step b
 
--- A turn sets `stopped` as a call does, and a turn without an event leaves it.
+-- A turn has changed the walk from `old` to `new`: it sets `stopped` as a call does, and without an event leaves it.
 abbrev pub TurnNotes : Walk → Walk → Result (Option Step) ReadEnd → Type 0
 TurnNotes old new (Ok None) = new.stopped ≡ old.stopped
 TurnNotes old new (Ok (Some step)) = Notes (shown old) (shown new) (Ok step)
@@ -125,60 +127,63 @@ pub record IsReady (files : LiveFiles) (w : Walk) : Type 0 where
   pub scale : 1 ≤ w.scale
   pub place : IsPlace w.place
 
--- `new` walks over the same Segment of the same file as `old`, from the same or a later offset.
+-- The walk `new` is in the same Segment of the same file as `old`, at the same or a later offset.
 abbrev pub IsSameWalk : Walk → Walk → Type 0
 IsSameWalk old new = IsSameSegment (shown old) (shown new)
 
--- A turn moves forwards in its Segment, notes damage that ends the reading, and returns a wanted block only if it can be written.
+-- A turn has changed the walk from `old` forwards to `new` in its Segment. It noted damage that ends the reading, and a wanted block that it returned
+-- can be written.
 pub record TakesTurn (takes : BlockFilter) (old new : Walk) (result : Result (Option Step) ReadEnd) : Type 0 where
   pub same : IsSameWalk old new
   pub on : IfOk result (TurnsOn old.place new.place)
   pub notes : TurnNotes old new result
   pub lends : IfOk result (λ turn. LendsForTurn takes turn new.block)
 
--- A step moves forwards in its Segment, notes damage that ends the reading, and returns a wanted block only if it can be written.
+-- A step has changed the walk from `old` forwards to `new` in its Segment. It noted damage that ends the reading, and a wanted block that it returned
+-- can be written.
 pub record TakesStep (takes : BlockFilter) (old new : Walk) (result : Result Step ReadEnd) : Type 0 where
   pub same : IsSameWalk old new
   pub on : IfOk result (λ step. GoesOn step old.place.at new.place.at)
   pub notes : Notes (shown old) (shown new) result
   pub lends : IfOk result (λ step. LendsWanted takes step new.block)
 
--- A walk reads no byte of its file twice.
+-- A call that changed the source from `src` to `src'`, and the walk from `old` to `new`, read no byte of its file twice.
 abbrev pub PaysFor : {S T : Type 0} → Ghosts S → S → S → Walk → Walk → Result T ReadEnd → Type 0
 PaysFor r src src' old new result = Pays (file_size r src old.file) (shown old) (shown new) (r.octets_read src) (r.octets_read src') result
 
--- The bytes that the walk's window reads are accounted for by the move through the body of `h`.
+-- The bytes that the walk's window read from `src` to `src'` are bounded by the move through the content of the Element `h`.
 abbrev pub ReadsBody : {S T E : Type 0} → Ghosts S → S → S → Walk → Walk → Header → Result T E → Type 0
 ReadsBody r src src' old new h result = Goes r old.file h.body (λ _. stated_end h) old.window new.window src src' result
 
--- The bytes that the walk's window reads are accounted for, and the walk stays at the body of `h`.
+-- The bytes that the walk's window read from `src` to `src'` are bounded. The walk stays at the start of the content of the Element `h`.
 abbrev pub StaysAtBody : {S T E : Type 0} → Ghosts S → S → S → Walk → Walk → Header → Result T E → Type 0
 StaysAtBody r src src' old new h result = GoesTo r old.file h.body h.body old.window new.window src src' result
 
--- The element at the walk's place, in a Cluster that ends at `end`, has the header `h`, if the file is visible to the proof.
+-- The Element at the place of the walk `w` has the header `h`, in a Cluster that ends at the offset `end`. The file must be visible to the proof.
 abbrev pub StandsInCluster : {S : Type 0} → Ghosts S → S → Walk → ℕ → Header → Type 0
 StandsInCluster r src w end h = IfTold r src w.file (λ bytes. Ok h ≡ element_at in_master bytes w.place.at end)
 
--- `result` is the header of the element at the walk's place, or its damage.
+-- `result` is the header of the Element at the place of the walk `w`, or its damage. Its parent ends at the offset `end`.
 abbrev pub FindsHere : {S E : Type 0} → Ghosts S → S → Walk → Setting → ℕ → Result (Result Header Damage) E → Type 0
 FindsHere r src w s end result = FindsAt r src w.file s w.place.at end result
 
--- The result of reading a child is right for each filter.
+-- The result of reading the child `h` of a Cluster is as `FindsIn` requires for each filter.
 abbrev pub FindsForAll : {S : Type 0} → Ghosts S → S → Walk → Walk → Option ℕ → Header → Child → Type 0
 FindsForAll r src old new timestamp h found = (takes : BlockFilter) → FindsIn r src old new timestamp h takes found
 
--- A step is right for the filter `takes`, if the walk's file is visible to the proof.
+-- A step has changed the walk from `old` to `new` as `GivesWanted` requires for the filter `takes`, if the file is visible to the proof.
 abbrev pub GivesIn : {S : Type 0} → Ghosts S → S → BlockFilter → Walk → Walk → Result Step ReadEnd → Type 0
 GivesIn r src takes old new result = IfTold r src old.file (λ bytes. GivesWanted takes bytes (shown old) (shown new) result)
 
--- the walk after damage in the Cluster `c`; reading stops there unless the Cluster states its end
+-- the walk `w` after damage in the Cluster `c`: after the Cluster, or at the end of the file if the Cluster isn't closed
 abbrev pub broken_off : OpenCluster → Walk → Walk
 broken_off c w = record w { place = behind_damage w.place c; stopped = not c.closed }
 
--- the walk at the end of its Segment, where reading stops
+-- the walk `w` at the end of its Segment, after damage that ends the reading
 abbrev pub ended : Walk → Walk
 ended w = record w { place = at_end w.place; stopped = true }
 
--- A block is skipped exactly if the filter doesn't want it and its head and frame count are known from the walk's window.
+-- The SimpleBlock `h` was skipped (`passed`) exactly if the filter doesn't want it and its head and frame count are known from the window. The walk
+-- changed from `old` to `new`.
 abbrev pub PassesWhereSettled : BlockFilter → ℕ → Header → Walk → Walk → Bool → Type 0
 PassesWhereSettled takes ticks h old new passed = IsPassedWhere (settled_in takes old.scale ticks h new.window) new.block passed

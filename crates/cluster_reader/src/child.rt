@@ -25,15 +25,17 @@ use mkv_io::{Damage, Kind, ReadEnd, Reads};
 use mkv_schema::Header;
 use mkv_schema::ids::{BLOCK_GROUP, SIMPLE_BLOCK, TIMESTAMP};
 
-/// Number of bytes of a SimpleBlock's body that are held before it is checked: the longest header and the byte with
+/// Number of bytes of a SimpleBlock's content that are read before it is checked: the longest header and the byte with
 /// the frame count
 const LEAST_OF_FRONT: u64 = 12;
 
-/// Maximum number of bytes that are checked if more are held; it covers the head of a lace
+/// Maximum number of bytes of a SimpleBlock's content that are checked if the window has more; it covers the head of a
+/// lace
 const MAX_PREVIEW_LEN: u64 = 1024;
 
-/// Reads a child of a Cluster: a block, a Timestamp, or one to skip. `timestamp` is the Timestamp that preceded it,
-/// if any. The place of the walk is unchanged.
+/// Reads the child of a Cluster with the header `header`: a block, a Timestamp, or one to skip. `timestamp` is the
+/// Cluster's Timestamp before it, if any. `takes` chooses the blocks that are read whole. The place of the walk is
+/// unchanged.
 pub fn read_child<R: Reads>(
     walk: &mut Walk,
     src: &mut R,
@@ -64,7 +66,7 @@ pub fn read_child<R: Reads>(
     }
 }
 
-// Reads a Timestamp, unless the Cluster already had one.
+// Reads the Timestamp with the header `header`, unless the Cluster already had one, which is `timestamp` then.
 fn timestamp_child<R: Reads>(
     walk: &mut Walk,
     src: &mut R,
@@ -95,7 +97,8 @@ fn timestamp_child<R: Reads>(
     }
 }
 
-// Returns the Timestamp for a block, or damage if the block is too long or no Timestamp precedes it.
+// Returns the Timestamp of the Cluster for a block with the header `header`. Returns damage if the block is too long or
+// no Timestamp precedes it.
 fn timestamp_for(timestamp: Option<u64>, header: &Header) -> Result<u64, Damage>
     ensures exact { (scale : ℕ) → result ≡ timestamp_for (with_limits scale) timestamp header.now }
     ensures few { IfOk result (λ _. known header.now.size ≤ MAX_BLOCK_LEN) }
@@ -109,7 +112,7 @@ fn timestamp_for(timestamp: Option<u64>, header: &Header) -> Result<u64, Damage>
     }
 }
 
-// Checks whether `takes` wants the frames of a block of the track `track`.
+// Checks whether the filter `takes` wants the frames of a block of the track with the TrackNumber `track`.
 fn wants(takes: BlockFilter, track: u64) -> bool
     ensures { result ≡ wants takes track }
 {
@@ -120,8 +123,9 @@ fn wants(takes: BlockFilter, track: u64) -> bool
     }
 }
 
-// Returns the head and frame count of a SimpleBlock that the filter doesn't want. Returns None if the bytes of its
-// body that the window holds aren't enough to know them.
+// Returns the head and frame count of the SimpleBlock with the header `header`, if the filter `takes` doesn't want it.
+// Returns None if the bytes of it in `window` aren't enough to know them. `ticks` is its Cluster's Timestamp, in ticks
+// of `scale` nanoseconds.
 fn settled(
     window: &Window,
     scale: u64,
@@ -145,8 +149,8 @@ fn settled(
     }
 }
 
-// Skips the frames of a SimpleBlock that the filter doesn't want, if its first bytes are enough to know that it is
-// valid. Returns true if it did.
+// Skips the frames of the SimpleBlock with the header `header` if the filter `takes` doesn't want it. Its first bytes
+// must be enough to know that it is valid. Returns true if it did. `ticks` is its Cluster's Timestamp.
 fn passes<R: Reads>(
     walk: &mut Walk,
     src: &mut R,
@@ -180,8 +184,8 @@ fn passes<R: Reads>(
     }
 }
 
-// Reads a SimpleBlock or BlockGroup into the walk's buffer, or returns the first damage. A block that isn't wanted
-// may be skipped.
+// Reads the SimpleBlock or BlockGroup with the header `header` into the walk's buffer, or returns its first damage. The
+// frames of a block that the filter `takes` doesn't want may be skipped.
 fn read_block<R: Reads>(
     walk: &mut Walk,
     src: &mut R,

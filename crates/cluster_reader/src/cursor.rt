@@ -54,7 +54,8 @@ impl Model for Cursor {
 }
 
 impl Cursor {
-    /// Starts at the first Cluster of a file with the outline `outline`. One tick is `scale` nanoseconds.
+    /// Starts at the first Cluster of the open file `file`, which has the outline `outline`. A tick has `scale`
+    /// nanoseconds.
     pub fn start<O: HasSegment>(
         alloc: Global,
         outline: &O,
@@ -83,8 +84,8 @@ impl Cursor {
         })
     }
 
-    /// Reads the next block or damaged place. Returns `End` after the last one, at each call. After an error the same
-    /// block is due.
+    /// Reads the next block or damaged place of the file. Returns `End` after the last one, at each call. After an
+    /// error the same block is due.
     pub fn advance<R: Reads>(&mut self, src: &mut R) -> Result<Step, ReadEnd>
         requires { CanRead (live_files R.Reads src.old) self.old }
         ensures gives { IfTold R.Reads src.old self.old.file (λ bytes. Gives bytes self.old self.new result) }
@@ -104,8 +105,8 @@ impl Cursor {
         Ok(step)
     }
 
-    /// Reads the next block or damaged place, like `advance`. The frames of blocks that `takes` doesn't want may stay
-    /// unread.
+    /// Reads the next block or damaged place of the file, as `advance`. The frames of blocks that the filter `takes`
+    /// doesn't want may stay unread.
     pub fn advance_for<R: Reads>(
         &mut self,
         src: &mut R,
@@ -125,7 +126,7 @@ impl Cursor {
         Ok(step)
     }
 
-    // Counts the block or damaged place in `step`.
+    // Adds the block or damaged place in `step` to the cursor's counts.
     fn count(&mut self, step: Step)
         ensures { self.new ≡ with_given step self.old }
     {
@@ -136,7 +137,7 @@ impl Cursor {
         }
     }
 
-    /// Returns the head of the block.
+    /// Returns the head of the last block.
     pub fn head(&self) -> &BlockHead
         ensures exact { result.now ≡ self.now.block.head }
         ensures small { HasSmallTimes result.now }
@@ -144,7 +145,7 @@ impl Cursor {
         self.walk.block.head()
     }
 
-    /// Returns the number of frames of the block, even if the frames weren't read.
+    /// Returns the number of frames of the last block, even if the frames weren't read.
     pub fn frames(&self) -> u16
         ensures exact { result ≡ self.now.block.frames }
         ensures most { result ≤ 256 }
@@ -152,7 +153,7 @@ impl Cursor {
         self.walk.block.frames()
     }
 
-    /// Returns the bytes of the frames in sequence.
+    /// Returns the bytes of the frames of the last block, in sequence.
     pub fn body(&self) -> &[u8]
         ensures exact { result.now ≡ self.now.block.body }
         ensures cut { sum self.now.block.sizes ≡ length result.now }
@@ -161,7 +162,7 @@ impl Cursor {
         self.walk.block.body()
     }
 
-    /// Returns the size of each frame in bytes; the slice is empty if no block is available.
+    /// Returns the size of each frame of the last block in bytes; the slice is empty if no block is available.
     pub fn sizes(&self) -> &[u32]
         ensures exact { result.now ≡ self.now.block.sizes }
         ensures sum { sum result.now ≡ length self.now.block.body }
@@ -171,7 +172,7 @@ impl Cursor {
         self.walk.block.sizes()
     }
 
-    /// Returns the bytes of the kept children of the group, in file order.
+    /// Returns the bytes of the kept children of the last block, if it is a group, in file order.
     pub fn extra(&self) -> &[u8]
         ensures exact { result.now ≡ self.now.block.kept }
         ensures most { length result.now ≤ MAX_BLOCK_LEN }
@@ -179,7 +180,7 @@ impl Cursor {
         self.walk.block.kept()
     }
 
-    /// Returns the times of the referenced blocks relative to this block, in nanoseconds.
+    /// Returns the times of the blocks that the last block references, relative to its own, in nanoseconds.
     pub fn refs(&self) -> &[i64]
         ensures exact { result.now ≡ self.now.block.references }
         ensures small { All IsSmallTime result.now }
@@ -188,14 +189,14 @@ impl Cursor {
         self.walk.block.references()
     }
 
-    /// Returns the number of damaged places that were found.
+    /// Returns the number of damaged places that were found in the file up to now.
     pub fn damages(&self) -> u64
         ensures { result ≡ self.now.damages }
     {
         self.damages
     }
 
-    /// Checks whether the last damaged place ends the reading of the file.
+    /// Checks whether the last damaged place ended the reading of the file.
     pub fn stopped(&self) -> bool
         ensures { result ≡ self.now.stopped }
     {

@@ -10,7 +10,7 @@ use std::marker::Model;
 /// Maximum number of damaged places that are reported one by one
 const MAX_REPORTED: usize = 100;
 
-/// Damaged places of a file: the first hundred, and the number of others. Its memory is allocated by `new`.
+/// Damaged places of a file: the first hundred, and the number of others. Its memory is allocated at the start.
 #[derive(Debug, Drop)]
 pub struct Damages {
     first: Vec<Damage>,

@@ -17,14 +17,15 @@ use elements::{Parent, ends_cluster, id_of};
 use mkv_io::{ReadEnd, Reads};
 use mkv_schema::Header;
 
-// Checks whether an element with the ID `id` ends the children of a Cluster; only one of unknown size ends this way.
+// Checks whether an Element with the ID `id` ends the children of a Cluster; only one of `unknown` size ends this way.
 fn ends_children(unknown: bool, id: u32) -> bool
     ensures { result ≡ ends_children unknown id }
 {
     unknown && ends_cluster(id)
 }
 
-/// Advances `walk` by the element at its place in `cluster`: reads a child, leaves the Cluster, or finds damage.
+/// Advances `walk` by the Element at its place in `cluster`: reads a child, leaves the Cluster, or finds damage.
+/// `takes` chooses the blocks that are read whole.
 pub fn turn_in_cluster<R: Reads>(
     walk: &mut Walk,
     src: &mut R,
@@ -59,7 +60,7 @@ pub fn turn_in_cluster<R: Reads>(
     }
 }
 
-// Advances `walk` by the child of `cluster` with the header `header`.
+// Advances `walk` by the child of `cluster` with the header `header`. `takes` chooses the blocks that are read whole.
 fn turn_child<R: Reads>(
     walk: &mut Walk,
     src: &mut R,

@@ -13,7 +13,8 @@ use crate::step::Step;
 use crate::walk::Walk;
 use mkv_io::{ReadEnd, Reads};
 
-/// Advances `walk` to the next block or damaged place, or to the end. `takes` chooses the blocks that are read whole.
+/// Advances `walk` to the next block or damaged place, or to the end of the file. `takes` chooses the blocks that are
+/// read whole.
 pub fn next_step<R: Reads>(
     walk: &mut Walk,
     src: &mut R,
@@ -34,7 +35,8 @@ pub fn next_step<R: Reads>(
     }
 }
 
-// Advances `walk` by the element at its place.
+// Advances `walk` by the Element at its place, in a Cluster or at level 1. Returns nothing unless a block, damage or
+// the end was found.
 fn turn<R: Reads>(walk: &mut Walk, src: &mut R, takes: BlockFilter) -> Result<Option<Step>, ReadEnd>
     requires { IsReady (live_files R.Reads src.old) walk.old }
     ensures gives { IfTold R.Reads src.old walk.old.file (λ bytes. Turns takes bytes walk.old walk.new result) }

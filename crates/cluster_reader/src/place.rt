@@ -10,34 +10,34 @@ use ebml_numbers::Size;
 use elements::end_in;
 use mkv_schema::Header;
 
-/// Place among the elements of a Segment, with byte offsets in the file
+/// Place among the Elements of a Segment; offsets are in bytes from the start of the file
 #[derive(Clone, Copy)]
 pub struct Place {
-    /// Size in the header of the Segment
+    /// Size in the Segment's header
     pub size: Size,
-    /// Offset of the next element
+    /// Offset of the next Element
     pub at: u64,
-    /// Maximum end of the Segment
+    /// Offset that the Segment can't exceed
     pub end: u64,
-    /// Cluster that contains the next element, if any
+    /// Cluster that has the next Element, if any
     pub cluster: Option<OpenCluster>,
 }
 
-/// Cluster whose children are read
+/// Cluster whose children are being read
 #[derive(Clone, Copy)]
 pub struct OpenCluster {
-    /// End of the Cluster, or its maximum end
+    /// Offset of the Cluster's end, or one that it can't exceed
     pub end: u64,
-    /// Its size is known, and it ends within the file
+    /// The Cluster's size is known, and it ends within the file
     pub closed: bool,
-    /// Its size is unknown
+    /// The Cluster's size is unknown
     pub unknown: bool,
-    /// Its Timestamp in ticks, if it was read
+    /// The Cluster's Timestamp in ticks, if it was read
     pub timestamp: Option<u64>,
 }
 
 impl Place {
-    /// Returns the first place in `segment`, in a file of `total` bytes.
+    /// Returns the place of the first Element in `segment`, in a file of `total` bytes.
     pub fn first(segment: &Header, total: u64) -> Place
         ensures { result ≡ first_place segment.now total }
     {
@@ -49,7 +49,7 @@ impl Place {
         }
     }
 
-    /// Returns the place after an element that isn't entered.
+    /// Returns the place after the Element of level 1 with the header `header`, which isn't entered.
     pub fn behind(self, header: &Header) -> Place
         ensures { result ≡ record self { at = end_in self.end header.now } }
     {
@@ -59,7 +59,7 @@ impl Place {
         }
     }
 
-    /// Returns the place of the first child of the Cluster `header`, in a file of `total` bytes.
+    /// Returns the place of the first child of the Cluster with the header `header`, in a file of `total` bytes.
     pub fn entered(self, header: &Header, total: u64) -> Place
         requires { total ≤ LONGEST_FILE }
         ensures { result ≡ record self { at = header.now.body; cluster = Some (cluster_in total self.end header.now) } }
@@ -77,7 +77,7 @@ impl Place {
         }
     }
 
-    /// Returns the place after a child of `cluster`. `timestamp` is the Cluster's Timestamp, if it was read.
+    /// Returns the place after the child `child` of `cluster`. `timestamp` is the Cluster's Timestamp, if it was read.
     pub fn passed(self, cluster: OpenCluster, child: &Header, timestamp: Option<u64>) -> Place
         ensures { result ≡ behind_child self cluster child.now timestamp }
     {
@@ -91,7 +91,7 @@ impl Place {
         }
     }
 
-    /// Returns the place at offset `at`, outside any Cluster.
+    /// Returns the place at the offset `at` of the file, outside any Cluster.
     pub fn outside(self, at: u64) -> Place
         ensures { result ≡ record self { at = at; cluster = None } }
     {
@@ -103,7 +103,8 @@ impl Place {
     }
 }
 
-// Returns the greatest offset that an element may reach, in a parent that ends at `end`.
+// Returns the greatest offset that the Element with the header `header` may reach, in a parent that ends at the offset
+// `end`.
 fn bound_in(header: &Header, end: u64) -> u64
     ensures { result ≡ bound_in end header.now }
 {
@@ -113,7 +114,8 @@ fn bound_in(header: &Header, end: u64) -> u64
     }
 }
 
-// Checks whether a Cluster's size is known, and it ends within a file of `total` bytes.
+// Checks whether the Cluster with the header `header` has a known size and ends within a file of `total` bytes. Reading
+// can go on after damage in it.
 fn is_closed(header: &Header, total: u64) -> bool
     requires { total ≤ LONGEST_FILE }
     ensures { result ≡ is_closed total header.now }

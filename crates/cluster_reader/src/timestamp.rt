@@ -15,7 +15,7 @@ use elements::{Window, known};
 use mkv_io::{Failed, FileId, Reads};
 use mkv_schema::Header;
 
-/// Reads the ticks of a Timestamp through `window`.
+/// Reads the value of the Timestamp with the header `header`, in ticks, from `file` through `window`.
 pub fn read_timestamp<R: Reads>(
     window: &mut Window,
     src: &mut R,

@@ -5,9 +5,9 @@ use mkv_io::Damage;
 /// Result of reading a child of a Cluster
 #[derive(Clone, Copy)]
 pub enum Child {
-    /// Not a block; the Cluster's Timestamp, if it was read
+    /// Not a block; the Cluster's Timestamp after it, if it was read
     Passed(Option<u64>),
-    /// Block, read into the buffer
+    /// Block, which is in the buffer
     Block,
     /// Damaged child
     Damaged(Damage),

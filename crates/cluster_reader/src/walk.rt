@@ -15,7 +15,7 @@ use elements::{Lookahead, Parent, Window};
 use mkv_io::{Damage, Failed, FileId, ReadEnd, Reads};
 use mkv_schema::Header;
 
-/// Walk over the elements of a Segment and the children of its Clusters
+/// Walk over the Elements of a Segment and the children of its Clusters, which a cursor makes
 #[derive(Drop)]
 pub struct Walk {
     /// Bytes of the file that were read ahead
@@ -28,12 +28,13 @@ pub struct Walk {
     pub place: Place,
     /// Block that was read last
     pub block: BlockBuffer,
-    /// The last damaged place ends the reading
+    /// The last damaged place ended the reading
     pub stopped: bool,
 }
 
 impl Walk {
-    /// Reads the header of the element at the place, or its damage. Its parent ends at `end`.
+    /// Reads the header of the Element at the place of the walk, or its damage. Its parent is `parent`, and ends at the
+    /// offset `end`.
     pub fn element<R: Reads>(
         &mut self,
         src: &mut R,
@@ -60,7 +61,8 @@ impl Walk {
         }
     }
 
-    /// Moves after the Cluster if it is closed; otherwise moves to the end and stops. Used after damage in a Cluster.
+    /// Leaves `cluster` after damage in it: moves after the Cluster if it is closed, and otherwise to the end of the
+    /// file.
     pub fn break_off(&mut self, cluster: &OpenCluster)
         ensures { self.new ≡ broken_off cluster.now self.old }
     {
@@ -73,7 +75,7 @@ impl Walk {
         self.stopped = !cluster.closed;
     }
 
-    /// Moves to the end: the last damage ends the reading.
+    /// Moves to the end of the file: the last damage ends the reading.
     pub fn stop(&mut self)
         ensures { self.new ≡ ended self.old }
     {
