@@ -7,26 +7,26 @@ use Rattle.lacing.specs.declared.kind.Lace.TheVariants as lace
 
 -- ---- the encoding of a size
 
--- in Xiph lacing a size is the sum of bytes 255 and one smaller byte
+-- the bytes that encode the size `size` in Xiph lacing: the sum of bytes 255 and one smaller byte
 abbrev pub xiph_octets : ℕ → List ℕ
 xiph_octets size = replicate (size / 255) 255 ++ size % 255 ∷ []
 
--- In EBML lacing the first size is a known Element Data Size, and `octets` are its bytes.
+-- The bytes `octets` encode `size`, the first size in EBML lacing, as a known Element Data Size.
 abbrev pub IsFirstSize : ℕ → List ℕ → Type 0
 IsFirstSize size octets = size_at octets ≡ Ok (record { size = Known size; len = length octets })
 
--- the data of a difference of 0 in `n` bytes
+-- the value that encodes a difference of 0 in an integer of `n` bytes
 abbrev pub bias : ℕ → ℕ
 bias n = 2 ^ (7 * n - 1) - 1
 
--- The bytes encode the size `size` as its difference to the previous size `before`, in a variable-size integer of any width. Data of all 1 are a
--- difference like others.
+-- The bytes `octets` encode the size `size` as its difference to the previous size `before`, in a variable-size integer of any width. The value with
+-- all bits 1 is a difference like others.
 pub record IsDifference (before size : ℕ) (octets : List ℕ) : Type 0 where
   pub whole : announced octets ≡ length octets
   pub few : length octets ≤ 8
   pub sum : before + vint_data (length octets) octets ≡ size + bias (length octets)
 
--- The bytes encode the size `size` after the size `before`, if any.
+-- The bytes `octets` encode the size `size` in the given lacing, after the previous size `before`, if any.
 abbrev pub IsSpelling : Lace → Option ℕ → ℕ → List ℕ → Type 0
 IsSpelling lace.None before size octets = ⊥
 IsSpelling lace.Xiph before size octets = octets ≡ xiph_octets size
@@ -34,7 +34,7 @@ IsSpelling lace.Fixed before size octets = ⊥
 IsSpelling lace.Ebml None size octets = IsFirstSize size octets
 IsSpelling lace.Ebml (Some before) size octets = IsDifference before size octets
 
--- The bytes encode the sizes in sequence, the first after the size `before`, if any.
+-- The bytes `octets` encode a list of sizes in sequence, in the lacing `kind`; the size before them is `before`, if any.
 abbrev pub Spells : Lace → Option ℕ → List ℕ → List ℕ → Type 0
 Spells kind before [] octets = octets ≡ []
 Spells kind before (size ∷ sizes) octets =
@@ -42,7 +42,7 @@ Spells kind before (size ∷ sizes) octets =
 
 -- ---- the parts of a lace
 
--- the sizes that a head contains: all except the last, which follows from the others
+-- the sizes that the head of a lace contains: all except the last, which follows from the others
 abbrev pub explicit_sizes : List ℕ → List ℕ
 explicit_sizes [] = []
 explicit_sizes (size ∷ []) = []
@@ -53,32 +53,32 @@ abbrev pub AreEqual : List ℕ → Type 0
 AreEqual [] = ⊤
 AreEqual (size ∷ sizes) = All (λ other. other ≡ size) sizes
 
--- The bytes `head` are the head of a lace with the frame sizes `sizes`.
+-- The bytes `head` are the head of a lace with the given lacing and the frame sizes `sizes`.
 abbrev pub IsLaceHead : Lace → List ℕ → List ℕ → Type 0
 IsLaceHead lace.None head sizes = (length sizes ≡ 1) × (head ≡ [])
 IsLaceHead lace.Xiph head sizes = Spells lace.Xiph None (explicit_sizes sizes) head
 IsLaceHead lace.Fixed head sizes = AreEqual sizes × (head ≡ [])
 IsLaceHead lace.Ebml head sizes = Spells lace.Ebml None (explicit_sizes sizes) head
 
--- The list has 1 to 256 sizes. The head and the frames have `total` bytes together.
+-- The bytes `head` are the head of a lace with the frame sizes `sizes`, 1 to 256. The head and the frames have `total` bytes together.
 pub record IsLace (kind : Lace) (head sizes : List ℕ) (total : ℕ) : Type 0 where
   pub some : 1 ≤ length sizes
   pub most : length sizes ≤ 256
   pub spelled : IsLaceHead kind head sizes
   pub whole : length head + sum sizes ≡ total
 
--- The bytes are a lace of `frames` frames with the sizes `sizes`, and a head of `head` bytes.
+-- The bytes `octets` are a lace of `frames` frames with the sizes `sizes`, and a head of `head` bytes.
 pub record FindsLace (kind : Lace) (frames : ℕ) (octets sizes : List ℕ) (head : ℕ) : Type 0 where
   pub count : length sizes ≡ frames
   pub inside : head ≤ length octets
   pub lace : IsLace kind (take head octets) sizes (length octets)
 
--- No prefix of the bytes is the head of a lace of `frames` frames.
+-- No prefix of the bytes `octets` is the head of a lace of `frames` frames.
 abbrev pub HasNoLace : Lace → ℕ → List ℕ → Type 0
 HasNoLace kind frames octets =
     (head rest sizes : List ℕ) → octets ≡ head ++ rest → length sizes ≡ frames → IsLace kind head sizes (length octets) → ⊥
 
--- A head determines the sizes. Lists `a` and `b` of the same length, with the same kind, head and total number of bytes, are equal.
+-- The head of a lace determines its sizes. Lists of sizes with the same lacing, length, head and total number of bytes are equal.
 abbrev pub HeadSettlesSizes : Type 0
 HeadSettlesSizes =
     (kind : Lace) (head a b : List ℕ) (total : ℕ) → length a ≡ length b → IsLace kind head a total → IsLace kind head b total → a ≡ b

@@ -9,22 +9,21 @@ use Rattle.lacing.specs.Reading.{lace_in, sizes_in, with_last}
 abbrev pub with_zeros : List ℕ → ℕ → List ℕ
 with_zeros front len = front ++ replicate (len - length front) 0
 
--- `found` is the result of reading a lace: there is a lace, and its head lies in `front`.
+-- The result of reading a lace, `found`, is a lace, and its head lies in the first bytes `front`.
 abbrev pub has_head_within : List ℕ → Option (List ℕ × ℕ) → Bool
 has_head_within front None = false
 has_head_within front (Some (sizes, head)) = nat_le head (length front)
 
--- The first bytes `front` are enough to know that `len` bytes are a lace of `count` frames. With zeros after `front` they are a lace, and its
--- head lies in `front`.
+-- The first bytes `front` are enough to know that `len` bytes are a lace of `count` frames. With zeros after `front` they are a lace, and its head
+-- lies in `front`.
 abbrev pub is_settled : Lace → ℕ → List ℕ → ℕ → Bool
 is_settled kind count front len = has_head_within front (lace_in kind count (with_zeros front len))
 
--- The first bytes `front` are enough to know all sizes of `count` frames except the last. They leave the last one a size of 0 or more in `len`
--- bytes.
+-- The first bytes `front` are enough to know all sizes of `count` frames except the last. They leave the last one a size of 0 or more in `len` bytes.
 abbrev pub settles_sizes : Lace → ℕ → List ℕ → ℕ → Bool
 settles_sizes kind count front len = has_head_within front (with_last len (sizes_in kind (count - 1) None (with_zeros front len)))
 
--- The bytes are a lace of `frames` frames, and its head lies in `front`.
+-- The bytes `octets` are a lace of `frames` frames, and its head lies in the first bytes `front`.
 pub record HasLace (kind : Lace) (frames : ℕ) (front octets : List ℕ) : Type 0 where
   pub sizes : List ℕ
   pub head : ℕ

@@ -3,21 +3,21 @@
 /// Kind of lacing of a block's frames: RFC 9559, section 10.3 (Block Lacing).
 #[derive(Clone, Copy, Debug, PartialEq, Eq)]
 pub enum Lace {
-    /// No lacing: one frame.
+    /// No lacing: one frame
     None,
-    /// Xiph lacing: sizes as sequences of bytes 255.
+    /// Xiph lacing: each size as bytes 255 and a smaller byte
     Xiph,
-    /// Fixed-size lacing: frames of one size.
+    /// Fixed-size lacing: frames of one size
     Fixed,
-    /// EBML lacing: a size, then the difference of each size to the previous one.
+    /// EBML lacing: a size, then the difference of each size to the previous one
     Ebml,
 }
 
-/// Reason why bytes aren't divided into frames.
+/// Cause of a failure to divide bytes into frames.
 #[derive(Clone, Copy, Debug, PartialEq, Eq)]
 pub enum LaceEnd {
-    /// No sizes for this number of frames fit the bytes.
+    /// No sizes of this number of frames fit the bytes
     Bad,
-    /// Memory ran out.
+    /// Out of memory
     Memory,
 }

@@ -10,8 +10,8 @@ use ebml_numbers::{Size, read_size};
 use smallvec::SmallVec;
 use std::alloc::Global;
 
-/// Divides `bytes`, which follow a block's frame count, into `count` frames. Writes the sizes of the frames in bytes
-/// to `sizes`, and returns the length of the lace's head in bytes.
+/// Divides `bytes`, which follow a block's frame count, into `count` frames by the lacing `kind`. Writes the sizes of
+/// the frames in bytes to `sizes`, and returns the length of the lace's head in bytes.
 pub fn split(
     kind: Lace,
     count: u16,
@@ -71,7 +71,8 @@ fn make_room(count: usize, sizes: &mut SmallVec<u32, 8, Global>) -> Result<(), L
     Ok(())
 }
 
-// Appends the sizes of `count` frames to `sizes`, which has room for them.
+// Appends the sizes of `count` frames in `bytes` to `sizes`, which has room for them. Returns the length of the lace's
+// head, or None if the bytes aren't such a lace.
 fn frames(
     kind: Lace,
     count: usize,
@@ -130,7 +131,9 @@ fn equal_frames(count: usize, bytes: &[u8], sizes: &mut SmallVec<u32, 8, Global>
     Some(0)
 }
 
-// Appends the sizes of the frames. The head has all sizes except the last, which gets the bytes that are left.
+// Appends the sizes of `count` frames in Xiph or EBML lacing to `sizes`. The head at the start of `bytes` has all
+// except the last, which gets the bytes that are left. Returns the length of the head, or None if there is no such
+// lace.
 fn spelled_frames(
     kind: Lace,
     count: usize,
@@ -161,7 +164,8 @@ fn spelled_frames(
     Some(head as u32)
 }
 
-// Returns the size at the offset `at`, if its frame fits in the bytes, and the number of bytes of the size itself.
+// Returns the size at the index `at` of `bytes` and the number of bytes that encode it, if its frame fits in the rest.
+// `before` is the previous size, if any.
 #[tactic(auto, unfolding(crate::specs::Reading::size_in))]
 fn size_in(kind: Lace, before: Option<u32>, bytes: &[u8], at: usize) -> Option<(u32, usize)>
     requires short { length bytes.now ≤ 2 ^ 25 }
@@ -173,8 +177,8 @@ fn size_in(kind: Lace, before: Option<u32>, bytes: &[u8], at: usize) -> Option<(
     fitting_size(kind, before, rest, rest.len())
 }
 
-/// Returns the size at the start of `rest` and the number of bytes that encode it, if its frame fits in the bytes
-/// that are left.
+/// Returns the size at the start of `rest` and the number of bytes that encode it, if its frame fits. `room` bytes are
+/// left for both, and `before` is the previous size, if any.
 pub(crate) fn fitting_size(
     kind: Lace,
     before: Option<u32>,
@@ -198,7 +202,8 @@ pub(crate) fn fitting_size(
     }
 }
 
-// Reads a size as the sum of bytes 255 and the byte after them.
+// Returns the size at the start of `bytes` in Xiph lacing, and the number of bytes that encode it. It is the sum of
+// bytes 255 and the byte after them.
 fn xiph_size(bytes: &[u8]) -> Option<(u64, usize)>
     requires { length bytes.now ≤ 2 ^ 25 }
     ensures read { result ≡ xiph_size bytes.now }
@@ -208,7 +213,7 @@ fn xiph_size(bytes: &[u8]) -> Option<(u64, usize)>
     Some((255 * run as u64 + u64::from(bytes[run]), run + 1))
 }
 
-// Returns the number of bytes 255 before the first other byte.
+// Returns the number of bytes 255 at the start of `bytes`, before the first other byte.
 fn run_of(bytes: &[u8]) -> Option<usize>
     ensures read { result ≡ position (λ octet. not (octet == 255)) bytes.now }
     ensures inside { IfSome result (λ run. run < length bytes.now) }
@@ -216,7 +221,8 @@ fn run_of(bytes: &[u8]) -> Option<usize>
     bytes.iter().position(|octet| *octet != 255)
 }
 
-// Reads the first size, or a difference and adds it to the previous size `before`.
+// Returns the size at the start of `bytes` in EBML lacing, and the number of bytes that encode it. With a previous size
+// `before` they encode the difference.
 fn ebml_size(before: Option<u32>, bytes: &[u8]) -> Option<(u64, usize)>
     ensures read { result ≡ ebml_size before bytes.now }
     ensures small { IfSome result (λ front. (front.0 < 2 ^ 57) × (front.1 < 2 ^ 57)) }
@@ -236,7 +242,8 @@ fn ebml_size(before: Option<u32>, bytes: &[u8]) -> Option<(u64, usize)>
     Some((size, len))
 }
 
-// Returns the data of a variable-size integer that was read as a size.
+// Returns the value of a variable-size integer of `len` bytes that was read as a size; an unknown size has the value
+// with all bits 1.
 fn data_of(size: Size, len: u8) -> u64
     requires { len ≤ 8 }
     ensures { result ≡ data_of size len }

@@ -9,7 +9,7 @@ use crate::difference::{bias, difference_width};
 use crate::kind::Lace;
 use ebml_numbers::{Octets, put_size, size_width};
 
-/// Returns the length in bytes of the head of a lace with the frame sizes `sizes`.
+/// Returns the length in bytes of the head of a lace of the kind `kind` with the frame sizes `sizes`.
 pub fn lace_len(kind: Lace, sizes: &[u32]) -> u32
     requires { CanLace kind sizes.now }
     ensures exact { result ≡ length (lace_head kind sizes.now) }
@@ -18,7 +18,7 @@ pub fn lace_len(kind: Lace, sizes: &[u32]) -> u32
     spelled_len(kind, explicit_sizes(sizes))
 }
 
-/// Writes the head of a lace with the frame sizes `sizes` to `out`, each size in the fewest bytes.
+/// Writes the head of a lace of the kind `kind` with the frame sizes `sizes` to `out`, each size in the fewest bytes.
 pub fn put_lace(kind: Lace, sizes: &[u32], out: &mut [u8])
     requires can { CanLace kind sizes.now }
     requires room { length out.old ≡ length (lace_head kind sizes.now) }
@@ -31,7 +31,7 @@ pub fn put_lace(kind: Lace, sizes: &[u32], out: &mut [u8])
     put_spelled(kind, explicit_sizes(sizes), out);
 }
 
-// Returns the sizes that a head contains.
+// Returns the sizes that the head of a lace contains: all of `sizes` except the last.
 fn explicit_sizes(sizes: &[u32]) -> &[u32]
     requires { 1 ≤ length sizes.now }
     ensures { result.now ≡ explicit_sizes sizes.now }
@@ -39,7 +39,7 @@ fn explicit_sizes(sizes: &[u32]) -> &[u32]
     &sizes[..sizes.len() - 1]
 }
 
-// Returns the length of the written sizes in bytes.
+// Returns the length in bytes of `sizes` as the head of a lace of the kind `kind` encodes them.
 fn spelled_len(kind: Lace, sizes: &[u32]) -> u32
     requires { length (octets_of_sizes kind None sizes.now) < 2 ^ 32 }
     ensures { result ≡ length (octets_of_sizes kind None sizes.now) }
@@ -53,7 +53,7 @@ fn spelled_len(kind: Lace, sizes: &[u32]) -> u32
     len
 }
 
-// Writes sizes in sequence to `out`, which has their length.
+// Writes `sizes` in sequence to `out`, which has the length that they take, as a lace of the kind `kind` encodes them.
 fn put_spelled(kind: Lace, sizes: &[u32], out: &mut [u8])
     requires { length out.old ≡ length (octets_of_sizes kind None sizes.now) }
     ensures { out.new ≡ octets_of_sizes kind None sizes.now }
@@ -66,7 +66,8 @@ fn put_spelled(kind: Lace, sizes: &[u32], out: &mut [u8])
     }
 }
 
-// Returns the number of bytes of the size `size` after the size `before`, if any.
+// Returns the number of bytes that encode the size `size` in a lace of the kind `kind`, after the previous size
+// `before`, if any.
 fn size_len(kind: Lace, before: Option<u32>, size: u32) -> u32
     ensures { result ≡ length (octets_of_size kind before size) }
 {
@@ -77,7 +78,8 @@ fn size_len(kind: Lace, before: Option<u32>, size: u32) -> u32
     }
 }
 
-// Writes the bytes of the size `size` to `out` at the offset `at`, and returns the offset after them.
+// Writes the bytes that encode the size `size` to `out` at the index `at`, and returns the index after them. `before`
+// is the previous size, if any.
 fn put_spelling_at(kind: Lace, before: Option<u32>, size: u32, at: usize, out: &mut [u8]) -> usize
     requires { at + length (octets_of_size kind before size) ≤ length out.old }
     ensures place { result ≡ at + length (octets_of_size kind before size) }
@@ -87,7 +89,8 @@ fn put_spelling_at(kind: Lace, before: Option<u32>, size: u32, at: usize, out: &
     at + put_spelling(kind, before, size, &mut out[at..])
 }
 
-// Writes the bytes of the size `size` to the start of `out`, and returns their number.
+// Writes the bytes that encode the size `size` to the start of `out`, and returns their number. `before` is the
+// previous size, if any.
 fn put_spelling(kind: Lace, before: Option<u32>, size: u32, out: &mut [u8]) -> usize
     requires { length (octets_of_size kind before size) ≤ length out.old }
     ensures len { result ≡ length (octets_of_size kind before size) }
@@ -100,7 +103,7 @@ fn put_spelling(kind: Lace, before: Option<u32>, size: u32, out: &mut [u8]) -> u
     }
 }
 
-// Writes a size in Xiph lacing to the start of `out`, and returns the number of its bytes.
+// Writes the bytes that encode the size `size` in Xiph lacing to the start of `out`, and returns their number.
 fn put_xiph(size: u32, out: &mut [u8]) -> usize
     requires { length (octets_of_size Lace.Xiph None size) ≤ length out.old }
     ensures len { result ≡ length (octets_of_size Lace.Xiph None size) }
@@ -112,8 +115,8 @@ fn put_xiph(size: u32, out: &mut [u8]) -> usize
     run + 1
 }
 
-// Writes a size in EBML lacing to the start of `out`, after the previous size `before` if any. Returns the number of
-// its bytes.
+// Writes the bytes that encode the size `size` in EBML lacing to the start of `out`, and returns their number. `before`
+// is the previous size, if any.
 fn put_ebml(before: Option<u32>, size: u32, out: &mut [u8]) -> usize
     requires { length (ebml_octets before size) ≤ length out.old }
     ensures len { result ≡ length (ebml_octets before size) }
@@ -125,7 +128,8 @@ fn put_ebml(before: Option<u32>, size: u32, out: &mut [u8]) -> usize
     len
 }
 
-// Returns the first size, or its difference to the size `before`, in the fewest bytes.
+// Returns the bytes that encode the size `size` in EBML lacing, as few as possible. They have its difference to the
+// previous size `before`, or the size if it is the first.
 fn ebml_octets(before: Option<u32>, size: u32) -> Octets
     ensures octets { octets_of result ≡ ebml_octets before size }
     ensures len { result.len ≡ length (ebml_octets before size) }
@@ -136,7 +140,8 @@ fn ebml_octets(before: Option<u32>, size: u32) -> Octets
     }
 }
 
-// Returns the bytes of the difference from the size `before` to `size`, as few as possible.
+// Returns the bytes that encode the difference from the size `before` to the size `size` in EBML lacing, as few as
+// possible.
 fn difference_octets(before: u32, size: u32) -> Octets
     ensures octets { octets_of result ≡ difference_octets before size }
     ensures len { result.len ≡ length (difference_octets before size) }
