@@ -3,19 +3,19 @@ use Rattle.std.specs.Prelude.{ℕ, ◌+◌, Bool, ◌&&◌, nat_le, nat_lt, List
 use Rattle.mkv_memory.specs.Changes.{Change, History, octets_in, with_change}
 use Rattle.mkv_memory.specs.declared.logged_pair.CallBudget.{CallBudget}
 
--- the changes of two files, and the room that was reserved at first
+-- the log of a disk: the changes of its two files, and the room that was reserved at first
 pub record Logged : Type 0 where
   pub history : History
   pub room : CallBudget
 
--- two files with these contents, without changes, and with this room for calls
+-- the log of two files with these contents, without changes, and with this room for calls and bytes
 abbrev pub unchanged : List ℕ → List ℕ → CallBudget → Logged
 unchanged media sidecar room = record { history = record { media = media; sidecar = sidecar; made = [] }; room = room }
 
--- There is room for one more call that writes `octets` bytes.
+-- The log `l` has room for one more call that writes `octets` bytes.
 abbrev pub has_room : Logged → ℕ → Bool
 has_room l octets = nat_lt (length l.history.made) l.room.calls && nat_le (octets_in l.history.made + octets) l.room.octets
 
--- the two files after one more change of the file with the number `file`
+-- the log `l` after one more change, `change`, of the file with the number `file`
 abbrev pub and_then : Logged → ℕ → Change → Logged
 and_then l file change = record l { history = with_change l.history file change }

@@ -6,7 +6,7 @@ use Rattle.mkv_disk.specs.Image.{DiskFile, IsImage}
 use Rattle.mkv_disk.specs.Pair.{Pair}
 use Rattle.mkv_memory.specs.SeenDisk.{size_in}
 
--- The content as read and the content at the last sync are possible after a crash. Neither is longer than the limit.
+-- The content of the file `f` as read and its content at the last sync are possible after a crash. Neither is longer than the limit.
 pub record IsSound (f : DiskFile) : Type 0 where
   pub reads : IsImage f f.reads
   pub synced : IsImage f f.synced

@@ -15,20 +15,20 @@ use Rattle.mkv_io.specs.declared.outside.TheConstants.{LONGEST_FILE}
 abbrev pub World : Type 0
 World = List ℕ → Option (List ℕ)
 
--- the content of each name in a map
+-- the content of the file `name` in a map, given by its entries, or None if no file has the name
 abbrev pub content_of_name : List (String Global × List ℕ) → World
 content_of_name entries name = lookup (is_at (λ key. slice_cmp nat_cmp name (string_bytes key))) entries
 
--- In a map of names the content of `name` changes by `change`, and every other stays.
+-- From `old` to `new`, the entries of a map of names, the content of `name` changed by `change`, and every other stayed.
 abbrev pub Changes : List ℕ → (Option (List ℕ) → Option (List ℕ)) → List (String Global × List ℕ) → List (String Global × List ℕ) → Type 0
 Changes name change old new = content_of_name new ≡ changed_at name change (content_of_name old)
 
--- The names with their contents, and the name under which each file was opened, by its number; a closed file has none.
+-- a store: the names with their contents, and the name that each file was opened under, by its number; a closed file has none
 pub record Stored : Type 0 where
   pub world : World
   pub opened : List (Option (List ℕ))
 
--- the name of a live file
+-- the name that the file with the number `file` was opened under, or None if it was closed; `opened` has the names of all files
 abbrev pub name_of_file : List (Option (List ℕ)) → ℕ → Option (List ℕ)
 name_of_file opened file = get_or opened file None
 
@@ -36,7 +36,7 @@ name_of_file opened file = get_or opened file None
 abbrev pub content_of_file : Stored → ℕ → Option (List ℕ)
 content_of_file stored file = option_and_then stored.world (name_of_file stored.opened file)
 
--- the live files of a store, with their lengths and contents
+-- the live files of the store `stored`, with their lengths and contents
 abbrev pub files_of : Stored → LiveFiles
 files_of stored = record {
   live = λ file. is_some (name_of_file stored.opened file);
@@ -44,44 +44,44 @@ files_of stored = record {
   content = content_of_file stored;
 }
 
--- the name under which a live file was opened
+-- the name that the live file with the number `file` was opened under
 abbrev pub holder_of : Stored → ℕ → List ℕ
 holder_of stored file = unwrap_or (name_of_file stored.opened file) []
 
--- the bytes of a live file
+-- the bytes of the live file with the number `file`
 abbrev pub file_octets : Stored → ℕ → List ℕ
 file_octets stored file = unwrap_or (content_of_file stored file) []
 
 -- ---- changes of a store
 
--- the store after `name` got the content `bytes`
+-- the store `stored` after the file `name` got the content `bytes`
 abbrev pub with_content_at : Stored → List ℕ → List ℕ → Stored
 with_content_at stored name bytes = record stored { world = changed_at name (λ _. Some bytes) stored.world }
 
--- the store after one more file was opened under `name`
+-- the store `stored` after one more file was opened under `name`
 abbrev pub opened_under : Stored → List ℕ → Stored
 opened_under stored name = record stored { opened = stored.opened ++ Some name ∷ [] }
 
--- the store after the content of a live file's name changed
+-- the store `stored` after the content of the name of the live file `file` changed by `change`
 abbrev pub with_changed_file : Stored → ℕ → (Option (List ℕ) → Option (List ℕ)) → Stored
 with_changed_file stored file change = record stored { world = changed_at (holder_of stored file) change stored.world }
 
--- the store after a file was closed
+-- the store `stored` after the live file `file` was closed
 abbrev pub closed : Stored → ℕ → Stored
 closed stored file = record stored { opened = slice_set stored.opened file None }
 
 -- ---- properties of all such files
 
--- No name has a content of more than 2^48 bytes.
+-- No name in `world` has a content of more than 2^48 bytes.
 abbrev pub HasShortContents : World → Type 0
 HasShortContents world = (name : List ℕ) → length (unwrap_or (world name) []) ≤ LONGEST_FILE
 
--- The name of a live file has a content.
+-- The given name of a live file has a content in `world`; a closed file needs none.
 abbrev pub is_there : World → Option (List ℕ) → Bool
 is_there world None = true
 is_there world (Some name) = is_some (world name)
 
--- The name of each live file has a content.
+-- The name of each live file in `opened` has a content in `world`.
 abbrev pub AreThere : World → List (Option (List ℕ)) → Type 0
 AreThere world opened = (file : ℕ) → is_there world (name_of_file opened file) ≡ true
 
@@ -125,6 +125,6 @@ numbered-live [] (suc file) live = cc
 numbered-live (name ∷ names) zero live = omega arith
 numbered-live (name ∷ names) (suc file) live = let below = numbered-live names file live in omega arith
 
--- the store after a file with this name was made and opened
+-- the store `stored` after the file `name` was created and opened
 abbrev pub made_under : Stored → List ℕ → Stored
 made_under stored name = opened_under (with_content_at stored name []) name

@@ -1,4 +1,4 @@
-//! Effects of a call on a file.
+//! Effects of a call on a file of a disk in memory.
 
 ghost use Rattle.std.specs.Prelude.{◌≡◌, ◌+◌, ◌<◌, ◌≤◌, ◌^◌, length, vec_capacity, OnOk, IsOk};
 ghost use Rattle.mkv_io.specs.Contents.{overwritten};
@@ -8,7 +8,7 @@ ghost use Rattle.mkv_memory.specs.LogIn.{change_of, octets_done};
 use mkv_io::FileId;
 use std::alloc::AllocError;
 
-/// Effect of a call on a file. The bytes that it wrote are kept elsewhere.
+/// Effect of a call on a file: a write, a truncation or a sync. The bytes that it wrote are kept elsewhere.
 #[derive(Clone, Copy)]
 pub enum Done {
     Wrote { at: u64, len: usize },
@@ -16,14 +16,14 @@ pub enum Done {
     Synced,
 }
 
-/// Call that was made on one of the two files.
+/// Call that was made on one of the two files, for the log.
 #[derive(Clone, Copy)]
 pub struct Call {
     pub file: FileId,
     pub done: Done,
 }
 
-/// Returns the number of bytes that a call wrote.
+/// Returns the number of bytes that a call with the effect `done` wrote.
 pub fn octets_done(done: Done) -> usize
     ensures { result ≡ octets_done done }
 {
@@ -33,7 +33,7 @@ pub fn octets_done(done: Done) -> usize
     }
 }
 
-/// Makes the effect `done`, with the bytes `bytes`, on the content `reads` of a file. Allocates only if the vector
+/// Applies the effect `done`, with the bytes `bytes`, to the content `reads` of a file. Allocates only if the vector
 /// has no room left.
 pub fn apply(reads: &mut Vec<u8>, done: Done, bytes: &[u8]) -> Result<(), AllocError>
     requires count { length bytes.now ≡ octets_done done }
@@ -52,7 +52,7 @@ pub fn apply(reads: &mut Vec<u8>, done: Done, bytes: &[u8]) -> Result<(), AllocE
     }
 }
 
-/// Writes `bytes` from the offset `at`, over the bytes there and past the end.
+/// Writes `bytes` over `octets` from the offset `at`, also past the end.
 fn write_over(octets: &mut Vec<u8>, at: usize, bytes: &[u8]) -> Result<(), AllocError>
     requires inside { at ≤ length octets.old.items }
     requires short { at + length bytes.now < 2 ^ 64 }

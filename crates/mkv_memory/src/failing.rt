@@ -5,11 +5,11 @@ ghost use Rattle.std.specs.Prelude.{◌≡◌, OnOk, OnErr};
 use std::alloc::{AllocError, Global};
 use std::collections::BTreeSet;
 
-/// Set of calls that must fail, by their numbers from 0 on, and the number of calls up to now.
+/// Set of calls that must fail, by their numbers, counted from 0, and the number of calls up to now.
 #[derive(Drop)]
 pub struct Failing {
     single: BTreeSet<u64>,
-    /// First call of the final failures: it and all later ones fail.
+    /// First of the calls that all fail, if there is one
     stop: Option<u64>,
     made: u64,
 }
@@ -29,7 +29,7 @@ impl Failing {
         }
     }
 
-    /// Makes the call number `call` fail.
+    /// Sets the call with the number `call`, counted from 0, to fail.
     pub fn fail_at(&mut self, call: u64) -> Result<(), AllocError>
         ensures ok { OnOk result (failures_in self.new ≡ with_failure (failures_in self.old) call) }
         ensures err { OnErr result (failures_in self.new ≡ failures_in self.old) }
@@ -38,14 +38,14 @@ impl Failing {
         Ok(())
     }
 
-    /// Makes the call number `call` and all later ones fail.
+    /// Sets the call with the number `call`, counted from 0, and all later ones to fail.
     pub fn stop_at(&mut self, call: u64)
         ensures { failures_in self.new ≡ with_stop (failures_in self.old) call }
     {
         self.stop = Some(self.stop.map_or(call, |stop| stop.min(call)));
     }
 
-    /// Counts a call, and returns whether it must fail.
+    /// Counts a call, and returns true if it must fail.
     pub fn next(&mut self) -> bool
         ensures fails { result ≡ is_to_fail (failures_in self.old) }
         ensures counted { failures_in self.new ≡ called (failures_in self.old) }

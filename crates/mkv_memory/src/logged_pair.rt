@@ -14,15 +14,15 @@ use mkv_io::FileId;
 use std::alloc::{AllocError, Global};
 use std::marker::Model;
 
-/// Room for calls that change a file, and for the bytes that they write.
+/// Room for calls that change a file, and for the bytes that they write, in the log.
 #[derive(Clone, Copy)]
 pub struct CallBudget {
     pub calls: u32,
     pub octets: u64,
 }
 
-/// The two files as they were at first, their contents now, and a log of all calls in between. All memory for the log
-/// is reserved at first.
+/// The two files of a disk as they were at first, their contents now, and a log of all calls in between. All memory for
+/// the log is reserved at first.
 #[derive(Drop)]
 pub struct LoggedPair {
     first_media: Vec<u8>,
@@ -47,7 +47,8 @@ impl Model for LoggedPair {
 }
 
 impl LoggedPair {
-    /// Returns two unchanged files with room for `room` calls and bytes.
+    /// Returns the edited file with the content `media` and the journal with the content `sidecar`, with room for
+    /// `room` calls and bytes.
     pub fn new(
         alloc: Global,
         media: &[u8],
@@ -67,7 +68,7 @@ impl LoggedPair {
         })
     }
 
-    /// Returns the room that was reserved at first.
+    /// Returns the room for calls and bytes that was reserved at first.
     pub fn room(&self) -> CallBudget
         ensures { result ≡ self.now.room }
     {
@@ -93,7 +94,7 @@ impl LoggedPair {
             && octets as u64 <= self.room.octets - self.octets.len() as u64
     }
 
-    /// Returns the file `file` with its pending writes.
+    /// Returns the file `file` with its pending writes, the ones that a crash may undo.
     pub fn pending(&self, alloc: Global, file: FileId) -> Result<Pending, AllocError>
         ensures { IfOk result (λ pending. Shows pending (file_of file.n (pair_of self.now.history))) }
     {
@@ -101,7 +102,7 @@ impl LoggedPair {
         replayed(alloc, media, sidecar, &self.calls, &self.octets, file)
     }
 
-    /// Makes the effect `done` on `file`, and logs it.
+    /// Applies the effect `done` with the bytes `bytes` to `file`, and logs it.
     pub fn make(&mut self, file: FileId, done: Done, bytes: &[u8])
         requires count { length bytes.now ≡ octets_done done }
         requires inside { CanChange (change_of done bytes.now) (file_of file.n (pair_of self.old.history)).reads }
@@ -118,7 +119,8 @@ impl LoggedPair {
     }
 }
 
-/// Returns one of the two files, which had the contents `media` and `sidecar` at first, after the calls in the log.
+/// Returns the file `file`, after the calls `calls`, which wrote the bytes `octets` in sequence. The two files had the
+/// contents `media` and `sidecar` at first.
 fn replayed(
     alloc: Global,
     media: &[u8],
@@ -143,7 +145,7 @@ fn replayed(
     Ok(pending)
 }
 
-/// Checks whether both numbers name the same file.
+/// Checks whether both numbers name one file of the two: 0 the edited file, another number the journal.
 fn is_same(file: FileId, other: FileId) -> bool
     ensures { result ≡ is_same file.n other.n }
 {

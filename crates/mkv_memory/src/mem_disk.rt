@@ -17,8 +17,8 @@ use mkv_disk::{Disk, MEDIA, SIDECAR};
 use mkv_io::{Failed, FileId, LONGEST_FILE, OpenFault, Reads, Text};
 use std::alloc::{AllocError, Global};
 
-/// Disk in memory with two files, which any name opens. Its contents, and the contents that a crash may leave, are
-/// visible to the proof. Chosen calls fail, and calls without room.
+/// Disk in memory with two files, an edited file and its journal, which any name opens. Its contents, and the contents
+/// that a crash may leave, are visible to the proof. Chosen calls fail, and calls without room.
 ///
 /// Calls of `open_pair`, `read_at`, `write_at`, `cut` and `sync` are counted from 0.
 #[derive(Drop)]
@@ -34,7 +34,7 @@ pub struct MemDisk {
     ghost sidecar_sound: { IsSound (pair_of files.history).sidecar },
 }
 
-/// Returns the images of the edited file and of the journal that a crash leaves, by their number `pick`.
+/// Returns the contents of the edited file and of the journal that a crash leaves, chosen by the number `pick`.
 fn left_by(pick: u64) -> (CrashImage, CrashImage)
     ensures { result ≡ left_by pick }
 {
@@ -48,7 +48,7 @@ fn left_by(pick: u64) -> (CrashImage, CrashImage)
     }
 }
 
-/// Checks whether the call would make a file longer than the limit.
+/// Checks whether a call with the effect `done` would make a file longer than the limit.
 fn is_too_long(done: Done) -> bool
     ensures { (bytes : List ℕ) → length bytes ≡ octets_done done → result ≡ is_too_long (change_of done bytes) }
 {
@@ -63,8 +63,8 @@ impl MemDisk {
     ghost use Rattle.mkv_memory.specs.SeenDisk.{IsOnImage, MakesChange, crashed_by, failing_at, fresh, pair_in, reads_in, room_for, stopping_at};
     ghost use Rattle.mkv_memory.specs.DiskIn.{seen};
 
-    /// Returns a disk with two files without pending writes. It has room for `calls` calls of `write_at`, `cut` and
-    /// `sync`, and for `octets` bytes that they write in all.
+    /// Returns a disk with an edited file and a journal without pending writes. It has room for `calls` calls of
+    /// `write_at`, `cut` and `sync`, and for `octets` bytes that they write in all.
     pub fn new(
         alloc: Global,
         media: &[u8],
@@ -88,7 +88,7 @@ impl MemDisk {
         })
     }
 
-    /// Makes the call number `call` fail. It then does nothing.
+    /// Sets the call with the number `call`, counted from 0, to fail. It then does nothing.
     pub fn fail_at(&mut self, call: u64) -> Result<(), AllocError>
         ensures ok { OnOk result (seen self.new ≡ failing_at (seen self.old) call) }
         ensures err { OnErr result (seen self.new ≡ seen self.old) }
@@ -96,15 +96,15 @@ impl MemDisk {
         self.failing.fail_at(call)
     }
 
-    /// Makes the call number `call` and all later ones fail.
+    /// Sets the call with the number `call`, counted from 0, and all later ones to fail.
     pub fn stop_at(&mut self, call: u64)
         ensures { seen self.new ≡ stopping_at (seen self.old) call }
     {
         self.failing.stop_at(call);
     }
 
-    /// Returns a disk on an image that a crash may leave now, with the room that this one had at first. The number
-    /// `pick` chooses the image.
+    /// Returns a disk with contents that a crash may leave now, and with the room that this one had at first. The
+    /// number `pick` chooses the contents.
     ///
     /// With 0 both files are as read, and with 1 as last synced. With 2 the edited file is as read and the journal as
     /// last synced, and with 3 the reverse. With 4 both are as read, with FF in each byte that was written since its
@@ -124,7 +124,7 @@ impl MemDisk {
         MemDisk::new(alloc, &media, &sidecar, room.calls, room.octets)
     }
 
-    /// Makes the effect `done` on `file`, unless the call must fail or there is no room.
+    /// Applies the effect `done` with the bytes `bytes` to `file`, unless the call must fail or there is no room.
     fn make(&mut self, file: FileId, done: Done, bytes: &[u8]) -> Result<(), Failed>
         requires count { length bytes.now ≡ octets_done done }
         requires inside { BeginsWithin (change_of done bytes.now) (reads_in (seen self.old) file.n) }
@@ -162,12 +162,12 @@ impl Reads for MemDisk {
 
     ghost short = { λ d n live. short-of_sound (pair_of d.files.history) n d.media_sound d.sidecar_sound };
 
-    /// Returns the length of a live file.
+    /// Returns the length of a live file in bytes.
     fn size(&self, file: FileId) -> u64 {
         self.files.reads(file).len() as u64
     }
 
-    /// Fills `into` with the bytes of the file from the offset `at` on, or fails if the call must fail.
+    /// Fills `into` with the bytes of the live file from the offset `at` onwards, or fails if the call must fail.
     fn read_at(&mut self, file: FileId, at: u64, into: &mut [u8]) -> Result<(), Failed>
         requires live { IsTrue (is_live (seen self.old).opened file.n) }
         requires range { at + length into.old ≤ size_in (pair_in (seen self.old)) file.n }
@@ -224,7 +224,7 @@ impl Disk for MemDisk {
 
     ghost writing_stands = { λ a b same. ap (λ (s : Option (List ℕ) × Logged × ℕ). s.2) same };
 
-    /// Opens the edited file and its journal under `name`.
+    /// Opens the edited file `name` and its journal.
     fn open_pair(&mut self, name: &str) -> Result<(), OpenFault>
         ensures exact { OpensPair (seen self.old) name.now result (seen self.new) }
         ensures cause { HasCause is_open_failure (seen self.old).reading_faults (seen self.new).reading_faults result }
@@ -239,7 +239,7 @@ impl Disk for MemDisk {
         Ok(())
     }
 
-    /// Writes `bytes` over the file from the offset `at` on. Until the file is synced, a crash may undo this.
+    /// Writes `bytes` over the file from the offset `at` onwards. Until the file is synced, a crash may undo this.
     fn write_at(&mut self, file: FileId, at: u64, bytes: &[u8]) -> Result<(), Failed>
         requires live { IsTrue (is_live (seen self.old).opened file.n) }
         requires inside { at ≤ length (reads_in (seen self.old) file.n) }

@@ -14,8 +14,8 @@ use std::alloc::{AllocError, Global};
 use std::cmp::min;
 use std::collections::BTreeMap;
 
-/// Files in memory. Their names and contents are visible to the proof, and chosen calls fail. The names that were
-/// opened or made stay known, in order.
+/// Files in memory, by name. Their names and contents are visible to the proof, and chosen calls fail. The names that
+/// were opened or created stay known, in order.
 ///
 /// Calls of `open_file`, `create`, `read_at`, `append` and `overwrite` are counted from 0.
 #[derive(Drop)]
@@ -53,7 +53,7 @@ impl MemFiles {
         })
     }
 
-    /// Sets the content of `name` to `bytes`. Live files with this name get it too.
+    /// Sets the content of the file `name` to `bytes`. Live files with this name get it too.
     pub fn put(&mut self, name: &str, bytes: &[u8]) -> Result<(), AllocError>
         requires { length bytes.now ≤ LONGEST_FILE }
         ensures ok { OnOk result (seen self.new ≡ with_file (seen self.old) name.now bytes.now) }
@@ -64,8 +64,8 @@ impl MemFiles {
         self.store.set(name, content)
     }
 
-    /// Makes the call number `call` fail. If it is an `append`, it keeps the first `kept` bytes, or all except the
-    /// last if there are fewer.
+    /// Sets the call with the number `call`, counted from 0, to fail. If it is an `append`, it keeps the first `kept`
+    /// bytes, or all except the last if there are fewer.
     pub fn fail_at(&mut self, call: u64, kept: u64) -> Result<(), AllocError>
         ensures ok { OnOk result (seen self.new ≡ with_failure (seen self.old) call kept) }
         ensures err { OnErr result (seen self.new ≡ seen self.old) }
@@ -74,7 +74,7 @@ impl MemFiles {
         Ok(())
     }
 
-    /// Returns the content of `name`, or None if no file has this name.
+    /// Returns the content of the file `name`, or None if no file has this name.
     pub fn bytes(&self, name: &str) -> Option<&[u8]>
         ensures { option_map (λ (bytes : Bor (List ℕ)). bytes.now) result ≡ (seen self.now).stored.world name.now }
     {
@@ -92,7 +92,7 @@ impl MemFiles {
     }
 }
 
-/// Returns the number of bytes that a failing append keeps: `kept`, but never the last byte.
+/// Returns the number of bytes that an append of `len` bytes keeps if it fails: `kept`, but never the last byte.
 fn kept_of(len: usize, kept: u64) -> usize
     ensures { result ≡ min kept (len - 1) }
 {
@@ -122,12 +122,12 @@ impl Reads for MemFiles {
 
     ghost short = { λ m file live. short-of_names (stored_in m.store).world (name_of_file (stored_in m.store).opened file) m.store.short };
 
-    /// Returns the length of a live file.
+    /// Returns the length of a live file in bytes.
     fn size(&self, file: FileId) -> u64 {
         self.store.octets(file).len() as u64
     }
 
-    /// Fills `into` with the bytes of the file from the offset `at` on, or fails if the call must fail.
+    /// Fills `into` with the bytes of the live file from the offset `at` onwards, or fails if the call must fail.
     fn read_at(&mut self, file: FileId, at: u64, into: &mut [u8]) -> Result<(), Failed>
         requires live { IsTrue ((files_of (seen self.old).stored).live file.n) }
         requires range { at + length into.old ≤ (files_of (seen self.old).stored).size file.n }
@@ -203,7 +203,7 @@ impl Files for MemFiles {
         Ok(file)
     }
 
-    /// Opens the file `name` with an empty content, whatever it had before.
+    /// Creates the file `name` with an empty content, whatever it had before, and opens it.
     fn create(&mut self, name: &str) -> Result<FileId, MakeFault>
         ensures exact { CreatesName (seen self.old) name.now result (seen self.new) }
         ensures cause { HasCause is_make_failure (seen self.old).writing_faults (seen self.new).writing_faults result }
@@ -219,7 +219,7 @@ impl Files for MemFiles {
         Ok(file)
     }
 
-    /// Appends `bytes` to the file; a call that must fail appends a prefix of them.
+    /// Appends `bytes` to the live file; a call that must fail appends a prefix of them.
     fn append(&mut self, file: FileId, bytes: &[u8]) -> Result<(), MakeFault>
         requires { IsTrue ((files_of (seen self.old).stored).live file.n) }
         ensures exact { AppendsTo (seen self.old) file.n bytes.now result (seen self.new) }
@@ -241,7 +241,7 @@ impl Files for MemFiles {
         }
     }
 
-    /// Writes `bytes` over the file from the offset `at` on; a failed call leaves the file as it was.
+    /// Writes `bytes` over the live file from the offset `at` onwards; a failed call leaves the file as it was.
     fn overwrite(&mut self, file: FileId, at: u64, bytes: &[u8]) -> Result<(), Failed>
         requires live { IsTrue ((files_of (seen self.old).stored).live file.n) }
         requires range { at + length bytes.now ≤ (files_of (seen self.old).stored).size file.n }
@@ -256,7 +256,7 @@ impl Files for MemFiles {
         Ok(())
     }
 
-    /// Closes the file.
+    /// Closes the live file.
     fn close(&mut self, file: FileId)
         requires { IsTrue ((files_of (seen self.old).stored).live file.n) }
         ensures { ClosesFile (seen self.old) file.n (seen self.new) }

@@ -9,8 +9,8 @@ use mkv_io::{Failed, Report};
 use std::alloc::{AllocError, Global};
 use std::collections::BTreeSet;
 
-/// Report in memory. Its lines are visible to the proof, and chosen calls fail, and calls without room. Calls of
-/// `say` are counted from 0.
+/// Report in memory. Its lines are visible to the proof, and chosen calls fail, and calls without room. Calls of `say`
+/// are counted from 0.
 #[derive(Drop)]
 pub struct MemReport {
     text: String,
@@ -50,7 +50,7 @@ impl MemReport {
         })
     }
 
-    /// Makes the call number `call` fail.
+    /// Sets the call with the number `call`, counted from 0, to fail.
     pub fn fail_at(&mut self, call: u64) -> Result<(), AllocError>
         ensures ok { OnOk result (seen self.new ≡ with_failure (seen self.old) call) }
         ensures err { OnErr result (seen self.new ≡ seen self.old) }
@@ -59,7 +59,7 @@ impl MemReport {
         Ok(())
     }
 
-    /// Returns the line number `k`, counted from 0, or None if there are fewer lines.
+    /// Returns the line with the number `k`, counted from 0, or None if there are fewer lines.
     pub fn line(&self, k: usize) -> Option<&str>
         ensures { option_map (λ (line : Bor (List ℕ)). line.now) result ≡ slice_get (seen self.now).lines k }
     {
@@ -69,7 +69,7 @@ impl MemReport {
         Some(&self.text.as_str()[self.cuts[k]..self.cuts[k + 1]])
     }
 
-    /// Adds `line`, for which there is room in memory.
+    /// Appends `line` to the report, which has room for it in memory.
     fn add_line(&mut self, line: &str)
         requires lines { 0 < (seen self.old).lines_left }
         requires octets { length line.now ≤ (seen self.old).octets_left }
@@ -92,7 +92,7 @@ impl Report for MemReport {
 
     ghost faults = { λ r. r.faults };
 
-    /// Adds `line` to the report, or fails if the call must fail or there is no room.
+    /// Appends `line` to the report, or fails if the call must fail or there is no room.
     fn say(&mut self, line: &str) -> Result<(), Failed>
         ensures exact { SaysLine (seen self.old) line.now result (seen self.new) }
         ensures cause { HasCause is_failure (seen self.old).faults (seen self.new).faults result }

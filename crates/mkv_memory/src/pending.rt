@@ -8,29 +8,28 @@ ghost use Rattle.mkv_memory.specs.LogIn.{change_of, octets_done};
 use crate::done::{Done, apply};
 use std::alloc::{AllocError, Global};
 
-/// Content that a crash leaves of a file.
+/// Choice of the content that a crash leaves of a file.
 #[derive(Clone, Copy)]
 pub enum CrashImage {
-    /// Content that reads return.
+    /// Content that reads return
     AsRead,
-    /// Content at the last sync.
+    /// Content at the last sync
     AsSynced,
-    /// Content that reads return, with FF in each byte that was written since the last sync.
+    /// Content that reads return, with FF in each byte that was written since the last sync
     Blotted,
-    /// Content with the least length since the last sync. Bytes at odd offsets are as at that sync, the others as
-    /// read.
+    /// Content with the least length since the last sync. Bytes at odd offsets are as at that sync, the others as read.
     Mixed,
 }
 
-/// Offsets from `from` on and below `to`.
+/// Range of offsets in a file, from `from` up to but excluding `to`.
 #[derive(Clone, Copy)]
 pub struct Span {
     pub from: u64,
     pub to: u64,
 }
 
-/// File with pending writes: its content as read, its content at the last sync, its least length since, and the
-/// ranges written since.
+/// File with pending writes: its content as read, its content at the last sync, its least length since, and the ranges
+/// written since.
 #[derive(Drop)]
 pub struct Pending {
     pub reads: Vec<u8>,
@@ -43,7 +42,7 @@ impl Pending {
     ghost use Rattle.mkv_memory.specs.Images.{ff_where, image_of, mix};
     ghost use Rattle.mkv_memory.specs.Shows.{IsChanged, Shows, is_noted};
 
-    /// Returns a file with the content `octets` and no write that a crash may undo.
+    /// Returns a file with the content `octets` and no pending write.
     pub fn new(alloc: Global, octets: &[u8]) -> Result<Pending, AllocError>
         ensures { IfOk result (λ file. Shows file (clean octets.now)) }
     {
@@ -55,8 +54,8 @@ impl Pending {
         })
     }
 
-    /// Changes the file by `done`: writes `bytes`, truncates it, or syncs it. Until a sync, it notes the changes that
-    /// a crash may undo.
+    /// Changes the file by `done`: writes `bytes`, truncates it, or syncs it. Until a sync, it notes the changes that a
+    /// crash may undo.
     pub fn make(&mut self, done: Done, bytes: &[u8]) -> Result<(), AllocError>
         requires count { length bytes.now ≡ octets_done done }
         requires inside { CanChange (change_of done bytes.now) self.old.reads.items }
@@ -79,7 +78,7 @@ impl Pending {
         Ok(())
     }
 
-    /// Returns the content that a crash leaves, by the image `left`.
+    /// Returns the content that a crash leaves of the file, chosen by `left`.
     pub fn image(&self, alloc: Global, left: CrashImage) -> Result<Vec<u8>, AllocError>
         ensures { IfOk result (λ octets. (f : DiskFile) → Shows self.now f → octets.items ≡ image_of left f) }
     {
@@ -91,7 +90,7 @@ impl Pending {
         }
     }
 
-    /// Checks whether the byte at the offset `k` was written since the last sync.
+    /// Checks whether the byte at the offset `k` of the file was written since the last sync.
     fn is_written(&self, k: u64) -> bool
         ensures { result ≡ is_noted self.now.written.items k }
     {
@@ -100,7 +99,7 @@ impl Pending {
             .any(|span| span.from <= k && k < span.to)
     }
 
-    /// Returns the content as read, with the byte FF at each offset that was written since the last sync.
+    /// Returns the content of the file as read, with the byte FF at each offset that was written since the last sync.
     fn blotted(&self, alloc: Global) -> Result<Vec<u8>, AllocError>
         ensures { IfOk result (λ octets. octets.items ≡ ff_where (is_noted self.now.written.items) self.now.reads.items) }
     {
@@ -115,8 +114,8 @@ impl Pending {
             .collect(alloc)
     }
 
-    /// Returns the content with the least length since the last sync: bytes at odd offsets are as at that sync, the
-    /// others as read.
+    /// Returns the content of the file with the least length since the last sync. Bytes at odd offsets are as at that
+    /// sync, the others as read.
     fn mixed(&self, alloc: Global) -> Result<Vec<u8>, AllocError>
         ensures { IfOk result (λ octets. octets.items ≡ mix self.now.least self.now.reads.items self.now.synced.items) }
     {

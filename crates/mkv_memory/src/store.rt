@@ -13,7 +13,7 @@ use std::collections::BTreeMap;
 
 type Contents = BTreeMap<String, Bytes>;
 
-/// Names with their contents, and the open files. The number of a file is its index in `opened`.
+/// Names with their contents, and the open files. The number of a file is its index in `opened`, counted from 0.
 #[derive(Drop)]
 pub struct Store {
     alloc: Global,
@@ -38,14 +38,14 @@ impl Store {
         }
     }
 
-    /// Checks whether no number is left for another file.
+    /// Checks whether no number is left for one more file.
     pub fn is_full(&self) -> bool
         ensures { IsTrue result ↔ (length (stored_in self.now).opened ≡ 2 ^ 64 - 1) }
     {
         self.opened.len() as u64 == u64::MAX
     }
 
-    /// Returns the content of the name `name`, if it has one.
+    /// Returns the content of the file `name`, if there is one.
     pub fn content(&self, name: &str) -> Option<&[u8]>
         ensures { option_map (λ (bytes : Bor (List ℕ)). bytes.now) result ≡ (stored_in self.now).world name.now }
     {
@@ -65,7 +65,7 @@ impl Store {
         }
     }
 
-    /// Sets the content of `name`.
+    /// Sets the content of the file `name` to `content`.
     pub fn set(&mut self, name: &str, content: Bytes) -> Result<(), AllocError>
         requires { length content ≤ LONGEST_FILE }
         ensures ok { OnOk result (stored_in self.new ≡ with_content_at (stored_in self.old) name.now content) }
@@ -75,7 +75,7 @@ impl Store {
         Ok(())
     }
 
-    /// Opens a file under `name`, which has a content.
+    /// Opens the file `name`, which has a content, and returns its number.
     pub fn open(&mut self, name: &str) -> Result<FileId, AllocError>
         requires there { IsSome ((stored_in self.old).world name.now) }
         requires room { length (stored_in self.old).opened < 2 ^ 64 - 1 }
@@ -90,7 +90,7 @@ impl Store {
         Ok(FileId { n: number })
     }
 
-    /// Sets the content of `name` to no bytes, and opens a file under it.
+    /// Creates the file `name` with no bytes, whatever it had before, opens it, and returns its number.
     pub fn create(&mut self, name: &str) -> Result<FileId, AllocError>
         requires { length (stored_in self.old).opened < 2 ^ 64 - 1 }
         ensures number { IfOk result (λ file. file.n ≡ length (stored_in self.old).opened) }
@@ -138,7 +138,7 @@ impl Store {
     }
 }
 
-/// Returns the name of the live file `file`.
+/// Returns the name that the live file `file` was opened under; `opened` has the names of all files by number.
 fn holder<'a>(opened: &'a Vec<Option<Text>>, file: FileId) -> &'a str
     requires { IsTrue (is_some (name_of_file opened.now.items file.n)) }
     ensures { name_of_file opened.now.items file.n ≡ Some result.now }
@@ -149,7 +149,7 @@ fn holder<'a>(opened: &'a Vec<Option<Text>>, file: FileId) -> &'a str
     }
 }
 
-/// Sets the content of `name`.
+/// Sets the content of the file `name` in `contents` to `content`.
 fn set(contents: &mut Contents, alloc: Global, name: &str, content: Bytes) -> Result<(), AllocError>
     ensures ok { OnOk result (Changes name.now (λ _. Some content) contents.old.entries contents.new.entries) }
     ensures err { OnErr result (content_of_name contents.new.entries ≡ content_of_name contents.old.entries) }
@@ -159,7 +159,7 @@ fn set(contents: &mut Contents, alloc: Global, name: &str, content: Bytes) -> Re
     Ok(())
 }
 
-/// Appends `more` to the content of `name`.
+/// Appends `more` to the content of the file `name` in `contents`.
 fn grow(contents: &mut Contents, name: &str, more: &[u8]) -> Result<(), AllocError>
     ensures ok { OnOk result (Changes name.now (with_appended more.now) contents.old.entries contents.new.entries) }
     ensures err { OnErr result (content_of_name contents.new.entries ≡ content_of_name contents.old.entries) }
@@ -173,7 +173,7 @@ fn grow(contents: &mut Contents, name: &str, more: &[u8]) -> Result<(), AllocErr
     }
 }
 
-/// Writes `bytes` over the content of `name` from the offset `at`.
+/// Writes `bytes` over the content of the file `name` in `contents`, from the offset `at`.
 fn write_over(contents: &mut Contents, name: &str, at: usize, bytes: &[u8])
     requires { at + length bytes.now ≤ length (unwrap_or (content_of_name contents.old.entries name.now) []) }
     ensures { Changes name.now (with_overwritten at bytes.now) contents.old.entries contents.new.entries }
