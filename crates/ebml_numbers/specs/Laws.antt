@@ -17,7 +17,7 @@ pub record OctetsStay : Type 0 where
 abbrev pub SignedAreRead : Type 0
 SignedAreRead = (w : ℕ) (z : ℤ) → 1 ≤ w → int_fits z w ≡ true → int_of (int_octets_in w z) ≡ z
 
--- A number that is the marker of `w` bytes plus smaller data takes `w` bytes.
+-- A number `n` that is the marker of `w` bytes plus smaller data takes `w` bytes.
 abbrev pub MarkersTellWidths : Type 0
 MarkersTellWidths = (w n : ℕ) → 1 ≤ w → w ≤ 8 → marker w ≤ n → n < 2 * marker w → uint_width n ≡ w
 

@@ -23,19 +23,19 @@ width first = leading_zeros w8 first + 1
 abbrev pub marker : ℕ → ℕ
 marker w = 2 ^ (7 * w)
 
--- the data of the first `w` bytes, as a big-endian number without the marker (section 4.3, VINT_DATA)
+-- the data of the variable-size integer in the first `w` of `octets`, as a big-endian number without the marker (section 4.3, VINT_DATA)
 abbrev pub vint_data : ℕ → List ℕ → ℕ
 vint_data w octets = big_number w octets % marker w
 
--- the largest data of `w` bytes: all bits are 1
+-- the largest data of a variable-size integer of `w` bytes: all bits are 1
 abbrev pub all_ones : ℕ → ℕ
 all_ones w = marker w - 1
 
--- the least width of 1 to 8 bytes that passes the test `fits`, or 8 if none does
+-- the smallest width, 1 to 8 bytes, that passes the test `fits`, or 8 if none does
 abbrev pub least_width : (ℕ → Bool) → ℕ
 least_width fits = unwrap_or (find fits (1 ∷ 2 ∷ 3 ∷ 4 ∷ 5 ∷ 6 ∷ 7 ∷ 8 ∷ [])) 8
 
--- the length in bytes that the first byte gives, or 1 if there is no byte
+-- the length in bytes that the first of the given bytes gives to a variable-size integer, or 1 if there is no byte
 abbrev pub announced : List ℕ → ℕ
 announced [] = 1
 announced (first ∷ rest) = width first
@@ -46,7 +46,7 @@ pub record IsCut (most n : ℕ) (octets : List ℕ) : Type 0 where
   pub short : length octets < n
   pub allowed : n ≤ most
 
--- The result is one that no further byte changes: a number, or `Bad`.
+-- The result of reading a number is one that no further byte changes: a number, or `Bad`.
 abbrev pub IsSettled : {T : Type 0} → Result T NumFault → Type 0
 IsSettled (Ok read) = ⊤
 IsSettled (Err Bad) = ⊤
@@ -69,12 +69,12 @@ id_fits w v = nat_le 1 v && nat_lt v (all_ones w)
 abbrev pub is_id_data : ℕ → ℕ → Bool
 is_id_data w v = id_fits w v && not (id_fits (w - 1) v)
 
--- the ID in the first `w` bytes, with its marker, or `Bad`
+-- the Element ID in the first `w` of `octets`, with its marker, or `Bad`
 abbrev pub id_of_width : ℕ → List ℕ → Result IdRead NumFault
 id_of_width w octets =
     if is_id_data w (vint_data w octets) then Ok (record { id = big_number w octets; len = w }) else Err Bad
 
--- the result of reading an ID at the start of the bytes; it has at most 4 bytes, so its first byte is at least `10`
+-- the result of reading an Element ID at the start of the given bytes. It has at most 4 bytes, so its first byte is at least `10`.
 unfoldable pub id_at : List ℕ → Result IdRead NumFault
 id_at [] = Err (More 1)
 id_at (first ∷ rest) =
@@ -82,7 +82,7 @@ id_at (first ∷ rest) =
     if nat_lt (length (first ∷ rest)) (width first) then Err (More (width first)) else
     id_of_width (width first) (first ∷ rest)
 
--- The number `n` is an ID of `w` bytes: marker and data.
+-- The number `n` is an Element ID of `w` bytes: marker and data.
 abbrev pub is_id_of_width : ℕ → ℕ → Bool
 is_id_of_width w n = nat_le (marker w) n && is_id_data w (n - marker w)
 
@@ -90,14 +90,14 @@ is_id_of_width w n = nat_le (marker w) n && is_id_data w (n - marker w)
 unfoldable pub is_id : ℕ → Bool
 is_id n = is_id_of_width 1 n || is_id_of_width 2 n || is_id_of_width 3 n || is_id_of_width 4 n
 
--- The ID that was read is valid, and has 1 to 4 of the `octets` bytes.
+-- The Element ID `read` that was read is valid, and takes 1 to 4 of the `octets` bytes.
 pub record IsIdWithin (octets : ℕ) (read : IdRead) : Type 0 where
   pub valid : is_id read.id ≡ true
   pub some : 1 ≤ read.len
   pub most : read.len ≤ 4
   pub inside : read.len ≤ octets
 
--- The ID may be written. RFC 9559 gives ChapterDisplay the ID 0x80, which RFC 8794 doesn't allow.
+-- The ID `n` may be written. RFC 9559 gives ChapterDisplay the ID 0x80, which RFC 8794 doesn't allow.
 abbrev pub is_written_id : ℕ → Bool
 is_written_id n = is_id n || (n == 0x80)
 
@@ -107,7 +107,7 @@ is_written_id n = is_id n || (n == 0x80)
 abbrev pub size_of_data : ℕ → ℕ → Size
 size_of_data w v = if v == all_ones w then Unknown else Known v
 
--- the result of reading a size at the start of the bytes; it may have more bytes than it needs
+-- the result of reading an Element Data Size at the start of the given bytes; it may take more bytes than it needs
 unfoldable pub size_at : List ℕ → Result SizeRead NumFault
 size_at [] = Err (More 1)
 size_at (first ∷ rest) =
@@ -115,41 +115,41 @@ size_at (first ∷ rest) =
     if nat_lt (length (first ∷ rest)) (width first) then Err (More (width first)) else
     Ok (record { size = size_of_data (width first) (vint_data (width first) (first ∷ rest)); len = width first })
 
--- The bytes begin with `00`, which begins no size.
+-- The bytes `octets` begin with `00`, and so with no size.
 abbrev pub StartsWithZero : List ℕ → Type 0
 StartsWithZero octets = (1 ≤ length octets) × (slice_index octets 0 ≡ 0)
 
--- If the size is known, it is less than `n`.
+-- The given size is less than `n` if it is known.
 abbrev pub IsKnownBelow : ℕ → Size → Type 0
 IsKnownBelow n (Known v) = v < n
 IsKnownBelow n Unknown = ⊤
 
--- The size that was read has 1 to 8 of the `octets` bytes; a known one is less than 2^56 - 1.
+-- The Element Data Size `read` that was read takes 1 to 8 of the `octets` bytes; a known one is less than 2^56 - 1.
 pub record IsSizeWithin (octets : ℕ) (read : SizeRead) : Type 0 where
   pub known : IsKnownBelow (2 ^ 56 - 1) read.size
   pub some : 1 ≤ read.len
   pub most : read.len ≤ 8
   pub inside : read.len ≤ octets
 
--- the known size `v` in `w` bytes
+-- the bytes of the known size `v` in `w` bytes
 abbrev pub size_octets : ℕ → ℕ → List ℕ
 size_octets v w = big_bytes w (marker w + v)
 
--- the fewest bytes that can hold the known size `v`
+-- the smallest number of bytes that can hold the known size `v`
 unfoldable pub least_size_width : ℕ → ℕ
 least_size_width v = least_width (λ w. nat_lt v (all_ones w))
 
 -- ---- Integers (RFC 8794, sections 7.1, Signed Integer Element, and 7.2, Unsigned Integer Element)
 
--- the number that all of the bytes encode, or 0 if there are none
+-- the number that all of the bytes `octets` encode, or 0 if there are none
 abbrev pub uint_of : List ℕ → ℕ
 uint_of octets = big_number (length octets) octets
 
--- the fewest bytes, at least one, that can hold the number `v`
+-- the smallest number of bytes, at least one, that can hold the number `v`
 unfoldable pub uint_width : ℕ → ℕ
 uint_width v = least_width (λ w. nat_lt v (256 ^ w))
 
--- the number `v` in its fewest bytes
+-- the bytes of the number `v`, as few as possible
 abbrev pub uint_octets : ℕ → List ℕ
 uint_octets v = big_bytes (uint_width v) v
 
@@ -157,7 +157,7 @@ uint_octets v = big_bytes (uint_width v) v
 abbrev pub id_octets : ℕ → List ℕ
 id_octets n = uint_octets n
 
--- the two's complement value of all of the bytes, or 0 if there are none
+-- the two's complement value of all of the bytes `octets`, or 0 if there are none
 abbrev pub int_of : List ℕ → ℤ
 int_of octets = twos_complement (length octets) (uint_of octets)
 
@@ -170,25 +170,25 @@ magnitude (negsuc n) = n
 abbrev pub int_fits : ℤ → ℕ → Bool
 int_fits z w = nat_lt (magnitude z) (2 ^ (8 * w - 1))
 
--- the fewest bytes, at least one, that can hold the signed number `z`
+-- the smallest number of bytes, at least one, that can hold the signed number `z`
 unfoldable pub int_width : ℤ → ℕ
 int_width z = least_width (int_fits z)
 
--- the two's complement of a number in `w` bytes
+-- the two's complement of the given number in `w` bytes
 abbrev pub int_octets_in : ℕ → ℤ → List ℕ
 int_octets_in w (pos n) = big_bytes w n
 int_octets_in w (negsuc n) = big_bytes w (256 ^ w - suc n)
 
--- the signed number `z` in its fewest bytes
+-- the bytes of the signed number `z`, as few as possible
 abbrev pub int_octets : ℤ → List ℕ
 int_octets z = int_octets_in (int_width z) z
 
 -- ---- reading back
 
--- The bytes are read as the known size `value` with the width `width`, whatever follows them.
+-- The bytes `octets` are read as the known size `value` with the width `width`, whatever follows them.
 abbrev pub ReadsAsSize : List ℕ → ℕ → ℕ → Type 0
 ReadsAsSize octets value width = (rest : List ℕ) → size_at (octets ++ rest) ≡ Ok (record { size = Known value; len = width })
 
--- If `id` is valid, the bytes are read as this ID with the width `width`, whatever follows them.
+-- If `id` is valid, the bytes `octets` are read as this ID with the width `width`, whatever follows them.
 abbrev pub ReadsAsId : List ℕ → ℕ → ℕ → Type 0
 ReadsAsId octets id width = (rest : List ℕ) → IsTrue (is_id id) → id_at (octets ++ rest) ≡ Ok (record { id = id; len = width })

@@ -30,8 +30,8 @@ pub struct SizeRead {
 /// Reason why bytes don't begin with a number.
 #[derive(Clone, Copy, Debug, PartialEq, Eq)]
 pub enum NumFault {
-    /// The number has this many bytes in all, but fewer are here.
+    /// The number has this number of bytes in all, but fewer are here.
     More(u8),
-    /// No bytes that follow can make a number of these bytes.
+    /// No number begins with these bytes, whatever follows them.
     Bad,
 }

@@ -4,7 +4,7 @@ ghost use Rattle.byteorder.specs.Endian.{big_bytes};
 
 use byteorder::{BigEndian, ByteOrder};
 
-/// Written number.
+/// Number as it is written.
 #[derive(Clone, Copy, Debug, PartialEq, Eq)]
 pub struct Octets {
     /// Bytes of the number, then zeros.
@@ -26,7 +26,7 @@ impl Octets {
         &self.bytes[..usize::from(self.len)]
     }
 
-    /// Returns `value` in `width` bytes, the highest first.
+    /// Returns the number `value` in `width` bytes, the highest first.
     pub(crate) fn big_endian(value: u64, width: u8) -> Octets
         requires some { 1 ≤ width }
         requires most { width ≤ 8 }

@@ -60,7 +60,8 @@ pub fn read_int(bytes: &[u8]) -> i64
     }
 }
 
-// Reads the ID at the start of `bytes`; fails with the number of bytes that are missing, or if there is none.
+// Reads the Element ID at the start of `bytes`. Fails with the number of bytes that it has in all if some are missing,
+// or if no ID begins so.
 #[tactic(auto, unfolding(crate::specs::Number::id_at))]
 fn first_id(bytes: &[u8]) -> Result<IdRead, NumFault>
     ensures { result ≡ id_at bytes.now }
@@ -78,7 +79,8 @@ fn first_id(bytes: &[u8]) -> Result<IdRead, NumFault>
     id_of_width(bytes, width)
 }
 
-// Reads the size at the start of `bytes`; fails with the number of bytes that are missing, or if there is none.
+// Reads the Element Data Size at the start of `bytes`. Fails with the number of bytes that it has in all if some are
+// missing, or if no size begins so.
 #[tactic(auto, unfolding(crate::specs::Number::size_at))]
 fn first_size(bytes: &[u8]) -> Result<SizeRead, NumFault>
     ensures { result ≡ size_at bytes.now }
@@ -100,14 +102,14 @@ fn first_size(bytes: &[u8]) -> Result<SizeRead, NumFault>
     })
 }
 
-// Returns the length in bytes of a number with the first byte `first`.
+// Returns the length in bytes of a variable-size integer with the first byte `first`.
 fn width_of(first: u8) -> u8
     ensures { result ≡ width first }
 {
     first.leading_zeros() as u8 + 1
 }
 
-// Returns the ID in the first `width` bytes, or `Bad` if they aren't a valid one.
+// Returns the Element ID in the first `width` of `bytes`, or `Bad` if they aren't a valid one.
 fn id_of_width(bytes: &[u8], width: u8) -> Result<IdRead, NumFault>
     requires some { 1 ≤ width }
     requires most { width ≤ 4 }
@@ -124,7 +126,7 @@ fn id_of_width(bytes: &[u8], width: u8) -> Result<IdRead, NumFault>
     })
 }
 
-// Checks whether `value` can be the data of an ID of `width` bytes, and doesn't fit in fewer.
+// Checks whether `value` can be the data of an Element ID of `width` bytes, and doesn't fit in fewer.
 fn is_id_data(width: u8, value: u64) -> bool
     requires some { 1 ≤ width }
     requires most { width ≤ 8 }
@@ -134,7 +136,7 @@ fn is_id_data(width: u8, value: u64) -> bool
     (least..all_ones(width)).contains(&value)
 }
 
-// Returns the size with the data `value` in `width` bytes: unknown if all bits of the data are 1.
+// Returns the Element Data Size with the data `value` in `width` bytes: unknown if all bits of the data are 1.
 fn size_of_data(width: u8, value: u64) -> Size
     requires { width ≤ 8 }
     ensures { result ≡ size_of_data width value }
@@ -146,7 +148,7 @@ fn size_of_data(width: u8, value: u64) -> Size
     }
 }
 
-// Returns the data bits of `number`, which has `width` bytes.
+// Returns the data bits of `number`, a variable-size integer of `width` bytes with its marker.
 fn without_marker(number: u64, width: u8) -> u64
     requires { width ≤ 8 }
     ensures { result ≡ number % marker width }
@@ -154,7 +156,7 @@ fn without_marker(number: u64, width: u8) -> u64
     number & all_ones(width)
 }
 
-// Returns the number in the first `width` bytes. If eight bytes are here, it reads them as one word.
+// Returns the big-endian number in the first `width` of `bytes`. If there are eight bytes, it reads them as one word.
 fn number(bytes: &[u8], width: u8) -> u64
     requires some { 1 ≤ width }
     requires most { width ≤ 8 }

@@ -2,7 +2,7 @@
 ghost use Rattle.std.specs.Prelude.{◌≡◌, ◌≤◌};
 ghost use Rattle.ebml_numbers.specs.Number.{all_ones, marker};
 
-// Returns the marker bit of a number of `width` bytes.
+// Returns the marker bit of a variable-size integer of `width` bytes.
 pub(crate) fn marker(width: u8) -> u64
     requires { width ≤ 8 }
     ensures { result ≡ marker width }
@@ -10,7 +10,7 @@ pub(crate) fn marker(width: u8) -> u64
     1 << (7 * width)
 }
 
-// Returns the largest data of `width` bytes: all bits are 1.
+// Returns the largest data of a variable-size integer of `width` bytes: all bits are 1.
 pub(crate) fn all_ones(width: u8) -> u64
     requires { width ≤ 8 }
     ensures { result ≡ all_ones width }

@@ -8,7 +8,7 @@ ghost use Rattle.ebml_numbers.specs.Octets.{octets_of};
 use crate::octets::Octets;
 use crate::vint::marker;
 
-/// Returns the fewest bytes, 1 to 8, that can hold the known size `value`.
+/// Returns the smallest number of bytes, 1 to 8, that can hold the known size `value`.
 pub fn size_width(value: u64) -> u8
     requires { value < all_ones 8 }
     ensures exact { result ≡ least_size_width value }
@@ -18,7 +18,7 @@ pub fn size_width(value: u64) -> u8
     digits(value + 1).div_ceil(7)
 }
 
-/// Returns the known size `value` in `width` bytes: RFC 8794, section 6 (Element Data Size).
+/// Returns the bytes of the known size `value` in `width` bytes: RFC 8794, section 6 (Element Data Size).
 pub fn put_size(value: u64, width: u8) -> Octets
     requires some { 1 ≤ width }
     requires most { width ≤ 8 }
@@ -32,7 +32,7 @@ pub fn put_size(value: u64, width: u8) -> Octets
     Octets::big_endian(marker(width) + value, width)
 }
 
-/// Returns the Element ID `id` as bytes: RFC 8794, section 5 (Element ID). The only invalid ID that is written is
+/// Returns the bytes of the Element ID `id`: RFC 8794, section 5 (Element ID). The only invalid ID that is written is
 /// 0x80, since RFC 9559 gives it to ChapterDisplay.
 pub fn put_id(id: u32) -> Octets
     requires { IsTrue (is_written_id id) }
@@ -45,7 +45,7 @@ pub fn put_id(id: u32) -> Octets
     put_uint(u64::from(id))
 }
 
-/// Returns `value` in the fewest bytes, at least one: RFC 8794, section 7.2 (Unsigned Integer Element).
+/// Returns the number `value` in the fewest bytes, at least one: RFC 8794, section 7.2 (Unsigned Integer Element).
 pub fn put_uint(value: u64) -> Octets
     ensures exact { octets_of result ≡ uint_octets value }
     ensures len { result.len ≡ uint_width value }
@@ -67,7 +67,7 @@ pub fn put_int(value: i64) -> Octets
     Octets::big_endian(low_octets(value, width), width)
 }
 
-// Returns the fewest bytes, at least one, that can hold `value`.
+// Returns the smallest number of bytes, at least one, that can hold `value`.
 fn uint_width(value: u64) -> u8
     ensures exact { result ≡ uint_width value }
     ensures least { IsLeastWidth (λ w. value < 256 ^ w) result }
@@ -75,7 +75,7 @@ fn uint_width(value: u64) -> u8
     digits(value.max(1)).div_ceil(8)
 }
 
-// Returns the fewest bytes, at least one, that can hold `value` and its sign bit.
+// Returns the smallest number of bytes, at least one, that can hold `value` and its sign bit.
 fn int_width(value: i64) -> u8
     ensures exact { result ≡ int_width value }
     ensures least { IsLeastWidth (λ w. magnitude value < 2 ^ (8 * w - 1)) result }
@@ -83,7 +83,7 @@ fn int_width(value: i64) -> u8
     digits(magnitude(value)) / 8 + 1
 }
 
-// Returns the last `width` bytes of `value` as a number.
+// Returns the last `width` bytes of the two's complement of `value`, as a number.
 fn low_octets(value: i64, width: u8) -> u64
     requires some { 1 ≤ width }
     requires most { width ≤ 8 }

@@ -5,27 +5,27 @@ use Rattle.mkv_io.specs.Names.{Names}
 use Rattle.mkv_outputs.specs.Outputs.{Output, with_outputs}
 use Rattle.mkv_outputs.specs.Starts.{IsStart}
 
--- bytes that are written over the same number of bytes, from an offset on
+-- a patch: bytes that are written over the same number of bytes of a file, from the offset `at` onwards
 pub record Patch : Type 0 where
   pub at : ℕ
   pub octets : List ℕ
 
--- the name of a file, the bytes that are appended to it, and the patches that are then written over them, in this order
+-- the draft of an output. It has the name of its file, the bytes that are appended to it, and the patches that then overwrite them, in this order.
 pub record Draft : Type 0 where
   pub name : List ℕ
   pub appended : List ℕ
   pub patches : List Patch
 
--- the bytes after each of the patches was written over them
+-- the given bytes after each of the patches was written over them, in order
 abbrev pub patched : List ℕ → List Patch → List ℕ
 patched bytes [] = bytes
 patched bytes (p ∷ ps) = patched (overwritten bytes p.at p.octets) ps
 
--- the output that a draft becomes
+-- the output that the draft `d` becomes, with all patches written
 abbrev pub output_of : Draft → Output
 output_of d = record { name = d.name; content = patched d.appended d.patches }
 
--- the outputs that drafts become
+-- the outputs that the drafts `drafts` become
 abbrev pub outputs_of : List Draft → List Output
 outputs_of drafts = map output_of drafts
 
@@ -34,24 +34,24 @@ abbrev pub IsPatchedAt : ℕ → List Patch → Type 0
 IsPatchedAt k [] = ⊥
 IsPatchedAt k (p ∷ ps) = ((p.at ≤ k) × (k < p.at + length p.octets)) ⊎ IsPatchedAt k ps
 
--- The bytes are as long as the appended ones, and differ from them only at offsets in the patches.
+-- The bytes `octets` have the length of the bytes that the draft `d` appends, and differ from them only at offsets in its patches.
 pub record IsPatched (octets : List ℕ) (d : Draft) : Type 0 where
   pub count : length octets ≡ length d.appended
   pub each : (k : ℕ) → (slice_index octets k ≡ slice_index d.appended k) ⊎ IsPatchedAt k d.patches
 
--- The output `o` is an unfinished draft: a prefix of the appended bytes, or all of them with changes in the patches.
+-- The output `o` is an unfinished draft `d`: it has a prefix of the appended bytes, or all of them with changes in the patches.
 pub record IsDrafted (o : Output) (d : Draft) : Type 0 where
   pub name : o.name ≡ d.name
   pub content : IsStart o.content d.appended ⊎ IsPatched o.content d
 
--- The outputs are the first drafts of a list. Each of them is finished, except the last one, which may be unfinished.
+-- The outputs are the first drafts of the second list. Each of them is finished, except the last one, which may be unfinished.
 abbrev pub AreDrafted : List Output → List Draft → Type 0
 AreDrafted [] all = Unit {0}
 AreDrafted (o ∷ os) [] = ⊥
 AreDrafted (o ∷ []) (d ∷ ds) = (o ≡ output_of d) ⊎ IsDrafted o d
 AreDrafted (o ∷ (next ∷ os)) (d ∷ ds) = (o ≡ output_of d) × AreDrafted (next ∷ os) ds
 
--- Some first drafts have been written, all finished except possibly the last one, and no other name has changed.
+-- From `old` to `new` some first drafts of the list `all` were written, all finished except possibly the last one. No other name has changed.
 pub record AreWrittenInOrder (old new : Names) (all : List Draft) : Type 0 where
   pub stand : List Output
   pub drafted : AreDrafted stand all

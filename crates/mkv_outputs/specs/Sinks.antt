@@ -13,39 +13,39 @@ use Rattle.mkv_outputs.specs.Outputs.{Output, names_of, with_end, with_outputs}
 use Rattle.mkv_outputs.specs.Starts.{ArePrefixes}
 use Rattle.mkv_outputs.specs.declared.sink.Sink.{Sink}
 
--- the file numbers of the outputs, in their order
+-- the file numbers of the outputs `sinks`, in their order
 abbrev pub ids_of : List Sink → List FileId
 ids_of sinks = map (λ (s : Sink). s.file) sinks
 
 -- ---- the files
 
--- The files in the list are live.
+-- The files of the list `list` are live.
 abbrev pub AreLive : (ℕ → Bool) → List FileId → Type 0
 AreLive live list = All (λ (f : FileId). live f.n ≡ true) list
 
--- Each file in the list has a greater number than the previous ones.
+-- Each file of the list `list` has a greater number than the previous ones.
 abbrev pub AreRising : List FileId → Type 0
 AreRising list = AllPairs (λ (a b : FileId). a.n < b.n) list
 
--- No file in the list has the number `file`.
+-- No file of the list `list` has the number `file`.
 abbrev pub IsNoneOf : ℕ → List FileId → Type 0
 IsNoneOf file list = All (λ (f : FileId). f.n ≢ file) list
 
--- The files of the outputs are live, and their numbers rise.
+-- The files of the outputs `sinks` are live, and their numbers rise.
 pub record AreOpen {S : Type 0} (r : Ghosts S) (files : S) (sinks : List Sink) : Type 0 where
   pub live : AreLive (live_files r files).live (ids_of sinks)
   pub rising : AreRising (ids_of sinks)
 
--- the names under which the files in the list were opened
+-- the names that the files of the list `list` were opened under
 abbrev pub holders_of : (ℕ → List ℕ) → List FileId → List (List ℕ)
 holders_of holder list = map (λ (f : FileId). holder f.n) list
 
--- the names under which the files of the outputs were opened
+-- the names that the files of the outputs `sinks` were opened under
 abbrev pub names_under : {S : Type 0} → writing.Ghosts S → S → List Sink → List (List ℕ)
 names_under f files sinks = holders_of (f.holder files) (ids_of sinks)
 
--- An output with the name `name` is made, or the call fails. No other file becomes live, live files keep their names, and files with other names
--- stay. Nothing is read.
+-- From `old` to `new` the output `name` was created at the end of the outputs `sinks`, with the result `later`, or the call failed. No other file
+-- became live, live files keep their names, and files with other names stay. Nothing was read.
 pub record MakesOnly {S : Type 0} (r : Ghosts S) (f : writing.Ghosts S) (name : List ℕ) (old new : S) (sinks later : List Sink) : Type 0 where
   pub outputs : AreOpen r new later
   pub newer : (least : ℕ) → least ≤ f.given old → All (λ (s : FileId). least ≤ s.n) (ids_of sinks) → All (λ (s : FileId). least ≤ s.n) (ids_of later)
@@ -59,13 +59,14 @@ pub record MakesOnly {S : Type 0} (r : Ghosts S) (f : writing.Ghosts S) (name : 
   pub reading : r.reading_faults new ≡ r.reading_faults old
   pub octets : r.octets_read new ≡ r.octets_read old
 
--- The outputs are written. Their files are the same and stay open, and no live file with another name is written.
+-- From `old` to `new` the outputs `sinks` were written, with the result `later`. Their files are the same and stay open, and no live file with
+-- another name was written.
 pub record WritesOutputs {S : Type 0} (r : Ghosts S) (f : writing.Ghosts S) (old new : S) (sinks later : List Sink) : Type 0 where
   pub same : ids_of later ≡ ids_of sinks
   pub outputs : AreOpen r new later
   pub only : WritesOnly r f (names_under f old sinks) old new
 
--- The files in the list are closed, and everything else stays.
+-- From `old` to `new` the files of the list `list` were closed, and everything else stayed.
 pub record EndsOnly {S : Type 0} (r : Ghosts S) (f : writing.Ghosts S) (old new : S) (list : List FileId) : Type 0 where
   pub ended : All (λ (s : FileId). (live_files r new).live s.n ≡ false) list
   pub others : KeepsFiles (live_files r old) (live_files r new) (λ file. IsNoneOf file list)
@@ -77,8 +78,8 @@ pub record EndsOnly {S : Type 0} (r : Ghosts S) (f : writing.Ghosts S) (old new 
   pub reading : r.reading_faults new ≡ r.reading_faults old
   pub octets : r.octets_read new ≡ r.octets_read old
 
--- Between `old` and `new` the outputs were made, and only files with names in `names` were made or written. Every other file is live as before,
--- each keeps its name, and files with other names stay the same.
+-- Between `old` and `new` the outputs `sinks` were created, and only files with names in `names` were created or written. Every other file is live as
+-- before, each keeps its name, and files with other names stay the same.
 pub record MadeSince {S : Type 0} (r : Ghosts S) (f : writing.Ghosts S) (names : List (List ℕ)) (old new : S) (sinks : List Sink) : Type 0 where
   pub newer : All (λ (s : FileId). f.given old ≤ s.n) (ids_of sinks)
   pub besides : (file : ℕ) → IsNoneOf file (ids_of sinks) → (live_files r new).live file ≡ (live_files r old).live file
@@ -89,13 +90,14 @@ pub record MadeSince {S : Type 0} (r : Ghosts S) (f : writing.Ghosts S) (names :
 
 -- ---- bytes that outputs were given
 
--- the outputs `stand` with the waiting bytes appended
+-- the outputs `stand`, as their files have them, with the waiting bytes appended
 abbrev pub with_waiting : List Output → List Sink → List Output
 with_waiting [] ss = []
 with_waiting (o ∷ os) [] = []
 with_waiting (o ∷ os) (s ∷ ss) = with_end s.waiting o ∷ with_waiting os ss
 
--- The bytes that the outputs were given are in their files, except the waiting ones, and no other name has changed.
+-- The outputs `given` were given to `sinks` since the names were `old`. Their files in `new` have these bytes, except the waiting ones, and no other
+-- name has changed.
 pub record HaveBeenGiven (old new : Names) (holder : ℕ → List ℕ) (sinks : List Sink) (given : List Output) : Type 0 where
   pub stand : List Output
   pub names : new ≡ with_outputs old stand
@@ -103,16 +105,17 @@ pub record HaveBeenGiven (old new : Names) (holder : ℕ → List ℕ) (sinks : 
   pub holders : names_of stand ≡ holders_of holder (ids_of sinks)
   pub apart : AreApart (holders_of holder (ids_of sinks))
 
--- For any bytes that the outputs were given before, the call changes these by `more`. After a failure the files have them in part.
+-- A call has changed the outputs from `sinks` to `later`. Whatever bytes they were given before, these change by `more`. After a failure the files
+-- have them in part.
 abbrev pub Gives : {S T E : Type 0} → writing.Ghosts S → S → S → List Sink → List Sink → (List Output → List Output) → Result T E → Type 0
 Gives f old new sinks later more (Ok _) = (since : Names) (given : List Output) → HaveBeenGiven since (f.names old) (f.holder old) sinks given → HaveBeenGiven since (f.names new) (f.holder new) later (more given)
 Gives f old new sinks later more (Err _) = (since : Names) (given : List Output) → HaveBeenGiven since (f.names old) (f.holder old) sinks given → ArePrefixes since (f.names new) (more given)
 
--- For any bytes that the outputs were given, their files have all of them. After a failure they have them in part.
+-- A call has written all bytes that the outputs `sinks` were given, whatever these are. After a failure the files have them in part.
 abbrev pub Finishes : {S T E : Type 0} → writing.Ghosts S → S → S → List Sink → Result T E → Type 0
 Finishes f old new sinks (Ok _) = (since : Names) (given : List Output) → HaveBeenGiven since (f.names old) (f.holder old) sinks given → f.names new ≡ with_outputs since given
 Finishes f old new sinks (Err _) = (since : Names) (given : List Output) → HaveBeenGiven since (f.names old) (f.holder old) sinks given → ArePrefixes since (f.names new) given
 
--- No bytes wait for the first `high` outputs.
+-- No bytes wait for the first `high` of the outputs `sinks`.
 abbrev pub ArePassed : ℕ → List Sink → Type 0
 ArePassed high sinks = AllWithin (λ (s : Sink). s.waiting ≡ []) sinks 0 high

@@ -13,13 +13,13 @@ pub record IsBegun (o whole : Output) : Type 0 where
   pub name : o.name ≡ whole.name
   pub content : IsStart o.content whole.content
 
--- The outputs are the first outputs of a list, each with a prefix of its bytes.
+-- The outputs of the first list are the first outputs of the second, each with a prefix of its bytes.
 abbrev pub AreBegun : List Output → List Output → Type 0
 AreBegun [] all = Unit {0}
 AreBegun (o ∷ os) [] = ⊥
 AreBegun (o ∷ os) (whole ∷ all) = IsBegun o whole × AreBegun os all
 
--- Some first outputs have been written in part, and no other name has changed.
+-- From `old` to `new` some first outputs of the list `all` were written in part, and no other name has changed.
 pub record ArePrefixes (old new : Names) (all : List Output) : Type 0 where
   pub stand : List Output
   pub begun : AreBegun stand all

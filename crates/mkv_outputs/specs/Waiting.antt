@@ -4,10 +4,10 @@ use Rattle.std.specs.List.{All}
 use Rattle.mkv_outputs.specs.declared.sink.Sink.{Sink}
 use Rattle.mkv_outputs.specs.declared.sink.TheConstants.{ROOM}
 
--- No more bytes wait than the buffer of the output may hold.
+-- No more bytes wait for the output `s` than its buffer may hold.
 abbrev pub WaitFew : Sink → Type 0
 WaitFew s = length s.waiting ≤ ROOM
 
--- For each output, no more bytes wait than its buffer may hold.
+-- For each of the outputs `sinks` no more bytes wait than its buffer may hold.
 abbrev pub EachWaitsFew : List Sink → Type 0
 EachWaitsFew sinks = All WaitFew sinks

@@ -6,26 +6,27 @@ use Rattle.mkv_io.specs.Names.{Names, with_change}
 use Rattle.mkv_io.specs.declared.files.Files.{Ghosts}
 use Rattle.mkv_outputs.specs.declared.sink.Sink.{Sink}
 
--- The first of the bytes `octets` are appended to the content of `holder`, and the bytes `left` follow them.
+-- From `old` to `new` the first of the bytes `octets` were appended to the file `holder`, and the bytes `left` follow them.
 pub record PassesOn (old new : Names) (holder octets left : List ℕ) : Type 0 where
   pub written : List ℕ
   pub whole : octets ≡ written ++ left
   pub added : new ≡ with_change old holder (with_appended written)
 
--- Some of the first bytes are appended.
+-- From `old` to `new` some of the first of the bytes `octets` were appended to the file `holder`.
 pub record PassesSome (old new : Names) (holder octets : List ℕ) : Type 0 where
   pub left : List ℕ
   pub passed : PassesOn old new holder octets left
 
--- The bytes `left` wait, unless the call failed.
+-- From `old` to `new` the first of the bytes `octets` were appended to the file `holder`, and the bytes `left` wait. If the call failed, any number
+-- of them was appended.
 abbrev pub Passes : {T E : Type 0} → Names → Names → List ℕ → List ℕ → List ℕ → Result T E → Type 0
 Passes old new holder octets left (Ok _) = PassesOn old new holder octets left
 Passes old new holder octets left (Err _) = PassesSome old new holder octets
 
--- The bytes `octets` were passed to the name of the live file `file`, and `left` wait, unless the call failed.
+-- From `old` to `new` the first of the bytes `octets` were appended to the live file `file`, and `left` wait, as `Passes` requires.
 abbrev pub PassesTo : {S T E : Type 0} → Ghosts S → FileId → S → S → List ℕ → List ℕ → Result T E → Type 0
 PassesTo f file old new octets left result = Passes (f.names old) (f.names new) (f.holder old file.n) octets left result
 
--- Bytes that are written to an output follow the waiting ones into its file, or wait.
+-- A call has changed the output from `sink` to `sink'`. The bytes `octets` follow the waiting ones into its file, or wait.
 abbrev pub PassesThrough : {S T E : Type 0} → Ghosts S → Sink → Sink → S → S → List ℕ → Result T E → Type 0
 PassesThrough f sink sink' old new octets result = PassesTo f sink.file old new (sink.waiting ++ octets) sink'.waiting result

@@ -46,7 +46,7 @@ impl Outputs {
         }
     }
 
-    /// Makes the file `name`, empty, as the last output. Takes all memory before it touches the file.
+    /// Creates the file `name`, empty, as the last output. Allocates all memory before it touches the file.
     pub fn add<F: Files>(&mut self, files: &mut F, name: &str) -> Result<(), MakeFault>
         requires outputs { AreOpen F.Reads files.old self.old }
         requires apart { AreOthers name.now (names_under F.Files.own files.old self.old) }
@@ -63,7 +63,7 @@ impl Outputs {
         Ok(())
     }
 
-    /// Appends `bytes` to the output number `k`, counted from 0.
+    /// Appends `bytes` to the output with the number `k`, counted from 0. They may wait in its buffer.
     pub fn write<F: Files>(
         &mut self,
         files: &mut F,
@@ -79,7 +79,7 @@ impl Outputs {
         write(&mut self.sinks[k], files, bytes)
     }
 
-    /// Writes the waiting bytes of the output number `k`.
+    /// Writes the waiting bytes of the output with the number `k`, counted from 0, to its file.
     fn flush_one<F: Files>(&mut self, files: &mut F, k: usize) -> Result<(), MakeFault>
         requires below { k < length self.old }
         requires outputs { AreOpen F.Reads files.old self.old }
@@ -91,7 +91,7 @@ impl Outputs {
         flush(&mut self.sinks[k], files)
     }
 
-    /// Writes the bytes that wait for any of the outputs to their files.
+    /// Writes the waiting bytes of all outputs to their files.
     pub fn flush<F: Files>(&mut self, files: &mut F) -> Result<(), MakeFault>
         requires { AreOpen F.Reads files.old self.old }
         ensures finishes { Finishes F.Files.own files.old files.new self.old result }
@@ -106,7 +106,7 @@ impl Outputs {
         Ok(())
     }
 
-    /// Closes the files of the outputs, whether earlier calls failed or not. Waiting bytes are dropped.
+    /// Closes the files of all outputs, whether earlier calls failed or not. Waiting bytes are dropped.
     pub fn close<F: Files>(self, files: &mut F)
         requires { AreOpen F.Reads files.old self }
         ensures { EndsOnly F.Reads F.Files.own files.old files.new (ids_of self) }
@@ -117,7 +117,7 @@ impl Outputs {
     }
 }
 
-/// Returns the buffer of the output number `k`, counted from 0.
+/// Returns an empty buffer for the output with the number `k`, counted from 0.
 fn buffer(alloc: Global, k: usize) -> Result<Bytes, AllocError>
     ensures { IfOk result (λ waiting. waiting ≡ []) }
 {

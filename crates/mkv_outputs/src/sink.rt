@@ -9,17 +9,17 @@ ghost use Rattle.mkv_outputs.specs.Waiting.{WaitFew};
 
 use mkv_io::{Bytes, FileId, Files, MakeFault};
 
-/// Maximum number of bytes that wait.
+/// Maximum number of bytes that wait in the buffer of an output.
 pub const ROOM: usize = 262_144;
 
-/// Live file, and the bytes that wait to be written to it.
+/// Output that is being written: its open file, and the bytes that wait to be written to it.
 #[derive(Debug, Drop)]
 pub struct Sink {
     pub file: FileId,
     pub waiting: Bytes,
 }
 
-/// Writes the bytes that wait for an output to its file.
+/// Writes the waiting bytes of the output `sink` to its file.
 pub fn flush<F: Files>(sink: &mut Sink, files: &mut F) -> Result<(), MakeFault>
     requires live { IsLive F.Reads files.old sink.old.file }
     requires few { WaitFew sink.old }
@@ -37,7 +37,8 @@ pub fn flush<F: Files>(sink: &mut Sink, files: &mut F) -> Result<(), MakeFault>
     Ok(())
 }
 
-/// Adds `bytes` to an output. They wait in memory if there is room; otherwise the waiting bytes and they are written.
+/// Appends `bytes` to the output `sink`. They wait in memory if there is room; otherwise the waiting bytes and `bytes`
+/// are written.
 pub fn write<F: Files>(sink: &mut Sink, files: &mut F, bytes: &[u8]) -> Result<(), MakeFault>
     requires live { IsLive F.Reads files.old sink.old.file }
     requires few { WaitFew sink.old }
@@ -55,7 +56,8 @@ pub fn write<F: Files>(sink: &mut Sink, files: &mut F, bytes: &[u8]) -> Result<(
     pass(sink, files, bytes)
 }
 
-/// Writes `bytes` while no other bytes wait: at once if they would fill the buffer, and otherwise later.
+/// Appends `bytes` to the output `sink` while no other bytes wait. They are written at once if they would fill the
+/// buffer, and otherwise wait.
 fn pass<F: Files>(sink: &mut Sink, files: &mut F, bytes: &[u8]) -> Result<(), MakeFault>
     requires live { IsLive F.Reads files.old sink.old.file }
     requires none { sink.old.waiting ≡ [] }

@@ -9,30 +9,31 @@ use Rattle.mkv_schema.specs.Element.{Setting, at_level_0, in_segment, in_master,
 
 -- In each definition `total` is the length of the file in bytes, and `e` the end of the Element's parent, at most `total`.
 
--- the damage of a Segment at level 0, or of a Cluster in its Segment. Its size may be unknown, and only the end of the file may cut it.
+-- the damage of the content of `h`, a Segment at level 0 or a Cluster in its Segment. Its size may be unknown, and only the end of the file may cut
+-- it.
 abbrev pub damage_of_open : ℕ → ℕ → Header → Option Kind
 damage_of_open total e h = if nat_lt e (stated_end h) && not (e == total) then Some TooLong else None
 
--- the damage of an Element of a master that is read whole. Its size must be known, and it must end with its parent or before.
+-- the damage of the content of `h`, an Element of a master that is read whole. Its size must be known, and it must end with its parent or before.
 abbrev pub damage_in_tree : ℕ → Header → Option Kind
 damage_in_tree e h = if is_unknown h.size then Some UnknownSize else if nat_lt e (stated_end h) then Some TooLong else None
 
--- the damage of a Segment or a Cluster elsewhere. Its size must be known, and it must end with its parent or before. If its parent ends with the
--- file, it is truncated.
+-- the damage of the content of `h`, a Segment or a Cluster elsewhere. Its size must be known, and it must end with its parent or before. If its
+-- parent ends with the file, it is truncated.
 abbrev pub damage_of_misplaced : ℕ → ℕ → Header → Option Kind
 damage_of_misplaced total e h =
     if is_unknown h.size then Some UnknownSize else
     if nat_lt e (stated_end h) then Some (if e == total then Truncated else TooLong) else None
 
--- the damage of any other Element. Its size must be known, and it must end with its parent or before. If it passes the end of the file, it is
--- truncated.
+-- the damage of the content of `h`, any other Element. Its size must be known, and it must end with its parent or before. If it passes the end of the
+-- file, it is truncated.
 abbrev pub damage_of_other : ℕ → ℕ → Header → Option Kind
 damage_of_other total e h =
     if is_unknown h.size then Some UnknownSize else
     if nat_lt total (stated_end h) then Some Truncated else
     if nat_lt e (stated_end h) then Some TooLong else None
 
--- the damage of a body, by the place of its Element
+-- the damage of the content of the Element `h` in the setting `s`, by its place. `total` is the length of the file, and `e` the end of its parent.
 abbrev pub damage_by_place : Setting → ℕ → ℕ → Header → Option Kind
 damage_by_place s total e h =
     if s.may_open h.id then damage_of_open total e h else

@@ -15,8 +15,8 @@ use Rattle.mkv_schema.specs.declared.element.Header.{Header}
 
 -- ---- the place of an Element
 
--- The place of an Element in the file. An ID that passes `may_open` may be open here: it may have an unknown size, or be cut by the end of the
--- file. If `display` is true, the byte `80` is an ID here. If `read_whole` is true, the parent is read whole, as a tree.
+-- The place of an Element, which decides how it is read. If its ID passes `may_open`, it may be open here: its size may be unknown, or the end of the
+-- file may cut it. If `display` is true, the byte `80` is an ID here. If `read_whole` is true, the parent is read whole, as a tree.
 pub record Setting : Type 0 where
   pub may_open : ℕ → Bool
   pub display : Bool
@@ -45,7 +45,7 @@ anywhere = record { may_open = λ id. id == SEGMENT || id == CLUSTER; display = 
 
 -- ---- the fields of its header
 
--- the bytes from the offset `p` up to the offset `e`
+-- the bytes of `bytes` from the offset `p` up to but excluding the offset `e`
 abbrev pub octets_between : List ℕ → ℕ → ℕ → List ℕ
 octets_between bytes p e = drop p (take e bytes)
 
@@ -53,41 +53,41 @@ octets_between bytes p e = drop p (take e bytes)
 abbrev pub display_read : Result IdRead NumFault
 display_read = Ok (record { id = CHAPTER_DISPLAY; len = 1 })
 
--- the result of reading an ID at the start of the bytes, in the setting `s`
+-- the result of reading an Element ID at the start of `octets`, in the setting `s`
 abbrev pub id_in : Setting → List ℕ → Result IdRead NumFault
 id_in s octets = if s.display && slice_index octets 0 == CHAPTER_DISPLAY then display_read else id_at octets
 
--- The size is unknown: all its data bits are 1.
+-- The given size is unknown: all its data bits are 1.
 abbrev pub is_unknown : Size → Bool
 is_unknown (Known n) = false
 is_unknown Unknown = true
 
--- the number of bytes of a body with a known size, or 0
+-- the number of bytes of a content with the given size, or 0 if that is unknown
 abbrev pub known : Size → ℕ
 known (Known n) = n
 known Unknown = 0
 
--- the offset after an Element's last byte, by its header
+-- the offset after the last byte of the Element `h`, by its header
 abbrev pub stated_end : Header → ℕ
 stated_end h = h.body + known h.size
 
--- the offset after an Element's last byte, at most `e`: the end of a Segment or Cluster that the end of the file may cut
+-- the offset after the last byte of the Element `h`, at most `e`. It is the end of a Segment or Cluster that the end of the file may cut.
 abbrev pub end_in : ℕ → Header → ℕ
 end_in e h = min (stated_end h) e
 
 -- ---- its damage, in a file of `total` bytes
 
--- damage of this kind in the Element `id` at the offset `offset`
+-- damage of the kind `kind` in the Element `id` at the offset `offset`
 abbrev pub damage : Kind → ℕ → ℕ → Damage
 damage kind id offset = record { kind = kind; id = id; offset = offset }
 
--- the damage of a header at `p` that passes its parent's end; `end` is the end of the header. It is Truncated if it passes the end of the file
--- too.
+-- the damage of a header at the offset `p` that passes the end of its parent. The header ends at the offset `end`, in a file of `total` bytes. The
+-- damage is Truncated if it passes the end of the file too.
 abbrev pub cut_header : Setting → ℕ → ℕ → ℕ → ℕ → Damage
 cut_header s total id p end =
     if not s.read_whole && nat_lt total end then damage Truncated id p else damage TooLong id p
 
--- The ID is Segment or Cluster.
+-- The ID `id` is Segment's or Cluster's.
 abbrev pub may_be_open : ℕ → Bool
 may_be_open id = id == SEGMENT || id == CLUSTER
 
@@ -95,17 +95,18 @@ may_be_open id = id == SEGMENT || id == CLUSTER
 abbrev pub has_unknown_size : Setting → Header → Bool
 has_unknown_size s h = is_unknown h.size && not (s.may_open h.id)
 
--- The body of `h` passes the end of the file. This excludes a Segment or a Cluster that may be open here, or whose parent ends before the file.
+-- The content of `h` passes the end of the file, which has `total` bytes. This excludes a Segment or a Cluster that may be open here, or whose parent
+-- ends before the file.
 abbrev pub is_truncated : Setting → ℕ → ℕ → Header → Bool
 is_truncated s total e h =
     not s.read_whole && nat_lt total (stated_end h)
     && (not (may_be_open h.id) || (not (s.may_open h.id) && e == total))
 
--- The body of `h` passes its parent's end. This excludes an Element that may be open, if its parent ends with the file.
+-- The content of `h` passes its parent's end `e`. This excludes an Element that may be open, if its parent ends with the file.
 abbrev pub is_too_long : Setting → ℕ → ℕ → Header → Bool
 is_too_long s total e h = nat_lt e (stated_end h) && not (s.may_open h.id && e == total)
 
--- the damage of a body, in the order of the checks; `BodyDamage` has it by the place of the Element
+-- the damage of the content of `h` in the setting `s`, in the order of the checks. `BodyDamage` has it by the place of the Element.
 abbrev pub body_damage : Setting → ℕ → ℕ → Header → Option Kind
 body_damage s total e h =
     if has_unknown_size s h then Some UnknownSize else
@@ -115,7 +116,7 @@ body_damage s total e h =
 
 -- ---- the Element, or the first damage of its place
 
--- the header `h`, or damage of its Element if there is a kind of damage
+-- the header `h`, or damage of its Element if a kind of damage is given
 abbrev pub with_body : Header → Option Kind → Result Header Damage
 with_body h None = Ok h
 with_body h (Some kind) = Err (damage kind h.id h.offset)

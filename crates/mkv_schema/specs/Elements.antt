@@ -7,17 +7,17 @@ use Rattle.mkv_io.specs.declared.damage.Damage.{Damage}
 use Rattle.mkv_schema.specs.declared.element.Header.{Header}
 use Rattle.mkv_schema.specs.Element.{Setting, in_segment, in_master, element_at, end_in, is_unknown}
 
--- the Elements from an offset on; the damage that ends them, if any; and the offset of their end
+-- a run: Elements in sequence from an offset onwards, the damage after them, if any, and the offset of their end
 pub record Run : Type 0 where
   pub list : List Header
   pub damage : Option Damage
   pub end : ℕ
 
--- the run without Elements that ends at `p`
+-- the run without Elements that ends at the offset `p`
 abbrev pub ends_at : ℕ → Run
 ends_at p = record { list = []; damage = None; end = p }
 
--- the run without Elements that ends at `p` with the damage `d`
+-- the run without Elements that ends at the offset `p` with the damage `d`
 abbrev pub breaks_at : ℕ → Damage → Run
 breaks_at p d = record { list = []; damage = Some d; end = p }
 
@@ -25,7 +25,7 @@ breaks_at p d = record { list = []; damage = Some d; end = p }
 abbrev pub in_front : Header → Run → Run
 in_front h rest = record { list = h ∷ rest.list; damage = rest.damage; end = rest.end }
 
--- the ID of an Element or of a damage, or 0 if it couldn't be read
+-- the ID of the given Element, or of the damage instead of it; 0 if it couldn't be read
 abbrev pub id_of : Result Header Damage → ℕ
 id_of (Ok h) = h.id
 id_of (Err d) = d.id
@@ -34,7 +34,8 @@ id_of (Err d) = d.id
 abbrev pub Next : Type 0
 Next = Header → Result ℕ Damage
 
--- the run of the Element `h` at the offset `p`, and of the Elements `rest` after its end. If there is damage inside `h`, it ends the run.
+-- the run of the Element `h` at the offset `p`, and of the Elements that `rest` gives from its end onwards. If there is damage inside `h`, it ends
+-- the run.
 abbrev pub behind : ℕ → Header → Result ℕ Damage → (ℕ → Run) → Run
 behind p h (Ok q) rest = in_front h (rest q)
 behind p h (Err d) rest = in_front h (breaks_at p d)
@@ -45,8 +46,8 @@ abbrev pub step : ℕ → Next → Result Header Damage → (ℕ → Run) → Ru
 step p next (Err d) rest = breaks_at p d
 step p next (Ok h) rest = behind p h (next h) rest
 
--- the Elements from the offset `p` up to `e`, each after the previous one, but at most `n`. They end before an ID that passes `stops`, whatever
--- the rest of its header is, and at the first damage.
+-- the Elements from the offset `p` up to `e`, each after the previous one, but at most as the first argument allows. They end before an ID that
+-- passes `stops`, whatever the rest of its header is, and at the first damage.
 unfoldable pub elements_within : ℕ → Setting → (ℕ → Bool) → Next → List ℕ → ℕ → ℕ → Run
 elements_within zero s stops next bytes p e = ends_at p
 elements_within (suc n) s stops next bytes p e =
@@ -55,7 +56,8 @@ elements_within (suc n) s stops next bytes p e =
     step p next (element_at s bytes p e) (λ q. elements_within n s stops next bytes q e))
     else ends_at p
 
--- the Elements from `p` up to `e`, with a bound that is large enough, since each has at least one byte
+-- the Elements from the offset `p` up to `e`, each after the previous one, as in `elements_within`. The bound on their number is large enough, since
+-- each has at least one byte.
 unfoldable pub elements : Setting → (ℕ → Bool) → Next → List ℕ → ℕ → ℕ → Run
 elements s stops next bytes p e = elements_within (e - p) s stops next bytes p e
 
@@ -65,33 +67,34 @@ never id = false
 
 -- ---- masters, by how their Elements are listed
 
--- the children of a master whose end is known, and which isn't a Segment
+-- the children of a master that isn't a Segment, and whose content is from the offset `p` up to `e`; `s` is their setting
 abbrev pub children_in : Setting → List ℕ → ℕ → ℕ → Run
 children_in s bytes p e = elements s never (λ h. Ok (end_in e h)) bytes p e
 
--- A Cluster of unknown size ends before an Element of level 1 or 0, whatever its header is otherwise,
--- or at its parent's end.
+-- An Element with the ID `id` ends a Cluster of unknown size. That ends before an Element of level 1 or 0, whatever its header is otherwise, or at
+-- its parent's end.
 abbrev pub ends_cluster : ℕ → Bool
 ends_cluster id = is_level1 id || is_level0 id
 
--- the children of a Cluster of unknown size from the offset `p` on; `e` is its parent's end
+-- the children of a Cluster of unknown size from the offset `p` onwards; `e` is its parent's end
 abbrev pub open_cluster : List ℕ → ℕ → ℕ → Run
 open_cluster bytes p e = elements in_master ends_cluster (λ h. Ok (end_in e h)) bytes p e
 
--- the offset of the end of a run, or its damage
+-- the offset of the end of the run `run`, or the given damage, which is its own
 abbrev pub end_of_run : Run → Option Damage → Result ℕ Damage
 end_of_run run None = Ok run.end
 end_of_run run (Some d) = Err d
 
--- the offset after the Element `h` of a Segment; a Cluster of unknown size ends with its children
+-- the offset after the Element `h` of a Segment that ends at the offset `e`; a Cluster of unknown size ends with its children
 abbrev pub behind_in_segment : List ℕ → ℕ → Next
 behind_in_segment bytes e h = if is_unknown h.size then end_of_run (open_cluster bytes h.body e) (open_cluster bytes h.body e).damage else Ok (end_in e h)
 
--- The ID ends a Segment with this size. A Segment of unknown size ends before an Element of level 0, or at the end of the file.
+-- An Element with the ID `id` ends a Segment with the given size. A Segment of unknown size ends before an Element of level 0, or at the end of the
+-- file.
 abbrev pub ends_segment : Size → ℕ → Bool
 ends_segment (Known n) id = false
 ends_segment Unknown id = is_level0 id
 
--- the Elements of level 1 in a Segment of the size `size`, from the offset `p` on. `e` is the greatest offset that the Segment may reach.
+-- the Elements of level 1 in a Segment of the size `size`, from the offset `p` onwards. `e` is the greatest offset that the Segment may reach.
 abbrev pub level_1 : List ℕ → Size → ℕ → ℕ → Run
 level_1 bytes size p e = elements in_segment (ends_segment size) (behind_in_segment bytes e) bytes p e

@@ -33,25 +33,25 @@ where_it false d = None
 abbrev pub ebml_mark : List ℕ
 ebml_mark = 0x1A ∷ 0x45 ∷ 0xDF ∷ 0xA3 ∷ []
 
--- the EBML header's children, which are read whole
+-- the children of the EBML header `h` in the content `bytes`, which are read whole
 abbrev pub header_children : List ℕ → Header → Run
 header_children bytes h = children_in (in_tree EBML) bytes h.body (stated_end h)
 
--- the damage of an Element whose body is longer than `limit`
+-- the damage of the Element `h` if its content is longer than `limit` bytes
 abbrev pub over : ℕ → Header → Option Damage
 over limit h = where_it (nat_lt limit (known h.size)) (damage HeaderTooLarge h.id h.offset)
 
--- the damage of the first child in `list` whose bytes aren't a value of its kind
+-- the damage of the first child in `list` of `parent` whose bytes aren't a value of its kind
 abbrev pub bad_value : List ℕ → ℕ → List Header → Option Damage
 bad_value bytes parent list =
     option_map (λ h. damage BadValue h.id h.offset)
     (find (λ h. not (is_known_value parent h.id (body_of bytes h))) list)
 
--- the offset of the first Element `id` in `list`, or 0 if there is none
+-- the offset of the first Element with the ID `id` in `list`, or 0 if there is none
 abbrev pub place_of : ℕ → List Header → ℕ
 place_of id list = option_map_or (λ h. h.offset) (first_of id list) 0
 
--- the document types that are read (RFC 9559, section 4.3, Added EBML Constraints)
+-- The given DocType is one that is read (RFC 9559, section 4.3, Added EBML Constraints).
 abbrev pub is_doc_type : Option (List ℕ) → Bool
 is_doc_type None = false
 is_doc_type (Some text) = bytes_eq text (codes "matroska") || bytes_eq text (codes "webm")
@@ -61,11 +61,11 @@ is_doc_type (Some text) = bytes_eq text (codes "matroska") || bytes_eq text (cod
 abbrev pub wrong_doc_type : List ℕ → List Header → Option Damage
 wrong_doc_type bytes list = where_it (not (is_doc_type (text_in bytes DOC_TYPE list))) (damage DocType DOC_TYPE (place_of DOC_TYPE list))
 
--- the damage of an integer `id` above `limit`
+-- the damage of the kind `kind` at the unsigned integer with the ID `id` in `list`, if it is above `limit`
 abbrev pub above : List ℕ → ℕ → ℕ → Kind → List Header → Option Damage
 above bytes id limit kind list = where_it (nat_lt limit (uint_in bytes id list)) (damage kind id (place_of id list))
 
--- the causes that may refuse the children of an EBML header, in the order of the checks
+-- the possible damage of the children `children` of an EBML header, in the order of the checks
 abbrev pub children_causes : List ℕ → Run → List (Option Damage)
 children_causes bytes children =
     bad_value bytes EBML children.list ∷
@@ -77,53 +77,53 @@ children_causes bytes children =
     above bytes EBML_MAX_SIZE_LENGTH 8 MaxLengths children.list ∷
     []
 
--- the causes that may refuse an EBML header, in the order of the checks
+-- the possible damage of the EBML header `h` with the children `children`, in the order of the checks
 abbrev pub header_causes : List ℕ → Header → Run → List (Option Damage)
 header_causes bytes h children = over MAX_HEADER_LEN h ∷ children_causes bytes children
 
--- the Element at the start of a file that begins with the EBML header's ID
+-- the Element at the start of the content `bytes`, which must begin with the EBML header's ID, or its damage
 abbrev pub first_element : List ℕ → Result Header Damage
 first_element bytes =
     if starts_with nat_eq bytes ebml_mark then element_at at_level_0 bytes 0 (length bytes) else Err (damage NotEbml 0 0)
 
--- the EBML header, or the damage that refuses the file there
+-- the EBML header of the content `bytes`, or the damage that refuses the file there
 unfoldable pub ebml_header : List ℕ → Result Header Damage
 ebml_header bytes =
     and_then (first_element bytes) (λ h. unless (first_damage (header_causes bytes h (header_children bytes h))) h)
 
 -- ---- the Segment (RFC 9559, section 5.1, Segment Element)
 
--- the Elements of level 0 up to the Segment, which are skipped
+-- the Elements of level 0 in the content `bytes` from the offset `p` up to the Segment, which are skipped
 abbrev pub before_segment : List ℕ → ℕ → Run
 before_segment bytes p = elements at_level_0 (λ id. id == SEGMENT) (λ h. Ok (end_in (length bytes) h)) bytes p (length bytes)
 
--- the Segment after the skipped Elements, or NoSegment at the end of the file
+-- the Segment after the skipped Elements in `run`, or NoSegment at the end of the file
 abbrev pub segment_behind : List ℕ → Run → Result Header Damage
 segment_behind bytes run =
     if nat_lt run.end (length bytes) then element_at at_level_0 bytes run.end (length bytes)
     else Err (damage NoSegment 0 (length bytes))
 
--- the Segment that follows an EBML header, or the damage that refuses the file before it
+-- the Segment after the EBML header `ebml` in the content `bytes`, or the damage that refuses the file before it
 unfoldable pub segment_of : List ℕ → Header → Result Header Damage
 segment_of bytes ebml =
     let run = before_segment bytes (stated_end ebml) in
     and_then (unless run.damage run) (segment_behind bytes)
 
--- the greatest offset that a Segment may reach
+-- the greatest offset that the Segment `segment` may reach in the content `bytes`
 abbrev pub segment_bound : List ℕ → Header → ℕ
 segment_bound bytes segment = if is_unknown segment.size then length bytes else end_in (length bytes) segment
 
--- the Elements of level 1 of a Segment
+-- the Elements of level 1 of the Segment `segment` in the content `bytes`
 abbrev pub segment_run : List ℕ → Header → Run
 segment_run bytes segment = level_1 bytes segment.size segment.body (segment_bound bytes segment)
 
 -- ---- limits of level 1
 
--- The ID is Info, Tracks, Chapters or Tags.
+-- The ID `id` is of Info, Tracks, Chapters or Tags, whose sizes are added up for a limit.
 abbrev pub is_described : ℕ → Bool
 is_described id = id == INFO || id == TRACKS || id == CHAPTERS || id == TAGS
 
--- the number of bytes of such Elements in `list`
+-- the number of bytes of all Info, Tracks, Chapters and Tags in `list`
 abbrev pub described : List Header → ℕ
 described list = sum_by (λ h. known h.size) (filter (λ h. is_described h.id) list)
 
@@ -131,25 +131,26 @@ described list = sum_by (λ h. known h.size) (filter (λ h. is_described h.id) l
 abbrev pub others : List Header → ℕ
 others list = count_by (λ h. not (h.id == CLUSTER)) list
 
--- The Element `h` passes a limit of size, by itself or with the Elements `before`. Earlier inputs have `held` bytes of such Elements.
+-- The Element `h` exceeds a limit of size, by itself or together with the Elements `before`. Earlier inputs have `held` bytes of Info, Tracks,
+-- Chapters and Tags.
 abbrev pub passes_size : ℕ → List Header → Header → Bool
 passes_size held before h =
     is_described h.id
     && (nat_lt MAX_MASTER_LEN (known h.size) || nat_lt MAX_MASTERS_LEN (held + described (before ++ h ∷ [])))
 
--- The Element `h` passes the limit on the number of Elements of level 1 that aren't Clusters. `before` has the Elements before it.
+-- The Element `h` exceeds the limit on the number of Elements of level 1 that aren't Clusters. `before` has the Elements before it.
 abbrev pub passes_count : List Header → Header → Bool
 passes_count before h = not (h.id == CLUSTER) && nat_lt MAX_ELEMENTS (others (before ++ h ∷ []))
 
--- the damage of the Element `h` because of the limits of level 1, by size and by count. `before` are the Elements before it. Earlier inputs have
--- `held` bytes of limited Elements.
+-- the damage of the Element `h` for each limit of level 1 that it exceeds, by size and by count. `before` are the Elements before it. Earlier inputs
+-- have `held` bytes of limited Elements.
 abbrev pub limit_causes : ℕ → List Header → Header → List (Option Damage)
 limit_causes held before h =
     where_it (passes_size held before h) (damage HeaderTooLarge h.id h.offset) ∷
     where_it (passes_count before h) (damage TooMany h.id h.offset) ∷
     []
 
--- the earlier of two refusals by a limit
+-- the first of two refusals, if there is one
 abbrev pub first_refusal : Option Damage → Option Damage → Option Damage
 first_refusal None later = later
 first_refusal (Some d) later = Some d
@@ -163,7 +164,7 @@ limits_from held before (h ∷ hs) =
 
 -- ---- the outline
 
--- the EBML header, the Segment, the Elements of level 1, the damage that ends them, if any, and the end of the Segment
+-- the outline of a file: EBML header, Segment, Elements of level 1, the damage after them, if any, and the end of the Segment
 pub record Outlined : Type 0 where
   pub ebml : Header
   pub segment : Header
@@ -171,13 +172,14 @@ pub record Outlined : Type 0 where
   pub damage : Option Damage
   pub end : ℕ
 
--- the end of a Segment; a Segment of unknown size that ends with damage reaches to the end of the file
+-- the end of the Segment `segment` with the Elements of level 1 in `run`. A Segment of unknown size that ends with damage reaches to the end of the
+-- file.
 abbrev pub segment_end : List ℕ → Header → Run → ℕ
 segment_end bytes segment run =
     if is_unknown segment.size then option_map_or (λ (d : Damage). length bytes) run.damage run.end
     else end_in (length bytes) segment
 
--- the outline of a file with this EBML header and Segment, whose Elements of level 1 are `run`
+-- the outline of the content `bytes` with this EBML header and Segment, whose Elements of level 1 are in `run`
 abbrev pub outlined : List ℕ → Header → Header → Run → Outlined
 outlined bytes ebml segment run = record {
   ebml = ebml;
@@ -187,14 +189,14 @@ outlined bytes ebml segment run = record {
   end = segment_end bytes segment run;
 }
 
--- the outline of a file with this EBML header and Segment, or the refusal of an Element of level 1 by a limit. Earlier inputs have `held` bytes
--- of limited Elements.
+-- the outline of the content `bytes` with this EBML header and Segment, or the refusal of an Element of level 1 by a limit. Earlier inputs have
+-- `held` bytes of limited Elements.
 abbrev pub within_limits : ℕ → List ℕ → Header → Header → Result Outlined Damage
 within_limits held bytes ebml segment =
     let run = segment_run bytes segment in
     unless (limits_from held [] run.list) (outlined bytes ebml segment run)
 
--- the outline of a file, or the first refusal; earlier inputs have `held` bytes of limited Elements
+-- the outline of the content `bytes`, or the first refusal; earlier inputs have `held` bytes of limited Elements
 unfoldable pub outline_of : ℕ → List ℕ → Result Outlined Damage
 outline_of held bytes =
     and_then (ebml_header bytes) (λ ebml. and_then (segment_of bytes ebml) (λ segment. within_limits held bytes ebml segment))

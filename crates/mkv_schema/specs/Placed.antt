@@ -3,7 +3,7 @@ use Rattle.std.specs.Prelude.{◌≡◌, ℕ, false, ◌<◌, ◌≤◌}
 use Rattle.mkv_schema.specs.declared.element.Header.{Header}
 use Rattle.mkv_schema.specs.Element.{Setting, is_unknown, stated_end}
 
--- The Element `h` is at the offset `p`. Its body begins after `p`, and not after its parent's end `e`.
+-- The Element `h` is at the offset `p`. Its content begins after `p`, and not after its parent's end `e`.
 pub record StandsAt (p e : ℕ) (h : Header) : Type 0 where
   pub offset : h.offset ≡ p
   pub later : p < h.body

@@ -29,7 +29,7 @@ abbrev pub is_master_kind : ElementKind → Bool
 is_master_kind Master = true
 is_master_kind _ = false
 
--- The ID is a master in the table.
+-- The table has the ID `id` as a master.
 abbrev pub is_master : ℕ → Bool
 is_master id = option_map_or (λ e. is_master_kind e.kind) (entry_of id) false
 
@@ -40,7 +40,7 @@ abbrev pub is_root : Parents → Bool
 is_root Root = true
 is_root _ = false
 
--- The ID is an Element of level 0: EBML, or Segment.
+-- The table has the ID `id` at level 0: EBML, or Segment.
 abbrev pub is_level0 : ℕ → Bool
 is_level0 id = option_map_or (λ e. is_root e.parents) (entry_of id) false
 
@@ -49,7 +49,7 @@ abbrev pub is_child_of : ℕ → Parents → Bool
 is_child_of parent (ChildOf own) = parent == own
 is_child_of parent _ = false
 
--- The ID is an Element of level 1: a child of Segment, but no Global Element.
+-- The table has the ID `id` at level 1: as a child of Segment, which excludes Global Elements.
 abbrev pub is_level1 : ℕ → Bool
 is_level1 id = option_map_or (λ e. is_child_of SEGMENT e.parents) (entry_of id) false
 

@@ -9,15 +9,15 @@ use Rattle.mkv_schema.specs.Schema.{kind_of, may_stand, uint_default, text_defau
 use Rattle.mkv_schema.specs.declared.element.Header.{Header}
 use Rattle.mkv_schema.specs.Element.{octets_between, stated_end}
 
--- the bytes of an Element's body
+-- the content of the Element `h` in the content `bytes` of its file
 abbrev pub body_of : List ℕ → Header → List ℕ
 body_of bytes h = octets_between bytes h.body (stated_end h)
 
--- the bytes of a text, up to its first zero byte (sections 7.4, String Element, and 7.5, UTF-8 Element)
+-- the text in `body`, up to its first zero byte (sections 7.4, String Element, and 7.5, UTF-8 Element)
 abbrev pub text_of : List ℕ → List ℕ
 text_of body = take_while (λ octet. not (octet == 0)) body
 
--- The bytes `body` are a value of this kind. A String is read as UTF-8 too.
+-- The bytes `body` are a value of the given kind. A String is read as UTF-8 too.
 abbrev pub is_value : ElementKind → List ℕ → Bool
 is_value Master body = true
 is_value Uint body = nat_le (length body) 8
@@ -32,19 +32,19 @@ is_value Binary body = true
 abbrev pub is_known_value : ℕ → ℕ → List ℕ → Bool
 is_known_value parent id body = if may_stand id parent then option_map_or (λ kind. is_value kind body) (kind_of id) true else true
 
--- the value of the integer Element `id`; an empty one is the table's default, or 0
+-- the value of the unsigned integer Element `id` with the given bytes; an empty one is the table's default, or 0
 abbrev pub uint_value : ℕ → List ℕ → ℕ
 uint_value id [] = unwrap_or (uint_default id) 0
 uint_value id (octet ∷ octets) = uint_of (octet ∷ octets)
 
--- the first Element `id` in `list`, which gives the value
+-- the first Element with the ID `id` in `list`, which gives the value
 abbrev pub first_of : ℕ → List Header → Option Header
 first_of id list = find (λ h. h.id == id) list
 
--- the unsigned integer `id` among the children `list`, or the table's default, or 0
+-- the unsigned integer that is the first Element with the ID `id` in `list`, or else the table's default, or 0
 abbrev pub uint_in : List ℕ → ℕ → List Header → ℕ
 uint_in bytes id list = option_map_or (λ h. uint_value id (body_of bytes h)) (first_of id list) (unwrap_or (uint_default id) 0)
 
--- the text `id` among the children `list`, or the table's default
+-- the text that is the first Element with the ID `id` in `list`, or else the table's default, if any
 abbrev pub text_in : List ℕ → ℕ → List Header → Option (List ℕ)
 text_in bytes id list = option_map_or (λ h. Some (text_of (body_of bytes h))) (first_of id list) (text_default id)

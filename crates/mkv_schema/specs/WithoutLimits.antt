@@ -5,12 +5,12 @@ use Rattle.mkv_schema.specs.declared.element.Header.{Header}
 use Rattle.mkv_schema.specs.Outline.{Outlined, first_damage, first_element, header_children, children_causes, segment_of, segment_run, outlined, outline_of}
 use Rattle.mkv_io.specs.Results.{and_then, unless}
 
--- the EBML header, of any length, or the damage that refuses the file there
+-- the EBML header of the content `bytes`, of any length, or the damage that refuses the file there
 abbrev pub header_without_limit : List ℕ → Result Header Damage
 header_without_limit bytes =
     and_then (first_element bytes) (λ h. unless (first_damage (children_causes bytes (header_children bytes h))) h)
 
--- the outline of a file, or the first refusal. The EBML header and the Elements of level 1 may have any length and number.
+-- the outline of the content `bytes`, or the first refusal. The EBML header and the Elements of level 1 may have any length and number.
 unfoldable pub outline_without_limits : List ℕ → Result Outlined Damage
 outline_without_limits bytes =
     and_then (header_without_limit bytes) (λ ebml.

@@ -11,7 +11,7 @@ use crate::kind::{ElementKind, Row};
 use crate::parents::Parents;
 use crate::table::{DefaultValue, look_up};
 
-/// Returns the row of `id`, which has its marker bit, or None if the table doesn't have it.
+/// Returns the row of the ID `id`, which has its marker bit, or None if the table doesn't have it.
 #[tactic(auto, using(crate::proofs::SchemaLemmas::laws))]
 pub fn row(id: u32) -> Option<Row>
     ensures id { IfSome result (λ row. row.id ≡ id) }
@@ -26,7 +26,7 @@ pub fn row(id: u32) -> Option<Row>
     look_up(id).map(|entry| entry.row)
 }
 
-/// Checks whether `id` is a master of the table.
+/// Checks whether the table has `id` as a master.
 pub fn is_master(id: u32) -> bool
     ensures exact { result ≡ is_master id }
     ensures kind { IsTrue result ↔ (kind_of id ≡ Some ElementKind.Master) }
@@ -75,7 +75,7 @@ pub fn kind_under(id: u32, parent: u32) -> Option<ElementKind>
     allows(entry.parents, id, parent).then_some(entry.row.kind)
 }
 
-/// Checks whether `parent` is one of the parents of `id`.
+/// Checks whether the ID `parent` is one of the parents `parents` of the Element `id`.
 fn allows(parents: Parents, id: u32, parent: u32) -> bool
     ensures { result ≡ allows parents id parent }
 {
