@@ -1,7 +1,7 @@
 -- The content of a file, a list of bytes, and the effects of reads and writes on it.
 use Rattle.std.specs.Prelude.{ℕ, ◌+◌, List, ◌++◌, length, take, drop, Option, option_map}
 
--- the next `n` bytes of `bytes` from the offset `at`
+-- the `n` bytes of `bytes` from the offset `at` onwards, or fewer if it ends before
 abbrev pub octets_from : List ℕ → ℕ → ℕ → List ℕ
 octets_from bytes at n = take n (drop at bytes)
 
@@ -11,10 +11,10 @@ overwritten bytes at now = take at bytes ++ (now ++ drop (at + length now) bytes
 
 -- ---- the same changes for a content that may be invisible to the proof, or absent
 
--- the content with the bytes `more` after it, if it is visible to the proof
+-- the given content with the bytes `more` after it, if it is visible to the proof
 abbrev pub with_appended : List ℕ → Option (List ℕ) → Option (List ℕ)
 with_appended more content = option_map (λ bytes. bytes ++ more) content
 
--- the content with the bytes `now` from the offset `at` on, if it is visible to the proof
+-- the given content with the bytes `now` over it from the offset `at` onwards, if it is visible to the proof
 abbrev pub with_overwritten : ℕ → List ℕ → Option (List ℕ) → Option (List ℕ)
 with_overwritten at now content = option_map (λ bytes. overwritten bytes at now) content

@@ -25,30 +25,30 @@ pub record HasIncreased (before now : ℕ) : Type 0 where
   pub later : before ≤ now
   pub rose : Increased before now
 
--- A call with a fault has increased its count from `before` to `now`; any other call leaves the count as it was. The test `is_fault` selects the
--- errors that are faults of this count.
+-- A call with this result has increased a count of faults from `before` to `now`, if its error is one that `is_fault` selects. Any other call leaves
+-- the count as it was.
 abbrev pub HasCause : {T E : Type 0} → (E → Bool) → ℕ → ℕ → Result T E → Type 0
 HasCause is_fault before now (Ok _) = now ≡ before
 HasCause is_fault before now (Err e) = MatchBool (is_fault e) (HasIncreased before now) (now ≡ before)
 
 -- ---- the errors that are faults
 
--- The error of a call without other errors is always a fault.
+-- The error `Failed`, of a call without other errors, is a fault.
 abbrev pub is_failure : Failed → Bool
 is_failure failed = true
 
--- The error of opening a file is a fault.
+-- The error of opening a file is a fault of the system, and so is counted.
 abbrev pub is_open_failure : OpenFault → Bool
 is_open_failure open_fault.Missing = false
 is_open_failure open_fault.Failed = true
 is_open_failure open_fault.Memory = false
 
--- The error of making a file, or of appending to it, is a fault.
+-- The error of creating a file, or of appending to it, is a fault of the system, and so is counted.
 abbrev pub is_make_failure : MakeFault → Bool
 is_make_failure make_fault.Failed = true
 is_make_failure make_fault.Memory = false
 
--- The error of a call that reads and allocates is a fault.
+-- The error of a call that reads and allocates is a fault of the system, and so is counted.
 abbrev pub is_read_fault : ReadEnd → Bool
 is_read_fault read_end.ReadFault = true
 is_read_fault read_end.Memory = false

@@ -9,43 +9,43 @@ pub record LiveFiles : Type 0 where
   pub size : ℕ → ℕ
   pub content : ℕ → Option (List ℕ)
 
--- The file with the number `file` is live in `new` if and only if it was in `old`, and a live file has the same length and content.
+-- The file with the number `file` is live in `new` if and only if it is live in `old`. A live file has the same length and content in both.
 pub record IsSameFile (old new : LiveFiles) (file : ℕ) : Type 0 where
   pub alive : new.live file ≡ old.live file
   pub size : old.live file ≡ true → new.size file ≡ old.size file
   pub content : old.live file ≡ true → new.content file ≡ old.content file
 
--- Each file whose number fulfils `Is` is the same in `old` and `new`.
+-- Each file whose number fulfils `Is` is the same in `old` and `new`, as `IsSameFile` requires.
 abbrev pub KeepsFiles : LiveFiles → LiveFiles → (ℕ → Type 0) → Type 0
 KeepsFiles old new Is = (file : ℕ) → Is file → IsSameFile old new file
 
--- Each live file keeps the name under which it was opened.
+-- Each live file has the same name in `new` as in `old`, the one that it was opened under.
 abbrev pub KeepsHolders : (ℕ → Bool) → (ℕ → List ℕ) → (ℕ → List ℕ) → Type 0
 KeepsHolders live old new = (file : ℕ) → live file ≡ true → new file ≡ old file
 
--- The file `file` gets the length `new_size`. Its content changes by `change`, and so does the content of its name `holder`.
+-- From `old` to `new` the file `file` got the length `new_size`. Its content changed by `change`, and so did the content of its name `holder`.
 pub record ChangesFile (old new : LiveFiles) (old_names new_names : Names) (file : ℕ) (holder : List ℕ) (new_size : ℕ) (change : Option (List ℕ) → Option (List ℕ)) : Type 0 where
   pub size : new.size file ≡ new_size
   pub content : new.content file ≡ change (old.content file)
   pub names : new_names ≡ with_change old_names holder change
 
--- The bytes `more` are appended to the live file `file`, and to the content of its name `holder`.
+-- From `old` to `new` the bytes `more` were appended to the live file `file`, and to the content of its name `holder`.
 abbrev pub Appends : LiveFiles → LiveFiles → Names → Names → ℕ → List ℕ → List ℕ → Type 0
 Appends old new old_names new_names file holder more =
     ChangesFile old new old_names new_names file holder (old.size file + length more) (with_appended more)
 
--- The first `kept` bytes of `more` are appended to the file `file`.
+-- From `old` to `new` the first `kept` bytes of `more` were appended to the live file `file`, and to the content of its name `holder`.
 pub record AppendsPart (old new : LiveFiles) (old_names new_names : Names) (file : ℕ) (holder more : List ℕ) : Type 0 where
   pub kept : ℕ
   pub within : kept ≤ length more
   pub added : Appends old new old_names new_names file holder (take kept more)
 
--- The bytes `now` are written over the file `file` from the offset `at`.
+-- From `old` to `new` the bytes `now` were written over the live file `file` and the content of its name `holder`. They begin at the offset `at`.
 abbrev pub Overwrites : LiveFiles → LiveFiles → Names → Names → ℕ → List ℕ → ℕ → List ℕ → Type 0
 Overwrites old new old_names new_names file holder at now =
     ChangesFile old new old_names new_names file holder (old.size file) (with_overwritten at now)
 
--- Some `n` bytes are written over the file `file` from the offset `at`.
+-- From `old` to `new` some `n` bytes were written over the live file `file` and the content of its name `holder`. They begin at the offset `at`.
 pub record OverwritesWithin (old new : LiveFiles) (old_names new_names : Names) (file : ℕ) (holder : List ℕ) (at n : ℕ) : Type 0 where
   pub now : List ℕ
   pub count : length now ≡ n

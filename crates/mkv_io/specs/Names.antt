@@ -6,29 +6,29 @@ use Rattle.std.specs.Str.{bytes_eq}
 abbrev pub Names : Type 0
 Names = Option (List ℕ → Option (List ℕ))
 
--- the content of the name `other` after the content of `name` changes by `change`
+-- the content of the name `other`, after the content of the name `name` in `world` changed by `change`
 abbrev pub changed_at : List ℕ → (Option (List ℕ) → Option (List ℕ)) → (List ℕ → Option (List ℕ)) → List ℕ → Option (List ℕ)
 changed_at name change world other = if bytes_eq name other then change (world other) else world other
 
--- the names after the content of `name` changes by `change`
+-- the given names after the content of `name` changed by `change`
 abbrev pub with_change : Names → List ℕ → (Option (List ℕ) → Option (List ℕ)) → Names
 with_change None name change = None
 with_change (Some world) name change = Some (changed_at name change world)
 
--- the names after `name` gets the content `bytes`, whatever it had before
+-- the names `names` after `name` got the content `bytes`, whatever it had before
 abbrev pub with_content : Names → List ℕ → List ℕ → Names
 with_content names name bytes = with_change names name (λ _. Some bytes)
 
--- The contents `new` are the contents `old`, or these with an empty content of `name`.
+-- The names `new` are the names `old`, except that the content of `name` may have become empty.
 abbrev pub MayEmpty : Names → Names → List ℕ → Type 0
 MayEmpty old new name = (new ≡ old) ⊎ (new ≡ with_content old name [])
 
--- The name `name` isn't in the list.
+-- The name `name` isn't in the given list.
 abbrev pub AreOthers : List ℕ → List (List ℕ) → Type 0
 AreOthers name [] = Unit {0}
 AreOthers name (other ∷ names) = (other ≢ name) × AreOthers name names
 
--- The names in the list are pairwise different.
+-- The names in the given list are pairwise different.
 abbrev pub AreApart : List (List ℕ) → Type 0
 AreApart [] = Unit {0}
 AreApart (name ∷ names) = AreOthers name names × AreApart names

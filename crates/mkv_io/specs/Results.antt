@@ -6,7 +6,7 @@ abbrev pub and_then : {A B E : Type 0} → Result A E → (A → Result B E) →
 and_then (Ok x) more = more x
 and_then (Err e) more = Err e
 
--- the value `x`, unless the option has an error
+-- the value `x`, unless the given option has an error
 abbrev pub unless : {A E : Type 0} → Option E → A → Result A E
 unless None x = Ok x
 unless (Some e) x = Err e

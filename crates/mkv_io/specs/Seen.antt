@@ -10,74 +10,75 @@ use Rattle.mkv_io.specs.declared.outside.MakeFault.{MakeFault}
 use Rattle.mkv_io.specs.declared.outside.MakeFault.TheVariants as make_fault
 use Rattle.mkv_io.specs.declared.reads.Reads.{Ghosts}
 
--- Each number that fulfils `Is` is a live file after the call if and only if it was before.
+-- From `old` to `new` each file number that fulfils `Is` is live if and only if it was.
 abbrev pub StayLive : {S : Type 0} → Ghosts S → S → S → (ℕ → Type 0) → Type 0
 StayLive r old new Is = (file : ℕ) → Is file → (live_files r new).live file ≡ (live_files r old).live file
 
--- No file became live, and none was closed.
+-- From `old` to `new` no file became live, and none was closed.
 abbrev pub SameLive : {S : Type 0} → Ghosts S → S → S → Type 0
 SameLive r old new = (file : ℕ) → (live_files r new).live file ≡ (live_files r old).live file
 
--- Each live file whose number fulfils `Is` has the same length and content as before.
+-- From `old` to `new` each file whose number fulfils `Is` stays live or not, and a live one has the same length and content.
 abbrev pub LiveFilesStay : {S : Type 0} → Ghosts S → S → S → (ℕ → Type 0) → Type 0
 LiveFilesStay r old new Is = KeepsFiles (live_files r old) (live_files r new) Is
 
--- The file `file` has a number below `given`, and a name other than `name`.
+-- The file number `file` is below `given`, and the file has a name other than `name`.
 abbrev pub IsAnother : ℕ → (ℕ → List ℕ) → List ℕ → ℕ → Type 0
 IsAnother given holder name file = (file < given) × (holder file ≢ name)
 
 -- ---- a call on one live file
 
--- The bytes `more` are appended to the live file `file` and to the content of its name. For `AddsFirst` a prefix of `more` is.
+-- From `old` to `new` the bytes `more` were appended to the live file `file` and to the content of its name.
 abbrev pub AddsOctets : {S : Type 0} → Ghosts S → (S → Names) → (S → ℕ → List ℕ) → S → S → FileId → List ℕ → Type 0
 AddsOctets r names holder old new file more = Appends (live_files r old) (live_files r new) (names old) (names new) file.n (holder old file.n) more
 
--- A prefix of the bytes `more` is appended to the live file `file` and to the content of its name.
+-- From `old` to `new` a prefix of the bytes `more` was appended to the live file `file` and to the content of its name.
 abbrev pub AddsFirst : {S : Type 0} → Ghosts S → (S → Names) → (S → ℕ → List ℕ) → S → S → FileId → List ℕ → Type 0
 AddsFirst r names holder old new file more = AppendsPart (live_files r old) (live_files r new) (names old) (names new) file.n (holder old file.n) more
 
--- The bytes `now` are written over the live file `file` from the offset `at`. For `PutsSome` any bytes of the same number are.
+-- From `old` to `new` the bytes `now` were written over the live file `file` and the content of its name, from the offset `at` onwards.
 abbrev pub Puts : {S : Type 0} → Ghosts S → (S → Names) → (S → ℕ → List ℕ) → S → S → FileId → ℕ → List ℕ → Type 0
 Puts r names holder old new file at now = Overwrites (live_files r old) (live_files r new) (names old) (names new) file.n (holder old file.n) at now
 
--- Any bytes, as many as `now` has, are written over the live file `file` and the content of its name, from the offset `at` on.
+-- From `old` to `new` some bytes, as many as `now` has, were written over the live file `file` and the content of its name. They begin at the offset
+-- `at`.
 abbrev pub PutsSome : {S : Type 0} → Ghosts S → (S → Names) → (S → ℕ → List ℕ) → S → S → FileId → ℕ → List ℕ → Type 0
 PutsSome r names holder old new file at now = OverwritesWithin (live_files r old) (live_files r new) (names old) (names new) file.n (holder old file.n) at (length now)
 
 -- ---- the counts
 
--- A call reads no byte, and no read fails.
+-- From `old` to `new` no byte was read, and no read failed.
 pub record ReadsNothing {S : Type 0} (r : Ghosts S) (old new : S) : Type 0 where
   pub reading : r.reading_faults new ≡ r.reading_faults old
   pub octets : r.octets_read new ≡ r.octets_read old
 
--- A call that can only fail to open or read leaves the count of writing faults and the count of bytes read.
+-- From `old` to `new` the counts of writing faults and bytes read stay, as in a call that can only fail to open or read.
 pub record KeepsOtherCounts {S : Type 0} (r : Ghosts S) (writing_faults : S → ℕ) (old new : S) : Type 0 where
   pub writing : writing_faults new ≡ writing_faults old
   pub octets : r.octets_read new ≡ r.octets_read old
 
 -- ---- a file that is opened or made
 
--- The number of `file` was never given before, the file is live under the name `name`, and no other file became live.
+-- From `old` to `new` the file `file` became live under the name `name`. Its number was never given before, and no other file became live.
 pub record IsNewFile {S : Type 0} (r : Ghosts S) (held : S → ℕ → List ℕ) (numbers : S → ℕ) (old new : S) (name : List ℕ) (file : FileId) : Type 0 where
   pub number : (numbers old ≤ file.n) × (file.n < numbers new)
   pub live : IsLive r new file
   pub alone : StayLive r old new (λ other. other ≢ file.n)
   pub holder : held new file.n ≡ name
 
--- The new file `file` has the content of its name `name`, if contents are visible to the proof.
+-- From `old` to `new` the file `file` was opened under the name `name`. It has this name's content, if contents are visible to the proof.
 pub record IsOpenedFile {S : Type 0} (r : Ghosts S) (contents : S → Names) (held : S → ℕ → List ℕ) (numbers : S → ℕ) (old new : S) (name : List ℕ) (file : FileId) : Type 0 where
   pub is_new : IsNewFile r held numbers old new name file
   pub content : IfVisible (contents old) (λ world. content_of r new file ≡ world name)
 
--- The new file `file` is empty, and so is the content of its name `name`, whatever it was.
+-- From `old` to `new` the file `file` was created with the name `name`. It is empty, and so is the content of its name, whatever it was.
 pub record IsMadeFile {S : Type 0} (r : Ghosts S) (contents : S → Names) (held : S → ℕ → List ℕ) (numbers : S → ℕ) (old new : S) (name : List ℕ) (file : FileId) : Type 0 where
   pub is_new : IsNewFile r held numbers old new name file
   pub size : file_size r new file ≡ 0
   pub names : contents new ≡ with_content (contents old) name []
 
--- A `create` that is refused leaves the same files live, and the content of `name` as it was or empty. If memory ran out, it leaves everything as
--- it was.
+-- A `create` of `name` with this result was refused from `old` to `new`. The same files are live, and the content of `name` is as it was or empty. If
+-- memory ran out, everything is as it was.
 pub record LeavesUnmade {S T : Type 0} (r : Ghosts S) (contents : S → Names) (old new : S) (name : List ℕ) (result : Result T MakeFault) : Type 0 where
   pub live : OnErr result (SameLive r old new)
   pub names : OnErr result (MayEmpty (contents old) (contents new) name)
@@ -85,21 +86,22 @@ pub record LeavesUnmade {S T : Type 0} (r : Ghosts S) (contents : S → Names) (
 
 -- ---- unchanged files and names
 
--- Opening a file leaves all names, the earlier live files, the count of writing faults and the count of bytes read.
+-- From `old` to `new` all names and the earlier live files stay, as at opening a file. So do the counts of writing faults and of bytes read.
 pub record StaysAtOpening {S : Type 0} (r : Ghosts S) (contents : S → Names) (held : S → ℕ → List ℕ) (numbers writing_faults : S → ℕ) (old new : S) : Type 0 where
   pub names : contents new ≡ contents old
   pub others : LiveFilesStay r old new (λ file. file < numbers old)
   pub holders : KeepsHolders (live_files r old).live (held old) (held new)
   pub counts : KeepsOtherCounts r writing_faults old new
 
--- Making the file `name` leaves the earlier files live. Files with other names keep their length and content.
+-- From `old` to `new` the earlier files stay live, as at creating the file `name`. Files with other names keep their length and content.
 pub record StaysAtMaking {S : Type 0} (r : Ghosts S) (held : S → ℕ → List ℕ) (numbers : S → ℕ) (old new : S) (name : List ℕ) : Type 0 where
   pub given : numbers old ≤ numbers new
   pub alive : StayLive r old new (λ file. file < numbers old)
   pub others : LiveFilesStay r old new (IsAnother (numbers old) (held old) name)
   pub holders : KeepsHolders (live_files r old).live (held old) (held new)
 
--- Writing to `file` leaves the same files live and asks for no name. Files with other names keep their length and content.
+-- From `old` to `new` the same files are live and no name was asked for, as at writing to `file`. Files with other names keep their length and
+-- content.
 pub record StaysAtWriting {S : Type 0} (r : Ghosts S) (held : S → ℕ → List ℕ) (numbers : S → ℕ) (asked : S → List Asked) (old new : S) (file : FileId) : Type 0 where
   pub given : numbers new ≡ numbers old
   pub alive : SameLive r old new
@@ -107,7 +109,7 @@ pub record StaysAtWriting {S : Type 0} (r : Ghosts S) (held : S → ℕ → List
   pub holders : KeepsHolders (live_files r old).live (held old) (held new)
   pub asks : asked new ≡ asked old
 
--- Closing `file` leaves all names and all other files. It asks for no name and writes nothing.
+-- From `old` to `new` all names and all other files stay, as at closing `file`. No name was asked for, and nothing was written.
 pub record StaysAtClosing {S : Type 0} (r : Ghosts S) (contents : S → Names) (held : S → ℕ → List ℕ) (numbers writing_faults : S → ℕ) (asked : S → List Asked) (old new : S) (file : FileId) : Type 0 where
   pub names : contents new ≡ contents old
   pub given : numbers new ≡ numbers old

@@ -9,28 +9,28 @@ use Rattle.mkv_io.specs.declared.reads.Reads.{Ghosts}
 abbrev pub live_files : {S : Type 0} → Ghosts S → S → LiveFiles
 live_files g s = g.files (g.standing s)
 
--- The file `file` is live.
+-- The file `file` is live in the state `s`.
 abbrev pub IsLive : {S : Type 0} → Ghosts S → S → FileId → Type 0
 IsLive g s file = IsTrue ((live_files g s).live file.n)
 
--- the length of the live file `file`, in bytes
+-- the length in bytes of the live file `file` in the state `s`
 abbrev pub file_size : {S : Type 0} → Ghosts S → S → FileId → ℕ
 file_size g s file = (live_files g s).size file.n
 
--- the content of the live file `file`, if it is visible to the proof
+-- the content of the live file `file` in the state `s`, if it is visible to the proof
 abbrev pub content_of : {S : Type 0} → Ghosts S → S → FileId → Option (List ℕ)
 content_of g s file = (live_files g s).content file.n
 
--- `P` holds for the content of the live file `file`, if it is visible to the proof.
+-- `P` holds for the content of the live file `file` in the state `s`, if it is visible to the proof.
 abbrev pub IfTold : {S : Type 0} → Ghosts S → S → FileId → (List ℕ → Type 0) → Type 0
 IfTold g s file P = IfVisible (content_of g s file) P
 
--- The call changes nothing that `standing` has. Its counts don't fall.
+-- From `old` to `new` nothing changed that `standing` has, and the counts didn't fall, as in a call that only reads.
 pub record OnlyReads {S : Type 0} (g : Ghosts S) (old new : S) : Type 0 where
   pub standing : g.standing new ≡ g.standing old
   pub faults : g.reading_faults old ≤ g.reading_faults new
   pub octets : g.octets_read old ≤ g.octets_read new
 
--- If the call succeeds with `x`, `P x` holds for the content of `file`, if it is visible to the proof.
+-- If the result is a value `x`, `P x` holds for the content of the live file `file` in the state `s`. That must be visible to the proof.
 abbrev pub IfRead : {S T E : Type 0} → Ghosts S → S → FileId → Result T E → (T → List ℕ → Type 0) → Type 0
 IfRead g s file result P = IfOk result (λ x. IfTold g s file (P x))

@@ -8,8 +8,8 @@ use Rattle.mkv_io.specs.declared.reads.Reads.{Ghosts}
 use Rattle.mkv_io.specs.declared.files.Files as writing
 use Rattle.mkv_io.specs.Told.{IfVisible}
 
--- The call opens only names in `opened`, and makes or writes only names in `written`. It leaves the same files live, under the same names. Files
--- with names that aren't in `written` stay the same. No number is given back.
+-- From `old` to `new` only names in `opened` were opened, and only names in `written` were created or written. The same files are live, under the
+-- same names. Files with names that aren't in `written` stay the same. No number is given back.
 pub record UsesOnly {S : Type 0} (r : Ghosts S) (f : writing.Ghosts S) (opened written : List (List ℕ)) (old new : S) : Type 0 where
   pub live : (file : ℕ) → (live_files r new).live file ≡ (live_files r old).live file
   pub given : f.given old ≤ f.given new
@@ -17,12 +17,12 @@ pub record UsesOnly {S : Type 0} (r : Ghosts S) (f : writing.Ghosts S) (opened w
   pub others : KeepsFiles (live_files r old) (live_files r new) (λ file. AreOthers (f.holder old file) written)
   pub asks : AsksOnly opened written (f.asked old) (f.asked new)
 
--- The call opens no file, and makes or writes only files with the names `names`.
+-- From `old` to `new` no file was opened, and only files with the names `names` were created or written.
 abbrev pub KeepsOthers : {S : Type 0} → Ghosts S → writing.Ghosts S → List (List ℕ) → S → S → Type 0
 KeepsOthers r f names old new = UsesOnly r f [] names old new
 
--- The call writes only to live files with the names `names`; other live files stay. It gives no file number and reads nothing, and the count of
--- writing faults doesn't fall. The new contents are described elsewhere.
+-- From `old` to `new` only live files with the names `names` were written; other live files stay. No file number was given and nothing was read, and
+-- the count of writing faults didn't fall. The new contents are described elsewhere.
 pub record WritesOnly {S : Type 0} (r : Ghosts S) (f : writing.Ghosts S) (names : List (List ℕ)) (old new : S) : Type 0 where
   pub kept : KeepsOthers r f names old new
   pub given : f.given new ≡ f.given old
@@ -30,6 +30,6 @@ pub record WritesOnly {S : Type 0} (r : Ghosts S) (f : writing.Ghosts S) (names 
   pub octets : r.octets_read new ≡ r.octets_read old
   pub faults : f.writing_faults old ≤ f.writing_faults new
 
--- If the call succeeds, and the contents of the names before it are visible to the proof, `P` holds for these contents and the value.
+-- If the result is a value, `P` holds for it and the contents of the names in `old`. They must be visible to the proof.
 abbrev pub IfByNames : {S T E : Type 0} → writing.Ghosts S → S → Result T E → ((List ℕ → Option (List ℕ)) → T → Type 0) → Type 0
 IfByNames f old result P = IfVisible (f.names old) (λ world. IfOk result (P world))

@@ -5,14 +5,14 @@ ghost use Rattle.std.specs.Prelude.{◌≡◌, ◌<◌, length, vec_capacity, If
 use crate::octets::Text;
 use std::alloc::{AllocError, Global};
 
-/// Name under which a file was opened, or was to be made.
+/// Name that a file was opened or created under.
 #[derive(Debug, Drop)]
 pub enum Asked {
     Opened(Text),
     Made(Text),
 }
 
-/// Returns a copy of `name`, and reserves room in `asked` for one more entry.
+/// Returns a copy of `name`, and reserves room in `asked` for one more entry, before a file is opened or created.
 pub fn room_for_name(asked: &mut Vec<Asked>, alloc: Global, name: &str) -> Result<Text, AllocError>
     ensures same { asked.new.items ≡ asked.old.items }
     ensures room { OnOk result (length asked.new.items < vec_capacity asked.new) }

@@ -13,9 +13,9 @@ pub enum Kind {
     BadId,
     /// The first byte of an Element Data Size is `00` (RFC 8794, section 6, Element Data Size).
     BadSize,
-    /// An Element passes its parent's end, but not the file's.
+    /// An Element exceeds its parent's end, but not the file's.
     TooLong,
-    /// An Element passes the end of the file.
+    /// An Element exceeds the end of the file.
     Truncated,
     /// The DocType is neither `matroska` nor `webm`, or is missing.
     DocType,

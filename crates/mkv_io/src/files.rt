@@ -14,23 +14,23 @@ ghost use Rattle.mkv_io.specs.declared.outside.TheConstants.{LONGEST_FILE};
 use crate::outside::{Failed, FileId, MakeFault, OpenFault};
 use crate::reads::Reads;
 
-/// Files with names. Each name has a content or none. A live file is one that was opened under a name, and its
+/// Files with names. Each name has a content or none. A live file was opened under a name and isn't closed yet, and its
 /// content is that name's content.
 pub trait Files: Reads {
     /// Content of each name, if it is visible to the proof.
     ghost names: { Self → Names };
 
-    /// Name under which each live file was opened.
+    /// Name that each live file was opened under.
     ghost holder: { Self → ℕ → List ℕ };
 
     /// Bound of the file numbers: each smaller number was given to a file or passed over, and no number is given
     /// twice.
     ghost given: { Self → ℕ };
 
-    /// Number of calls that failed to make or write a file.
+    /// Number of calls that failed to create or write a file.
     ghost writing_faults: { Self → ℕ };
 
-    /// Names under which files were opened or made, in order. The name of a `create` that failed may be among them.
+    /// Names that files were opened or created under, in order. The name of a `create` that failed may be among them.
     ghost asked: { Self → List Asked };
 
     /// Opens the file `name`, and returns its number.
@@ -48,8 +48,8 @@ pub trait Files: Reads {
         ensures cause { HasCause is_open_failure (Self.reading_faults self.old) (Self.reading_faults self.new) result }
         ensures asks { AsksFor (Opened name.now) (asked self.old) (asked self.new) result };
 
-    /// Opens the file `name` with an empty content, whatever it had before. After a refusal its content is as before,
-    /// or empty.
+    /// Creates the file `name` with an empty content, whatever it had before, and opens it. After a refusal its content
+    /// is as before, or empty.
     fn create(&mut self, name: &str) -> Result<FileId, MakeFault>
         ensures made { IfOk result (IsMadeFile Self.Reads names holder given self.old self.new name.now) }
 

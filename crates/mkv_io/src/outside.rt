@@ -7,7 +7,7 @@ ghost use Rattle.mkv_io.specs.declared.outside.ReadEnd.TheVariants as read_end;
 
 use std::alloc::{AllocError, AllocFailed};
 
-/// Largest length of a file, in bytes.
+/// Maximum length of a file, in bytes.
 pub const LONGEST_FILE: u64 = 1 << 48;
 
 /// Number of a live file: one that was opened and isn't closed yet.
@@ -20,7 +20,7 @@ pub struct FileId {
 #[derive(Clone, Copy, Debug, PartialEq, Eq)]
 pub struct Failed;
 
-/// Reason why a file isn't opened.
+/// Cause of a failure to open a file.
 #[derive(Clone, Copy, Debug, PartialEq, Eq)]
 pub enum OpenFault {
     /// No file has that name.
@@ -31,7 +31,7 @@ pub enum OpenFault {
     Memory,
 }
 
-/// Reason why a file isn't made, or doesn't grow.
+/// Cause of a failure to create a file or to append to it.
 #[derive(Clone, Copy, Debug, PartialEq, Eq)]
 pub enum MakeFault {
     /// The system failed.
@@ -40,7 +40,7 @@ pub enum MakeFault {
     Memory,
 }
 
-/// Reason why a call that reads a file ends early.
+/// End of a call that reads a file without a result.
 #[derive(Clone, Copy, Debug, PartialEq, Eq)]
 pub enum ReadEnd {
     /// A read failed.

@@ -1,4 +1,4 @@
-//! Reasons why a run that reads and writes files ends early.
+//! Ends of a run that reads and writes files, without a result.
 
 ghost use Rattle.std.specs.Prelude.{◌≡◌};
 ghost use Rattle.mkv_io.specs.declared.remux_end.RemuxEnd.TheVariants as remux_end;
@@ -6,12 +6,12 @@ ghost use Rattle.mkv_io.specs.declared.remux_end.RemuxEnd.TheVariants as remux_e
 use crate::outside::{Failed, MakeFault, ReadEnd};
 use std::alloc::{AllocError, AllocFailed};
 
-/// Reason why a run that reads files and writes others ends early.
+/// End of a run that reads files and writes others, without a result.
 #[derive(Clone, Copy, Debug, PartialEq, Eq)]
 pub enum RemuxEnd {
     /// An input couldn't be read.
     ReadFault,
-    /// An output couldn't be made or written.
+    /// An output couldn't be created or written.
     WriteFault,
     /// Memory ran out.
     Memory,
