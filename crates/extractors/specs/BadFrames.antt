@@ -1,4 +1,5 @@
--- The frames that their codec has no form for. The choice is this project's; the forms are the codecs'.
+-- The frames that can't be written in the form of their codec ("bad frames"): an extraction leaves them out and reports them. The choice is this
+-- project's; the forms are the codecs'.
 use Rattle.std.specs.Prelude.{◌≡◌, ◌==◌, Bool, ℕ, pos, if◌then◌else◌, is_none, List, [], ◌++◌, map, filter, Option, None, Some}
 use Rattle.std.specs.List.{find, flat_map}
 use Rattle.mkv_schema.specs.declared.ids.TheConstants.{SIMPLE_BLOCK, BLOCK}
@@ -12,40 +13,42 @@ use Rattle.extractors.specs.Frames.{Frame}
 use Rattle.extractors.specs.declared.extracted.Extracted.{Extracted}
 use Rattle.extractors.specs.declared.track_output.TrackOutput.{TrackOutput}
 
--- a frame at time 0 with duration 0
+-- a frame with the bytes `octets`, at time 0 with duration 0; whether a frame is bad doesn't depend on its time
 abbrev pub untimed : List ℕ → Frame
 untimed octets = record { octets = octets; time = pos 0; duration = 0 }
 
--- A frame with the bytes `octets` can't be written, whatever its number and time.
+-- A frame with the bytes `octets` in its block can't be written in the form of output `o`, whatever its number and time.
 abbrev pub is_bad : TrackOutput → List ℕ → Bool
 is_bad o octets = is_none (written_of o.form 1 (untimed octets) (o.prefix ++ octets))
 
--- the report of a bad frame, at its block
+-- the report of a bad frame in block `b`: its kind, the ID of the block's Element, and the block's offset in the file
 abbrev pub bad_frame : Block → Damage
 bad_frame b = record { kind = BadFrame; id = if b.group then BLOCK else SIMPLE_BLOCK; offset = b.offset }
 
--- the bad frames of a block, for the output that takes them
+-- the reports of the bad frames of block `b`, if it is written to the output that is given; one report for each bad frame
 abbrev pub bad_for : Block → Option TrackOutput → List Damage
 bad_for b None = []
 bad_for b (Some o) = map (λ octets. bad_frame b) (filter (is_bad o) b.frames)
 
--- The bad frames of a block, each once even if two outputs take the track: both take it in one form.
+-- The reports of the bad frames of block `b`, if the outputs are `list`. Each frame is reported once, even if two outputs take its track: both have
+-- the same form.
 abbrev pub bad_in : List TrackOutput → Block → List Damage
 bad_in list b = bad_for b (find (λ (o : TrackOutput). o.track == b.track) list)
 
--- the bad frames of all blocks, in the order of the file
+-- the reports of the bad frames of `blocks`, in the order of the file, if the outputs are `list`
 abbrev pub bad_frames : List TrackOutput → List Block → List Damage
 bad_frames list blocks = flat_map (bad_in list) blocks
 
 -- ---- reports
 
--- the damage of a file, and the frames of its blocks that aren't written
+-- the problems that an extraction to the outputs `list` reports for a file with these events: the damaged places, and the frames that aren't written
 abbrev pub told_of : List TrackOutput → List Event → Extracted
 told_of list events = record {
   damages = told_damages (damages_of events);
   bad_frames = told_damages (bad_frames list (blocks_of events));
 }
 
--- The damage `more` is reported after the damage before.
+-- The reports of `more` were appended: whatever places `old` reports, `new` reports them and then `more`. Both are counts with the first places of
+-- each kind.
 abbrev pub TellsMore : ToldDamages → ToldDamages → List Damage → Type 0
 TellsMore old new more = (list : List Damage) → old ≡ told_damages list → new ≡ told_damages (list ++ more)

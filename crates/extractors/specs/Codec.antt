@@ -36,17 +36,19 @@ avc_codec = codes "V_MPEG4/ISO/AVC"
 abbrev pub aac_codec : List ℕ
 aac_codec = codes "A_AAC"
 
--- the parameter sets, and then the units of the frames
+-- the coding of an H.264 track with this configuration: its parameter sets first, and then the units of each frame, each after a start code. Without
+-- a valid configuration it is refused (BadConfig).
 abbrev pub avc_coding : Option Avc → Result Coding UnsupportedTrack
 avc_coding None = Err BadConfig
 avc_coding (Some avc) = Ok (record { head = byte_stream avc.sets; form = form.AnnexB avc.length_size })
 
--- the form of frames of AAC, each after its header, or the reason why the configuration can't be used
+-- the coding of an AAC track with this configuration: each frame after an ADTS header; BadConfig without a configuration that such a header can
+-- express
 abbrev pub aac_coding : Option Aac → Result Coding UnsupportedTrack
 aac_coding None = Err BadConfig
 aac_coding (Some aac) = Ok (record { head = []; form = form.Adts aac })
 
--- the coding of a track by its CodecID and CodecPrivate
+-- the coding of a track in the form of its codec, by its CodecID `codec` and CodecPrivate `private`, or the reason why it has none
 abbrev pub codec_coding : List ℕ → List ℕ → Result Coding UnsupportedTrack
 codec_coding codec private =
     if bytes_eq codec subrip_codec then Ok (record { head = []; form = form.SubRip })
@@ -54,18 +56,19 @@ codec_coding codec private =
     else if bytes_eq codec aac_codec then aac_coding (aac_of private)
     else Err NoExtractor
 
--- the CodecPrivate of a track, or no bytes if it is absent
+-- the CodecPrivate of the TrackEntry `entry`, or no bytes if it is absent
 abbrev pub private_of : Node → List ℕ
 private_of entry = option_map_or body_of (first_child CODEC_PRIVATE entry) []
 
--- the coding of a track in the form that the job asks for
+-- the coding of the track with the TrackEntry `entry` in the form that the command line asks for. It has the bytes before the first frame and the
+-- form of each frame. The error is the reason why the track can't be written so.
 abbrev pub coding_of : Form → Node → Result Coding UnsupportedTrack
 coding_of asked.Raw entry = Ok (record { head = []; form = form.Plain })
 coding_of asked.Full entry = Ok (record { head = private_of entry; form = form.Plain })
 coding_of asked.ByCodec entry = codec_coding (codec_of entry) (private_of entry)
 coding_of asked.Times entry = Ok (record { head = times_head; form = form.Time })
 
--- The parameters of a form allow its frames to be written.
+-- Frames can be written in this form, by its parameters: a length size of H.264, or a configuration of AAC that a header can express.
 abbrev pub CanWrite : FrameForm → Type 0
 CanWrite form.Plain = ⊤
 CanWrite form.SubRip = ⊤

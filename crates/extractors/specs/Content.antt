@@ -13,15 +13,16 @@ use Rattle.extractors.specs.declared.frame_form.FrameForm.{FrameForm}
 use Rattle.extractors.specs.declared.frame_form.FrameForm.TheVariants as form
 use Rattle.extractors.specs.declared.track_output.TrackOutput.{TrackOutput}
 
--- a frame's number in its track, which stops at the greatest number
+-- the number that is written for frame `n` of a track, counted from 1: past 2^64 - 1 it stays at that number
 abbrev pub counted : ℕ → ℕ
 counted n = min n last_count
 
--- a frame with the bytes that were removed from its start
+-- the frame `f` as it was before header stripping: `prefix`, the bytes that were removed, and the frame's bytes in the block
 abbrev pub whole : List ℕ → Frame → List ℕ
 whole prefix f = prefix ++ f.octets
 
--- the written form of frame number `n`; nothing if the frame is bad
+-- the bytes written for frame number `n` of a track, counted from 1, in this form. The list is the frame with the bytes that were removed from its
+-- start; the time and duration are those in `f`. A bad frame has none.
 abbrev pub written_of : FrameForm → ℕ → Frame → List ℕ → Option (List ℕ)
 written_of form.Plain n f octets = Some octets
 written_of form.SubRip n f octets = Some (put_srt (counted n) f.time f.duration octets)
@@ -29,28 +30,28 @@ written_of (form.AnnexB w) n f octets = annex_b w octets
 written_of (form.Adts aac) n f octets = adts aac octets
 written_of form.Time n f octets = Some (time_line f.time)
 
--- the bytes of an output for frame number `n`; a bad frame is left out
+-- the bytes that are added to the output `o` for frame `f`, number `n` of its track, counted from 1; none for a bad frame
 abbrev pub entry_of : TrackOutput → ℕ → Frame → List ℕ
 entry_of o n f = unwrap_or (written_of o.form n f (whole o.prefix f)) []
 
--- the bytes of an output for frames in sequence, numbered from `n`
+-- the bytes that are added to the output `o` for a list of frames in sequence; the first has number `n` in its track
 abbrev pub entries_from : TrackOutput → ℕ → List Frame → List ℕ
 entries_from o n [] = []
 entries_from o n (f ∷ fs) = entry_of o n f ++ entries_from o (n + 1) fs
 
--- the bytes of an output for all frames of a track, numbered from 1
+-- the bytes that are added to the output `o` for `frames`, all frames of its track, numbered from 1
 abbrev pub entries_of : TrackOutput → List Frame → List ℕ
 entries_of o frames = entries_from o 1 frames
 
--- the content of an output: the bytes before the first frame, and the frames of its track
+-- the whole content of the output `o`, if the file has `blocks`: the bytes before the first frame, and then the frames of its track
 abbrev pub content_of : TrackOutput → List Block → List ℕ
 content_of o blocks = o.head ++ entries_of o (frames_of o.step o.track blocks)
 
--- the complete output of the track that `o` takes, if the file has `blocks`
+-- the complete output `o` with its name, if the file has `blocks`
 abbrev pub output_of : TrackOutput → List Block → Output
 output_of o blocks = record { name = o.name; content = content_of o blocks }
 
--- the complete outputs of `list`, if the file has `blocks`
+-- the complete outputs `list`, in this order, if the file has `blocks`
 abbrev pub outputs_of : List TrackOutput → List Block → List Output
 outputs_of list blocks = map (λ (o : TrackOutput). output_of o blocks) list
 

@@ -12,27 +12,31 @@ use Rattle.extractors.specs.declared.source.Source.{Source}
 use Rattle.meta_records.specs.Records.{scale_of_info}
 use Rattle.mkv_io.specs.declared.files.Files.{Ghosts}
 
--- the lines of a track in the first Cues of a file; without a Cues there are none
+-- the text of a track's cue points in the first Cues of a file, by its TrackNumber, at `scale` nanoseconds per tick. It is empty without a Cues.
 abbrev pub cues_text : ℕ → ℕ → Option Node → List ℕ
 cues_text scale track None = []
 cues_text scale track (Some cues) = cue_lines scale track cues
 
--- the output of a target, if the file has the track
+-- the output of target `t` for the track with this TrackEntry, in a file with the Cues `cues` and `scale` nanoseconds per tick. There is none without
+-- an entry.
 abbrev pub cues_output : ℕ → Option Node → Target → Option Node → List Output
 cues_output scale cues t None = []
 cues_output scale cues t (Some entry) = output t.name (cues_text scale (number_of entry) cues) ∷ []
 
--- the outputs of targets, in their order, for a file with the track entries `entries`
+-- the outputs of an extraction of cue points, in the order of `targets`. `entries` has the TrackEntries of the file; a target names one by its index
+-- from 0.
 abbrev pub cues_outputs : ℕ → Option Node → List Target → List Node → List Output
 cues_outputs scale cues targets entries = flat_map (λ (t : Target). cues_output scale cues t (slice_get entries t.id)) targets
 
 -- ---- the effects of the calls
 
--- The output of a target is complete, if the source has the track; after a failure it is a first part.
+-- A call has written the output of target `t` from source `s`; `old` and `new` are the states before and after. After success the output is complete.
+-- It is absent if the source has no such track. After a failure it may have only a first part. No other name changes.
 abbrev pub WritesTrackCues : {S T E : Type 0} → Ghosts S → Source → Target → S → S → Result T E → Type 0
 WritesTrackCues f s t old new result =
     AreWritten (f.names old) (f.names new) (cues_output (scale_of_info s.info) s.cues t (slice_get (entries_in s) t.id)) result
 
--- The outputs of targets are complete, or partial after a failure.
+-- A call has written the outputs of `targets` from source `s`; `old` and `new` are the states before and after. After success they are complete;
+-- after a failure the first are, and the next may have a first part. No other name changes.
 abbrev pub WritesCues : {S T E : Type 0} → Ghosts S → Source → List Target → S → S → Result T E → Type 0
 WritesCues f s targets old new result = AreWritten (f.names old) (f.names new) (cues_outputs (scale_of_info s.info) s.cues targets (entries_in s)) result

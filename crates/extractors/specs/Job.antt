@@ -1,4 +1,5 @@
--- The outputs of a job for the tracks of a file: RFC 9559, section 5.1.4 (Tracks Element).
+-- The outputs of an extraction for the tracks of a file: RFC 9559, section 5.1.4 (Tracks Element). A job is the extraction that a command line asks
+-- for.
 use Rattle.std.specs.Prelude.{◌≤◌, ⊤, ℕ, Bool, true, false, List, [], ◌∷◌, map, Option, Some, None, Result, Ok, Err, option_map, slice_get, unwrap_or}
 use Rattle.std.specs.List.{All, find, flat_map}
 use Rattle.std.specs.Option.{option_map_or}
@@ -18,44 +19,44 @@ use Rattle.extractors.specs.declared.frame_form.UnsupportedTrack.{UnsupportedTra
 use Rattle.extractors.specs.declared.frame_form.UnsupportedTrack.TheVariants.{NoExtractor, BadConfig}
 use Rattle.extractors.specs.declared.track_output.TrackOutput.{TrackOutput}
 
--- the form of the frames of tracks in a job; the other jobs extract something else
+-- the form of the frames that a job writes; none if it extracts attached files, cue points or chapters
 abbrev pub form_of : Job → Option Form
 form_of (jobs.Tracks form list) = Some form
 form_of (jobs.Attachments list) = None
 form_of (jobs.Cues list) = None
 form_of (jobs.Chapters name) = None
 
--- the tracks that a job names, with their outputs
+-- the targets of a job that name tracks, each an index from 0 with the name of its output
 abbrev pub targets_of : Job → List Target
 targets_of (jobs.Tracks form list) = list
 targets_of (jobs.Attachments list) = []
 targets_of (jobs.Cues list) = list
 targets_of (jobs.Chapters name) = []
 
--- the names of the files that targets are written to
+-- the names of the files that `targets` are written to, in their order
 abbrev pub names_of : List Target → List (List ℕ)
 names_of targets = map (λ (t : Target). t.name) targets
 
--- the names of the files that a job writes
+-- the names of all files that a job may write, in order
 abbrev pub names_for : Job → List (List ℕ)
 names_for (jobs.Tracks form list) = names_of list
 names_for (jobs.Attachments list) = names_of list
 names_for (jobs.Cues list) = names_of list
 names_for (jobs.Chapters name) = name ∷ []
 
--- The targets of a job for attached files have numbers of at least 1.
+-- If the job extracts attached files, each of its targets has a number of at least 1.
 abbrev pub AreNumbered : Job → Type 0
 AreNumbered (jobs.Tracks form list) = ⊤
 AreNumbered (jobs.Attachments list) = All (λ (t : Target). 1 ≤ t.id) list
 AreNumbered (jobs.Cues list) = ⊤
 AreNumbered (jobs.Chapters name) = ⊤
 
--- The files of a job have different names, and its attached files are counted from 1.
+-- A job may be done: the files that it writes have different names, and its attached files are numbered from 1.
 pub record CanBeDone (job : Job) : Type 0 where
   pub apart : AreApart (names_for job)
   pub numbers : AreNumbered job
 
--- A track isn't extracted in this form, for the reason `why`.
+-- The track with this coding can't be written, for the reason `why`.
 abbrev pub is_unfit : UnsupportedTrack → Result Coding UnsupportedTrack → Bool
 is_unfit why (Ok coding) = false
 is_unfit NoExtractor (Err NoExtractor) = true
@@ -63,25 +64,28 @@ is_unfit NoExtractor (Err BadConfig) = false
 is_unfit BadConfig (Err NoExtractor) = false
 is_unfit BadConfig (Err BadConfig) = true
 
--- The track of a target isn't extracted in this form, for the reason `why`.
+-- The track of target `t`, by its index in `entries`, can't be written in the form `kind`, for the reason `why`. A track that is missing isn't
+-- refused.
 abbrev pub names_unfit : UnsupportedTrack → Form → List Node → Target → Bool
 names_unfit why kind entries t = option_map_or (λ entry. is_unfit why (coding_of kind entry)) (slice_get entries t.id) false
 
--- the reason why the track of a target isn't extracted in this form, if any; a missing track has none
+-- the reason why the track of target `t`, by its index in `entries`, can't be written in the form `kind`. There is none if it can, or if the track is
+-- missing.
 abbrev pub unfit_of : Form → List Node → Target → Option UnsupportedTrack
 unfit_of kind entries t = option_map_or (λ entry. result_err (coding_of kind entry)) (slice_get entries t.id) None
 
--- the index, from 0, of the first target's track that isn't extracted in this form, for the reason `why`
+-- the index, from 0, of the track of the first target that can't be written in the form `kind`, for the reason `why`
 abbrev pub first_unfit : UnsupportedTrack → Form → List Target → List Node → Option ℕ
 first_unfit why kind targets entries = option_map (λ (t : Target). t.id) (find (names_unfit why kind entries) targets)
 
--- The refusal of a job: a codec without a form comes before a bad configuration.
+-- The refusal of a job: for the first track whose codec has no form, or else for the first with a bad configuration (`bad_config`). Both are indexes
+-- of tracks, from 0.
 abbrev pub refusal_of : Option ℕ → Option ℕ → Option Refusal
 refusal_of (Some track) bad_config = Some (record { why = NoExtractor; track = track })
 refusal_of None (Some track) = Some (record { why = BadConfig; track = track })
 refusal_of None None = None
 
--- the output `name` for the frames of the track with this entry and coding
+-- the output with the name `name` for the track with the TrackEntry `entry`, in this coding; `prefix` has the bytes that header stripping removed
 abbrev pub output_with : List ℕ → Node → Coding → TrackOutput
 output_with name entry coding = record {
   name = name;
@@ -92,34 +96,36 @@ output_with name entry coding = record {
   form = coding.form;
 }
 
--- the output for a track, if the track is extracted in this form
+-- the output with the name `name` for the track with the TrackEntry `entry`, if its coding is one; none if the track is refused
 abbrev pub track_output : List ℕ → Node → Result Coding UnsupportedTrack → List TrackOutput
 track_output name entry (Err why) = []
 track_output name entry (Ok coding) = output_with name entry coding ∷ []
 
--- the output of a target, if the file has the track, by its index in Tracks
+-- the output of target `t` in the form `kind`, for the TrackEntry that it names. There is none if the track is missing, or can't be written in this
+-- form.
 abbrev pub output_for : Form → Target → Option Node → List TrackOutput
 output_for kind t None = []
 output_for kind t (Some entry) = track_output t.name entry (coding_of kind entry)
 
--- the outputs of targets, in their order
+-- the outputs in the form `kind` of `targets`, in their order; `entries` has the TrackEntries of the file
 abbrev pub outputs_for : Form → List Target → List Node → List TrackOutput
 outputs_for kind targets entries = flat_map (λ (t : Target). output_for kind t (slice_get entries t.id)) targets
 
--- the outputs of the targets in the form that a job asks for; none for a job that doesn't write frames
+-- the outputs of `targets` in the form that a job asks for, if any; none for a job that doesn't write frames
 abbrev pub outputs_taken : Option Form → List Target → List Node → List TrackOutput
 outputs_taken None targets entries = []
 outputs_taken (Some kind) targets entries = outputs_for kind targets entries
 
--- the outputs of `job` for a file with the track entries `entries`
+-- the outputs of `job`, if it writes frames of tracks, for a file with the TrackEntries `entries`
 abbrev pub job_outputs : Job → List Node → List TrackOutput
 job_outputs job entries = outputs_taken (form_of job) (targets_of job) entries
 
--- the refusal of a job for one of the tracks
+-- the refusal for one of the tracks of `targets` in the form of the job, if any; `entries` has the TrackEntries of the file. A job that doesn't write
+-- frames isn't refused.
 abbrev pub refusal_taken : Option Form → List Target → List Node → Option Refusal
 refusal_taken None targets entries = None
 refusal_taken (Some kind) targets entries = refusal_of (first_unfit NoExtractor kind targets entries) (first_unfit BadConfig kind targets entries)
 
--- the refusal of a job for one of the tracks that it names, if any
+-- the refusal of `job` for one of the tracks that it names, if any; `entries` has the TrackEntries of the file
 abbrev pub job_refusal : Job → List Node → Option Refusal
 job_refusal job entries = refusal_taken (form_of job) (targets_of job) entries

@@ -1,4 +1,4 @@
--- The content of an output in the form of a codec.
+-- The content of an extracted H.264 or AAC track, by the codecs' own stream formats.
 use Rattle.std.specs.Prelude.{◌≡◌, ℕ, List, [], ◌++◌, map, filter, All}
 use Rattle.elementary.specs.declared.audio.Aac.{Aac}
 use Rattle.elementary.specs.Avc.{byte_stream}
@@ -10,12 +10,12 @@ use Rattle.extractors.specs.Frames.{Frame, frames_of}
 use Rattle.extractors.specs.declared.frame_form.FrameForm.TheVariants as form
 use Rattle.extractors.specs.declared.track_output.TrackOutput.{TrackOutput}
 
--- the bytes of the frames of an output's track, each with the bytes that were removed from its start
+-- all frames of the track of output `o` in `blocks`, each with the bytes that header stripping removed from its start
 abbrev pub octets_of_frames : TrackOutput → List Block → List (List ℕ)
 octets_of_frames o blocks = map (λ (f : Frame). whole o.prefix f) (frames_of o.step o.track blocks)
 
--- An output of AAC is a join of headers and the valid frames, in order. If no unit contains a start code, an output of AVC is a join of start
--- codes with the sets and the valid frames' units, in order.
+-- An output of AAC is a sequence of ADTS headers, each with its frame: exactly the valid frames of its track, in order. An output of H.264 is a
+-- sequence of start codes, each with its unit: the parameter sets, and the units of the valid frames. This holds if no unit contains a start code.
 pub record OutputsHoldTheGoodFrames : Type 0 where
   pub adts : (o : TrackOutput) (aac : Aac) (blocks : List Block) → o.head ≡ [] → o.form ≡ form.Adts aac → IsAac aac
       → IsAdts (content_of o blocks) (headed aac (filter is_good (octets_of_frames o blocks)))

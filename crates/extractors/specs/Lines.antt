@@ -16,25 +16,26 @@ number_or_dash (Some n) = decimal n
 abbrev pub labelled : List ℕ → Option ℕ → List ℕ
 labelled name number = name ++ number_or_dash number
 
--- the time of a cue point in nanoseconds, if it has one
+-- the time in nanoseconds of the CuePoint `point`, at `scale` nanoseconds per tick; none without a CueTime
 abbrev pub point_time : ℕ → Node → Option ℕ
 point_time scale point = option_map (λ ticks. ticks * scale) (integer_in CUE_TIME point)
 
--- the line with a time and the positions in a CueTrackPositions, as they are there
+-- the line of `place`, a CueTrackPositions of a CuePoint at `time` nanoseconds. Its positions are printed as they are stored, and `-` if they are
+-- absent.
 abbrev pub cue_line : Option ℕ → Node → List ℕ
 cue_line time place =
     codes "timestamp=" ++ (number_or_dash time
     ++ (codes " cluster_position=" ++ (number_or_dash (integer_in CUE_CLUSTER_POSITION place)
     ++ (codes " relative_position=" ++ (number_or_dash (integer_in CUE_RELATIVE_POSITION place) ++ codes "\n")))))
 
--- the line of a CueTrackPositions, if it has this TrackNumber
+-- the line of the CueTrackPositions `place` of a CuePoint at `time` nanoseconds, if its CueTrack is `track`; none if it is another track's
 abbrev pub place_lines : Option ℕ → ℕ → Node → List ℕ
 place_lines time track place = if option_map_or (λ own. own == track) (integer_in CUE_TRACK place) false then cue_line time place else []
 
--- the lines of one CuePoint, one for each position of the track
+-- the lines of the CuePoint `point` for the track with TrackNumber `track`, one for each of its CueTrackPositions, at `scale` nanoseconds per tick
 abbrev pub point_lines : ℕ → ℕ → Node → List ℕ
 point_lines scale track point = flat_map (place_lines (point_time scale point) track) (part CUE_TRACK_POSITIONS (children point))
 
--- the lines of a Cues, in its order
+-- the lines of the Cues `cues` for the track with TrackNumber `track`, in the order of the Cues, at `scale` nanoseconds per tick
 abbrev pub cue_lines : ℕ → ℕ → Node → List ℕ
 cue_lines scale track cues = flat_map (point_lines scale track) (part CUE_POINT (children cues))

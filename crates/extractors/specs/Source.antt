@@ -19,25 +19,26 @@ use Rattle.extractors.specs.Job.{job_outputs}
 use Rattle.extractors.specs.declared.track_output.TrackOutput.{TrackOutput}
 use Rattle.extractors.specs.declared.source.Source.{Source}
 
--- the entry of a track
+-- the TrackEntry of a track that was read
 abbrev pub entry_in : Track → Node
 entry_in t = t.entry
 
--- the entries of the tracks of a source
+-- the TrackEntries of a source, in the order of its Tracks
 abbrev pub entries_in : Source → List Node
 entries_in s = map entry_in s.tracks
 
--- the blocks and the damage of a source whose file has this content
+-- the blocks and the damaged places of source `s` in file order, if its file has the content `bytes`
 abbrev pub events_in : Source → List ℕ → List Event
 events_in s bytes = events_of (with_limits (scale_of_info s.info)) bytes s.outline.segment
 
--- the outputs of a job for a source
+-- the outputs of `job` for the tracks of source `s`, in order
 abbrev pub outputs_in : Source → Job → List TrackOutput
 outputs_in s job = job_outputs job (entries_in s)
 
 -- ---- requirements of a source
 
--- The file is live and has the length of its outline, and none of its records is refused.
+-- The source `s` was read from its file. In the state `files` the file is open and has the length of the outline, and each record of `s` is valid.
+-- Each extraction requires it.
 pub record IsSource {S : Type 0} (r : Ghosts S) (files : S) (s : Source) : Type 0 where
   pub live : IsLive r files s.file
   pub whole : s.outline.total ≡ file_size r files s.file
@@ -47,14 +48,14 @@ pub record IsSource {S : Type 0} (r : Ghosts S) (files : S) (s : Source) : Type 
   pub chapters : IfSome s.chapters (IsSoundOf CHAPTERS)
   pub cues : IfSome s.cues (IsSoundOf CUES)
 
--- Nothing prevents the use of the frames of a track.
+-- The frames of the track with the TrackEntry `entry` can be used: nothing prevents their decoding, such as an unsupported compression.
 abbrev pub IsUsable : Node → Type 0
 IsUsable entry = first_damage (usable_causes entry) ≡ None
 
--- The frames of the targets' tracks can be used.
+-- The frames of the tracks that `targets` name can be used; `entries` has the TrackEntries of the file. A target whose track is missing is fine.
 abbrev pub AreUsableOf : List Node → List Target → Type 0
 AreUsableOf entries targets = All (λ (t : Target). IfSome (slice_get entries t.id) IsUsable) targets
 
--- The frames of the targets' tracks in the source `s` can be used.
+-- The frames of the tracks that `targets` name in the source `s` can be used. A target whose track is missing is fine.
 abbrev pub AreUsable : Source → List Target → Type 0
 AreUsable s targets = AreUsableOf (entries_in s) targets

@@ -1,4 +1,4 @@
--- The blocks of a file that outputs take, and the known part of a block that is enough for them.
+-- The blocks of a file that the outputs need, and the part of a block that is enough: for timestamps the frames needn't be read.
 use Rattle.std.specs.Prelude.{◌≡◌, ◌==◌, Bool, true, false, if◌then◌else◌, List, [], ◌∷◌}
 use Rattle.std.specs.List.{All, list_all}
 use Rattle.block_format.specs.Block.{Block}
@@ -12,7 +12,7 @@ use Rattle.extractors.specs.declared.track_output.TrackOutput.{TrackOutput}
 
 -- ---- the blocks that are taken
 
--- Only timestamps are written for frames, and not their bytes.
+-- The form writes only the timestamps of frames, and not their bytes.
 abbrev pub is_of_times : FrameForm → Bool
 is_of_times form.Plain = false
 is_of_times form.SubRip = false
@@ -20,18 +20,19 @@ is_of_times (form.AnnexB w) = false
 is_of_times (form.Adts aac) = false
 is_of_times form.Time = true
 
--- the filter for the track of all outputs, or for all blocks if they take more than one track
+-- the filter that reads only the blocks of one track if all outputs of the list are for it, and all blocks if not
 abbrev pub of_one_track : List TrackOutput → BlockFilter
 of_one_track [] = takes.All
 of_one_track (o ∷ others) = if list_all (λ (other : TrackOutput). other.track == o.track) others then takes.Track o.track else takes.All
 
--- the filter for the blocks that outputs take: no frames, if each output takes only timestamps
+-- the filter for the walk over a file's blocks, if the outputs are `list`: only heads of blocks if every output takes only timestamps
 abbrev pub takes_of : List TrackOutput → BlockFilter
 takes_of list = if list_all (λ (o : TrackOutput). is_of_times o.form) list then takes.Heads else of_one_track list
 
 -- ---- the known part of a block
 
--- The buffered block `lent` is enough of block `b`: for timestamps, its head and count of frames; for each other form, all of it.
+-- The buffered block `lent` has enough of block `b` for an output of this form. For timestamps it is the head and count of frames, for each other
+-- form all of it.
 abbrev pub IsEnough : FrameForm → Block → Buffered → Type 0
 IsEnough form.Plain b lent = b ≡ block_of lent
 IsEnough form.SubRip b lent = b ≡ block_of lent
@@ -39,12 +40,12 @@ IsEnough (form.AnnexB w) b lent = b ≡ block_of lent
 IsEnough (form.Adts aac) b lent = b ≡ block_of lent
 IsEnough form.Time b lent = IsKnownByHead b lent
 
--- The track of block `b` is known, and if it is the output's track, enough of the block for the output is known.
+-- The buffered block `lent` has the TrackNumber of block `b`. If it is the track of output `o`, `lent` has enough of the block for the output.
 pub record IsEnoughFor (o : TrackOutput) (b : Block) (lent : Buffered) : Type 0 where
   pub track : b.track ≡ lent.head.track
   pub own : lent.head.track ≡ o.track → IsEnough o.form b lent
 
--- The track of block `b` is known, and for each output of `list` that takes this track, enough of the block is known.
+-- The buffered block `lent` has the TrackNumber of block `b`. It has enough of the block for each output of `list` that is for this track.
 pub record IsEnoughForAll (list : List TrackOutput) (b : Block) (lent : Buffered) : Type 0 where
   pub track : b.track ≡ lent.head.track
   pub each : All (λ (o : TrackOutput). IsEnoughFor o b lent) list

@@ -1,4 +1,5 @@
--- The bytes that are written in a walk over the blocks of a file.
+-- The effects of one pass over the blocks of a file: the bytes that it writes to the outputs, reads, and reports. `old` and `new` are the states
+-- before and after a call, and `result` is the result of the call. `sinks` and `later` are the open outputs before and after it.
 use Rattle.std.specs.Prelude.{◌≡◌, ◌≤◌, ◌<◌, ℕ, ◌+◌, ◌*◌, ◌^◌, List, [], ◌∷◌, ◌++◌, length, map, unwrap_or, Result, Ok, Err, IfOk}
 use Rattle.text_formats.specs.Writing.{put_srt}
 use Rattle.mkv_io.specs.Names.{Names}
@@ -35,68 +36,77 @@ use Rattle.extractors.specs.declared.frames.Framed.{Framed}
 
 -- ---- one block
 
--- a frame that is written to an output
+-- the frame `f` that is about to be written, with its bytes, time and duration
 abbrev pub frame_of : Framed → Frame
 frame_of f = record { octets = f.octets.now; time = f.time; duration = f.duration }
 
--- a frame as an entry of SubRip; its text is the prefix and the frame
+-- the entry of SubRip for the frame `f`; its text is `prefix` and the frame's bytes
 abbrev pub as_text : List ℕ → Framed → List ℕ
 as_text prefix f = put_srt f.number f.time f.duration (prefix ++ f.octets.now)
 
--- the number of frames of a block for an output; none if it is a block of another track
+-- the number of frames that block `b` adds to the output `o`; 0 if it is a block of another track
 abbrev pub count_in : TrackOutput → Block → ℕ
 count_in o b = length (frames_for o.step o.track b)
 
--- the bytes that a block adds to an output whose next frame has number `n`
+-- the bytes that block `b` adds to the output `o`, whose next frame has number `n`; none if it is a block of another track
 abbrev pub piece : TrackOutput → ℕ → Block → List ℕ
 piece o n b = entries_from o n (frames_for o.step o.track b)
 
--- The output's step is a DefaultDuration below 2^48, and its form can be written.
+-- Frames can be written to the output `o`: its step is a DefaultDuration below 2^48 nanoseconds, and the parameters of its form are valid.
 pub record IsReady (o : TrackOutput) : Type 0 where
   pub step : o.step < 2 ^ 48
   pub can : CanWrite o.form
 
--- the units of a frame of AVC, each after a start code; nothing for a bad frame
+-- the bytes written for the whole H.264 frame `octets`, whose units have lengths of `length_size` bytes: each unit after a start code. A bad frame
+-- has none.
 abbrev pub annexed : ℕ → List ℕ → List ℕ
 annexed length_size octets = unwrap_or (annex_b length_size octets) []
 
--- a header, the prefix and a frame of AAC; nothing for a bad frame
+-- the bytes written for an AAC frame with the bytes `prefix` and `octets`: its ADTS header and the frame; nothing for a bad frame
 abbrev pub headed : Aac → List ℕ → List ℕ → List ℕ
 headed aac prefix octets = unwrap_or (adts aac (prefix ++ octets)) []
 
--- The bytes `octets` were added to output `k`, whatever the outputs had before. After a failure they are there in part.
+-- The bytes `octets` were appended to the output with index `k`, whatever the outputs had before. After a failure they may be there in part. `sinks`
+-- and `later` are the outputs before and after the call, as `old` and `new` are the states.
 abbrev pub Adds : {S T E : Type 0} → writing.Ghosts S → S → S → List Sink → List Sink → ℕ → List ℕ → Result T E → Type 0
 Adds f old new sinks later k octets result = Gives f old new sinks later (with_more k octets) result
 
--- The written form of a frame was added to output `k`.
+-- The frame `frame` was appended, in the form of output `o`, to the output with index `k`; nothing was for a bad frame. `old` and `new` are the
+-- states before and after the call.
 abbrev pub AddsFrame : {S T E : Type 0} → writing.Ghosts S → TrackOutput → Framed → S → S → List Sink → List Sink → ℕ → Result T E → Type 0
 AddsFrame f o frame old new sinks later k result = Adds f old new sinks later k (entry_of o frame.number (frame_of frame)) result
 
--- The written forms of the frames of the cursor's block were added to output `k`; the first frame has number `n`.
+-- The frames of the block at cursor `c` were appended, in the form of output `o`, to the output with index `k`. The first has number `n` in its
+-- track. `old` and `new` are the states before and after the call.
 abbrev pub AddsLent : {S T E : Type 0} → writing.Ghosts S → TrackOutput → ℕ → Reading → S → S → List Sink → List Sink → ℕ → Result T E → Type 0
 AddsLent f o n c old new sinks later k result = Adds f old new sinks later k (entries_from o n (frames_of_block o.step (block_of c.block))) result
 
--- The result is the number of the frame after the frames of the cursor's block.
+-- The result is the number of the frame after the block at cursor `c`. The block's first frame has number `n` in the track of output `o`.
 abbrev pub CountsFrames : {E : Type 0} → TrackOutput → ℕ → Reading → Result ℕ E → Type 0
 CountsFrames o n c result = IfOk result (λ next. next ≡ counted (n + length (frames_of_block o.step (block_of c.block))))
 
--- The timestamps of the frames of a block were added to output `k`; the cursor has the head of the block.
+-- The timestamps of the frames of a block were appended to the output with index `k`. The cursor `c` needs only the head of this block and its number
+-- of frames. `old` and `new` are the states before and after the call.
 abbrev pub AddsTime : {S T E : Type 0} → writing.Ghosts S → TrackOutput → ℕ → Reading → S → S → List Sink → List Sink → ℕ → Result T E → Type 0
 AddsTime f o n c old new sinks later k result = (b : Block) → IsKnownByHead b c.block → Adds f old new sinks later k (entries_from o n (frames_of_block o.step b)) result
 
--- The result is the number of the frame after the frames of a block; the cursor has the head of the block.
+-- The result is the number of the frame after a block, if its first frame has number `n` in the track of output `o`. The cursor `c` needs only the
+-- head of this block and its number of frames.
 abbrev pub CountsTimes : {E : Type 0} → TrackOutput → ℕ → Reading → Result ℕ E → Type 0
 CountsTimes o n c result = (b : Block) → IsKnownByHead b c.block → IfOk result (λ next. next ≡ counted (n + length (frames_of_block o.step b)))
 
--- The part of a block that output `k` takes was added to it; the cursor has enough of the block.
+-- The frames of a block were appended to output `o`, with index `k`, if the block is of its track. The cursor `c` has enough of the block for it.
+-- `old` and `new` are the states before and after the call.
 abbrev pub AddsPart : {S T E : Type 0} → writing.Ghosts S → TrackOutput → ℕ → Reading → S → S → List Sink → List Sink → ℕ → Result T E → Type 0
 AddsPart f o n c old new sinks later k result = (b : Block) → IsEnoughFor o b c.block → Adds f old new sinks later k (piece o n b) result
 
--- The result is the number of the output's next frame after a block, if it was `n` before it.
+-- The result is the number of the next frame of output `o` after the block at cursor `c`. It was `n` before the block. A block of another track adds
+-- none.
 abbrev pub CountsPiece : {E : Type 0} → TrackOutput → ℕ → Reading → Result ℕ E → Type 0
 CountsPiece o n c result = (b : Block) → IsEnoughFor o b c.block → IfOk result (λ next. next ≡ counted (n + count_in o b))
 
--- The bad frames of a block were reported after the others; the cursor has enough of the block.
+-- The bad frames of the block at cursor `c` were added to the reports `old`, which gave `new`; `list` has the outputs. The cursor has enough of the
+-- block for them.
 abbrev pub TellsBad : List TrackOutput → Reading → ToldDamages → ToldDamages → Type 0
 TellsBad list c old new = (b : Block) → IsEnoughForAll list b c.block → TellsMore old new (bad_in list b)
 
@@ -110,33 +120,37 @@ number_after blocks o = counted (1 + length (frames_of o.step o.track blocks))
 abbrev pub numbers_after : List TrackOutput → List Block → List ℕ
 numbers_after list blocks = map (number_after blocks) list
 
--- The outputs were created when the names were `since`, and have `blocks`; `numbers` has the numbers of their next frames.
+-- The outputs `list` were created since the names were `since`. In the state `files` they have exactly the frames of `blocks`; `numbers` has the
+-- number of each output's next frame.
 pub record HaveBlocks {S : Type 0} (f : writing.Ghosts S) (since : Names) (list : List TrackOutput) (files : S) (sinks : List Sink) (numbers : List ℕ) (blocks : List Block) : Type 0 where
   pub given : HaveBeenGiven since (f.names files) (f.holder files) sinks (outputs_of list blocks)
   pub next : numbers ≡ numbers_after list blocks
 
--- Block `b` was added to the outputs `list`, whatever blocks they had before. `before` and `after` have the number of each output's next frame,
--- before and after the call. After a failure the block is there in part.
+-- Block `b` was appended to the outputs `list`, whatever blocks they had in the state `old`; `new` is the state after the call. `before` and `after`
+-- have the number of each output's next frame, before and after it. After a failure the block may be there in part.
 abbrev pub WritesBlock : {S T E : Type 0} → writing.Ghosts S → List TrackOutput → S → S → List Sink → List Sink → List ℕ → List ℕ → Block → Result T E → Type 0
 WritesBlock f list old new sinks later before after b (Ok _) = (since : Names) (blocks : List Block) → HaveBlocks f since list old sinks before blocks → HaveBlocks f since list new later after (blocks ++ b ∷ [])
 WritesBlock f list old new sinks later before after b (Err _) = (since : Names) (blocks : List Block) → HaveBlocks f since list old sinks before blocks → ArePrefixes since (f.names new) (outputs_of list (blocks ++ b ∷ []))
 
--- The cursor's block was added to all outputs of `list`, if the cursor has read enough of it. `before` and `after` have the number of each
--- output's next frame, before and after the call.
+-- The block at cursor `c` was appended to all outputs of `list` that are for its track. The cursor has enough of it for them. `before` and `after`
+-- have the number of each output's next frame, before and after the call, as `old` and `new` are the states.
 abbrev pub GivesLent : {S T E : Type 0} → writing.Ghosts S → List TrackOutput → Reading → S → S → List Sink → List Sink → List ℕ → List ℕ → Result T E → Type 0
 GivesLent f list c old new sinks later before after result = (b : Block) → IsEnoughForAll list b c.block → WritesBlock f list old new sinks later before after b result
 
--- The blocks `all` were added to the outputs `list`, which had none. After a failure they are there in part.
+-- The blocks `all` were appended to the outputs `list`, which had no block in the state `old`. In the state `new`, after a failure, they may be there
+-- in part.
 abbrev pub GivesBlocks : {S T E : Type 0} → writing.Ghosts S → List TrackOutput → S → S → List Sink → List Sink → List Block → Result T E → Type 0
 GivesBlocks f list old new sinks later all (Ok _) = (since : Names) → HaveBeenGiven since (f.names old) (f.holder old) sinks (outputs_of list []) → HaveBeenGiven since (f.names new) (f.holder new) later (outputs_of list all)
 GivesBlocks f list old new sinks later all (Err _) = (since : Names) → HaveBeenGiven since (f.names old) (f.holder old) sinks (outputs_of list []) → ArePrefixes since (f.names new) (outputs_of list all)
 
--- Outputs were created with this content, or exist in part after a failure.
+-- The outputs `given` were created between the states `old` and `new`, with their content, and `later` has them open. After a failure they exist in
+-- part, each with a first part of its content.
 abbrev pub MakesOutputs : {S T E : Type 0} → writing.Ghosts S → S → S → List Sink → List Output → Result T E → Type 0
 MakesOutputs f old new later given (Ok _) = HaveBeenGiven (f.names old) (f.names new) (f.holder new) later given
 MakesOutputs f old new later given (Err _) = ArePrefixes (f.names old) (f.names new) given
 
--- Outputs are written while another file is read: their files are the same and stay open, and the live files of all other names stay.
+-- A call has written to the outputs `sinks` while it read another file. Afterwards, in `later`, the outputs have the same files, and these are still
+-- open in the state `new`. Files with other names that were open in `old` are still open and unchanged.
 pub record WritesAndReads {S : Type 0} (r : Ghosts S) (f : writing.Ghosts S) (old new : S) (sinks later : List Sink) : Type 0 where
   pub same : ids_of later ≡ ids_of sinks
   pub outputs : AreOpen r new later
@@ -150,15 +164,18 @@ ReadsFew size before now (Err _) = now ≤ before + 2 * size
 
 -- ---- a walk to the end of a file
 
--- The remaining blocks of a cursor's file were added to outputs that had none.
+-- The remaining blocks in the file of cursor `c` were appended to the outputs `list`, which had none in the state `old`. After a failure, in `new`,
+-- they may be there in part. It is promised if the file's content is visible to the proof.
 abbrev pub GivesLeft : {S T E : Type 0} → Ghosts S → writing.Ghosts S → List TrackOutput → Reading → S → S → List Sink → List Sink → Result T E → Type 0
 GivesLeft r f list c old new sinks later result = IfTold r old c.file (λ bytes. GivesBlocks f list old new sinks later (blocks_of (left_of bytes c)) result)
 
--- Outputs are complete with the remaining blocks of a cursor's file, or partial after a failure.
+-- The outputs `list` were created, written with the remaining blocks in the file of cursor `c`, and closed, between the states `old` and `new`. After
+-- a failure they may be there in part. It is promised if the file's content is visible to the proof.
 abbrev pub WritesLeft : {S T E : Type 0} → Ghosts S → writing.Ghosts S → List TrackOutput → Reading → S → S → Result T E → Type 0
 WritesLeft r f list c old new result = IfTold r old c.file (λ bytes. AreWritten (f.names old) (f.names new) (outputs_of list (blocks_of (left_of bytes c))) result)
 
--- The report is the damage and the bad frames in the rest of a cursor's file.
+-- The result has the damaged places and the bad frames in the rest of the file of cursor `c`, if the outputs are `list`. It is promised if the file's
+-- content is visible to the proof in the state `old`.
 abbrev pub TellsLeft : {S E : Type 0} → Ghosts S → List TrackOutput → Reading → S → Result Extracted E → Type 0
 TellsLeft r list c old result = IfTold r old c.file (λ bytes. IfOk result (λ extracted. extracted ≡ told_of list (left_of bytes c)))
 
@@ -167,11 +184,13 @@ TellsLeft r list c old result = IfTold r old c.file (λ bytes. IfOk result (λ e
 abbrev pub ReadsFewOf : {S T E : Type 0} → Ghosts S → FileId → S → S → Result T E → Type 0
 ReadsFewOf r file old new result = ReadsFew (file_size r old file) (r.octets_read old) (r.octets_read new) result
 
--- The outputs of a job are complete, with all blocks of a source, or partial after a failure.
+-- The outputs of `job` were written between the states `old` and `new`, with all blocks of source `s`. After a failure they may be there in part. It
+-- is promised if the source's content is visible to the proof.
 abbrev pub WritesTaken : {S T E : Type 0} → Ghosts S → writing.Ghosts S → Source → Job → S → S → Result T E → Type 0
 WritesTaken r f s job old new result =
     IfTold r old s.file (λ bytes. AreWritten (f.names old) (f.names new) (outputs_of (outputs_in s job) (blocks_of (events_in s bytes))) result)
 
--- The report is the damage of a source and the bad frames of a job.
+-- The result has all damaged places of source `s` and the bad frames that `job` leaves out. It is promised if the source's content is visible to the
+-- proof in the state `old`.
 abbrev pub TellsTaken : {S E : Type 0} → Ghosts S → Source → Job → S → Result Extracted E → Type 0
 TellsTaken r s job old result = IfTold r old s.file (λ bytes. IfOk result (λ extracted. extracted ≡ told_of (outputs_in s job) (events_in s bytes)))

@@ -12,27 +12,29 @@ use Rattle.mkv_io.specs.declared.remux_end.RemuxEnd.{RemuxEnd}
 use Rattle.mkv_outputs.specs.Outputs.{Output, with_outputs}
 use Rattle.mkv_outputs.specs.Starts.{ArePrefixes}
 
--- the output `name` with the bytes `octets`
+-- the output with the name `name` and the content `octets`
 abbrev pub output : List ℕ → List ℕ → Output
 output name octets = record { name = name; content = octets }
 
--- `len` bytes of a live file, from offset `at` on
+-- `len` bytes of the file `file`, which is open in the state `files`, starting at offset `at`
 abbrev pub octets_in : {S : Type 0} → Ghosts S → S → FileId → ℕ → ℕ → List ℕ
 octets_in r files file at len = octets_told ((live_files r files).content file.n) at len
 
--- Outputs are complete, or partial after a failure, and no other name has changed.
+-- From the names `old` to the names `new`, the outputs `outputs` were written and no other name has changed. After a failure they may be there in
+-- part: the first are complete, and the next has a first part.
 abbrev pub AreWritten : {T E : Type 0} → Names → Names → List Output → Result T E → Type 0
 AreWritten old new outputs (Ok _) = new ≡ with_outputs old outputs
 AreWritten old new outputs (Err _) = ArePrefixes old new outputs
 
--- The file `name` was created with the bytes `octets`, and closed. No other name is written, the same files are live, and at most `most` bytes
--- are read.
+-- A call has created or replaced the file `name` with the bytes `octets`, and closed it. `old` and `new` are the states before and after. After a
+-- failure it may have only a first part. No other name is written, the same files are open, and at most `most` bytes are read.
 pub record WritesFile {S T : Type 0} (r : Ghosts S) (f : writing.Ghosts S) (name octets : List ℕ) (most : ℕ) (old new : S) (result : Result T RemuxEnd) : Type 0 where
   pub writes : AreWritten (f.names old) (f.names new) (output name octets ∷ []) result
   pub kept : KeepsOthers r f (name ∷ []) old new
   pub cause : HasRemuxCause r f old new result
   pub reads : r.octets_read new ≤ r.octets_read old + most
 
--- The file `name` was created with `len` bytes of a live file, from offset `at` on, each of them read once.
+-- A call has created or replaced the file `name` with `len` bytes of the open file `from`, starting at offset `at`. Each of them is read once. `old`
+-- and `new` are the states before and after.
 abbrev pub CopiesFile : {S T : Type 0} → Ghosts S → writing.Ghosts S → List ℕ → FileId → ℕ → ℕ → S → S → Result T RemuxEnd → Type 0
 CopiesFile r f name from at len old new result = WritesFile r f name (octets_in r old from at len) len old new result

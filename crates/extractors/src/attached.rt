@@ -16,10 +16,11 @@ use output_model::Attachment;
 use requests::Target;
 use std::alloc::Global;
 
-/// Number of bytes of data that are copied at once.
+/// Size in bytes of the buffer through which the data of attached files is copied.
 const CHUNK: usize = 65_536;
 
-/// Returns attached file `number`, counted from 1.
+/// Returns the attached file with the ID `number`, counted from 1 in the order of the Attachments; None for 0 and for a
+/// number past the last.
 fn attached_at(list: &List<Attachment>, number: u64) -> Option<&Attachment>
     ensures { option_map (λ a. a.now) result ≡ attached_at list.now number }
 {
@@ -29,7 +30,8 @@ fn attached_at(list: &List<Attachment>, number: u64) -> Option<&Attachment>
     list.get((number - 1) as usize)
 }
 
-/// Creates or replaces the file of `target` with the data of its attached file, if the source has it.
+/// Creates or replaces the file of `target`, and copies the data of the attached file that it names from the source
+/// through `buffer`. If the source has no such file, nothing is created. It is one step of `write_each`.
 fn write_attachment<F: Files>(
     files: &mut F,
     source: &Source,
@@ -58,7 +60,8 @@ fn write_attachment<F: Files>(
     )
 }
 
-/// Writes the files of `targets` in order, with `buffer` for the data.
+/// Writes the file of each target in `targets`, in order, for `write_attachments`. The data goes through `buffer`, and
+/// the first failure ends it.
 fn write_each<F: Files>(
     files: &mut F,
     source: &Source,
@@ -80,9 +83,10 @@ fn write_each<F: Files>(
     Ok(())
 }
 
-/// Extracts the attached file of each target that the source has, in order, to its own file. At most 64 KiB of data
-/// are in memory at once. Each file is closed before the next is created. On failure the first files exist, the last
-/// of them with a first part.
+/// Extracts attached files: it creates or replaces the file of each target
+/// in `targets` whose number the source has, in order. At most 64 KiB of data are in memory at once. Each file is
+/// closed before the next is created. On failure the files of the first targets are complete, and the last file that
+/// was created may have only the start of its data.
 pub fn write_attachments<F: Files>(
     alloc: Global,
     files: &mut F,

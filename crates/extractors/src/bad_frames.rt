@@ -1,4 +1,4 @@
-//! Frames of one block that their codec has no form for.
+//! The report of frames in a block that can't be written in the form of their codec, such as a damaged H.264 frame.
 
 ghost use Rattle.std.specs.Prelude.{◌≡◌, ◌++◌, ◌==◌, if◌then◌else◌, IfOk, OnOk, Some, is_none};
 ghost use Rattle.std.specs.List.{All, find};
@@ -20,8 +20,9 @@ use mkv_io::{Damage, Kind};
 use mkv_schema::ids::{BLOCK, SIMPLE_BLOCK};
 use std::alloc::{AllocError, Global};
 
-/// Adds a damaged place to `bad` for each frame of the cursor's block that its codec has no written form for. Each
-/// frame is added once, even if several of the outputs `list` take its track: all of them write it in the same form.
+/// Adds a damaged place to `bad` for each frame of the cursor's block that can't be written in the form of its codec.
+/// Each frame is added once, even if several of the outputs `list` are for its track: all outputs of a track have the
+/// same form.
 pub fn add_bad_frames(
     list: &[TrackOutput],
     cursor: &Cursor,
@@ -37,15 +38,15 @@ pub fn add_bad_frames(
     }
 }
 
-/// Returns the first output in `list` that takes the track `track`.
+/// Returns the first output in `list` for the track with TrackNumber `track`.
 fn first_of(list: &[TrackOutput], track: u64) -> Option<&TrackOutput>
     ensures { option_copied result ≡ find (λ (o : OutputSeen). o.track == track) list.now }
 {
     list.iter().find(|output| output.track == track)
 }
 
-/// Adds a damaged place to `bad` for each frame of the cursor's block that `output`, which takes its track, can't
-/// write.
+/// Adds a damaged place to `bad` for each frame of the cursor's block that `output` can't write. The block must be one
+/// of the track of `output`.
 fn add_bad_of(
     output: &TrackOutput,
     cursor: &Cursor,
@@ -66,7 +67,8 @@ fn add_bad_of(
     Ok(())
 }
 
-/// Adds `damage` to the damaged places `told` if `is_one` is true.
+/// Adds `damage` to the reported places `told` if `is_one` is true. It keeps the loop over a block's frames without
+/// branches.
 fn add_if(is_one: bool, damage: Damage, told: &mut Damages)
     ensures { told.new ≡ (if is_one then with_damage told.old damage else told.old) }
 {
@@ -75,7 +77,8 @@ fn add_if(is_one: bool, damage: Damage, told: &mut Damages)
     }
 }
 
-/// Returns the damaged place of a bad frame: the block at the cursor, with the kind BadFrame.
+/// Returns the damaged place that is reported for a bad frame: kind BadFrame, with the ID and file offset of the block
+/// at the cursor.
 fn bad_frame(cursor: &Cursor) -> Damage
     ensures { result ≡ bad_frame (block_of cursor.now.block) }
 {
@@ -87,8 +90,8 @@ fn bad_frame(cursor: &Cursor) -> Damage
     }
 }
 
-/// Checks whether a frame with the bytes `octets` can't be written in the form of `output`. The scratch memory holds
-/// a frame while it is checked.
+/// Checks whether a frame with the bytes `octets` can't be written in the form of `output`. Its H.264 units don't fill
+/// it exactly, or it is too long for an ADTS header. `scratch` is only working memory; its content doesn't matter.
 fn is_bad(output: &TrackOutput, octets: &[u8], scratch: &mut Scratch) -> Result<bool, AllocError>
     requires { CanWrite output.now.form }
     ensures { IfOk result (λ bad. bad ≡ is_bad output.now octets.now) }

@@ -1,4 +1,4 @@
-//! Writer of a file's blocks into the outputs.
+//! Extraction of tracks: each block of the source is written to the outputs of its track.
 
 ghost use Rattle.std.specs.Prelude.{◌≡◌, ◌<◌, ◌+◌, length, OnOk};
 ghost use Rattle.std.specs.List.{All};
@@ -21,9 +21,10 @@ use mkv_io::{Files, MakeFault, RemuxEnd};
 use mkv_outputs::Outputs;
 use std::alloc::Global;
 
-/// Writes the cursor's block to output `k`, whose next frame has number `number`; returns the number of the frame
-/// after the block. The output takes the frames of its track, or their timestamps. The frames of a block of another
-/// track, or of one with only timestamps taken, may be missing.
+/// Writes the frames of the cursor's block, or their timestamps, to `output`, which has index `k` in `outputs`. A block
+/// of another track is passed over. The next frame of the output's track has number `number`, counted from 1; returns
+/// the number of the frame after the block. The cursor needs only the head of a block of another track, and of each
+/// block if only timestamps are written.
 fn give_to<F: Files>(
     outputs: &mut Outputs,
     files: &mut F,
@@ -50,7 +51,8 @@ fn give_to<F: Files>(
     }
 }
 
-/// Writes the cursor's block to the outputs of its track. `numbers` has the numbers of their next frames.
+/// Writes the cursor's block to each output of `list` that is for its track. `numbers` has, for each output, the number
+/// of its next frame, counted from 1, and is advanced.
 fn give_block<F: Files>(
     list: &[TrackOutput],
     outputs: &mut Outputs,
@@ -74,7 +76,8 @@ fn give_block<F: Files>(
     Ok(())
 }
 
-/// Reports the bad frames of the cursor's block, and writes the others to the outputs of its track.
+/// Adds the bad frames of the cursor's block to `bad`, and writes its good frames to the outputs of its track. It is
+/// one step of `write_blocks`.
 fn take_block<F: Files>(
     list: &[TrackOutput],
     outputs: &mut Outputs,
@@ -98,8 +101,9 @@ fn take_block<F: Files>(
     give_block(list, outputs, files, numbers, cursor, scratch)
 }
 
-/// Writes all remaining blocks of `cursor` to the outputs of their tracks, which have none yet. Returns the damage of
-/// the file and the bad frames. The frames of blocks that no output takes needn't be read.
+/// Writes all remaining blocks of `cursor` to the outputs of their tracks, in one pass over the source, for `extract`.
+/// The outputs must be open and have only the bytes before their first frame. Returns the damage of the source and the
+/// bad frames. Blocks that no output takes are passed over without their frames.
 pub fn write_blocks<F: Files>(
     alloc: Global,
     list: &[TrackOutput],

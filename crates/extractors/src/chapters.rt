@@ -12,8 +12,8 @@ use mkv_io::{Bytes, Files, RemuxEnd};
 use srt_chapters::put_simple;
 use std::alloc::Global;
 
-/// Creates or replaces the file `name` with the first Chapters as simple chapters; without a Chapters it is empty.
-/// The file is closed in any case.
+/// Creates or replaces the file `name` with `chapters`, the source's first Chapters, as OGM simple chapters
+/// (`CHAPTER01=..`); without a Chapters the file is empty. The file is closed in any case.
 pub fn write_chapters<F: Files>(
     alloc: Global,
     files: &mut F,

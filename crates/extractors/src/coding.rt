@@ -18,8 +18,8 @@ use track_records::Track;
 /// First line of a timestamp file.
 const TIMES_HEAD: &[u8] = b"# timestamp format v2\n";
 
-/// Returns the bytes before the frames of a track and the form of each frame. If the track isn't extracted in this
-/// form, it returns the reason.
+/// Returns how a track is written in the form that the command line asks for. The coding has the bytes before its first
+/// frame and the form of each frame. The inner error is the reason why the track can't be written so.
 pub fn coding_of(
     alloc: Global,
     form: Form,
@@ -37,7 +37,8 @@ pub fn coding_of(
     Ok(Ok(Coding { head, form }))
 }
 
-/// Returns the coding of the track's codec.
+/// Returns how the frames of `track` are written in the form of its codec, by its CodecID (`Form::ByCodec`). A new
+/// codec gets a case here.
 fn codec_coding(
     alloc: Global,
     track: &Track,
@@ -61,7 +62,8 @@ fn codec_coding(
     }
 }
 
-/// Returns the coding of AVC: the parameter sets, and then the units of the frames.
+/// Returns the coding of an H.264 track with the CodecPrivate `private`: an Annex B byte stream that begins with its
+/// parameter sets.
 fn avc_coding(alloc: Global, private: &[u8]) -> Result<Result<Coding, UnsupportedTrack>, AllocError>
     ensures { IfOk result (λ read. read ≡ avc_coding (avc_of private.now)) }
 {
@@ -80,7 +82,7 @@ fn avc_coding(alloc: Global, private: &[u8]) -> Result<Result<Coding, Unsupporte
     }))
 }
 
-/// Returns the coding of AAC: each frame after its header.
+/// Returns the coding of an AAC track with the CodecPrivate `private`: each frame after an ADTS header.
 fn aac_coding(alloc: Global, private: &[u8]) -> Result<Coding, UnsupportedTrack>
     ensures { result ≡ aac_coding (aac_of private.now) }
 {
@@ -103,7 +105,7 @@ fn private_of(track: &Track) -> &[u8]
     }
 }
 
-/// Returns a copy of `octets`.
+/// Returns a copy of `octets` that an output owns.
 pub fn bytes_of(alloc: Global, octets: &[u8]) -> Result<Bytes, AllocError>
     ensures { IfOk result (λ bytes. bytes ≡ octets.now) }
 {

@@ -19,7 +19,8 @@ use mkv_io::{Files, RemuxEnd};
 use requests::Target;
 use std::alloc::{AllocError, Global};
 
-/// Returns the lines of a track in a file's first Cues, if it has one.
+/// Returns the text of a track's cue points, as `put_cues` writes it; empty if `cues`, the file's first Cues, is None.
+/// `track` is a TrackNumber, and `scale` the nanoseconds per tick.
 fn cues_text(
     alloc: Global,
     cues: &Option<Tree>,
@@ -36,7 +37,8 @@ fn cues_text(
     Ok(text)
 }
 
-/// Creates or replaces the file of `target` with the lines of its track, if the source has it.
+/// Creates or replaces the file of `target` with the cue points of its track, one line each. `target.id` is the track's
+/// index in the Tracks, from 0; if the source has no such track, nothing is created.
 fn write_track_cues<F: Files>(
     alloc: Global,
     files: &mut F,
@@ -59,9 +61,10 @@ fn write_track_cues<F: Files>(
     write_file(files, target.name.as_str(), text.as_bytes())
 }
 
-/// Extracts the cue points of each target's track that the source has, in order, to its own file. It has a line for
-/// each position in the Cues for the track; without a Cues it is empty. Each file is closed before the next is
-/// created. On failure the first files exist, the last of them with a first part.
+/// Extracts the cue points of tracks: it creates or replaces the file of each target in `targets` whose track the
+/// source has, in order. A file has a line for each CueTrackPositions of its track; without a Cues it is empty. Each
+/// file is closed before the next is created. On failure the files of the first targets are complete, and the last file
+/// that was created may have only a first part.
 pub fn write_cues<F: Files>(
     alloc: Global,
     files: &mut F,

@@ -6,7 +6,7 @@ ghost use Rattle.extractors.specs.BadFrames.{told_of};
 use cluster_reader::Damages;
 use std::alloc::{AllocError, Global};
 
-/// Damage of a file, and frames that weren't written.
+/// Problems that an extraction met and left out; the command reports them as warnings.
 #[derive(Debug, Drop)]
 pub struct Extracted {
     /// Damaged places of the file.
@@ -16,7 +16,7 @@ pub struct Extracted {
 }
 
 impl Extracted {
-    /// Returns a report without damage and bad frames.
+    /// Returns a report with no damaged place and no bad frame, which an extraction begins with.
     pub(crate) fn new(alloc: Global) -> Result<Extracted, AllocError>
         ensures { IfOk result (λ extracted. extracted ≡ told_of [] []) }
     {

@@ -26,12 +26,13 @@ use mkv_outputs::Outputs;
 use requests::Job;
 use std::alloc::Global;
 
-/// Extracts the frames of tracks, or their timestamps, each target to its own file. Returns the damage of the source
-/// and the bad frames, which are left out. A target without a track in the file makes no file. Neither does one whose
-/// track can't be extracted in this form; `job_refusal` reports it.
+/// Extracts tracks: it creates or replaces the file of each target of `job`, in one pass over the source. A file has
+/// the frames of its track, or their timestamps. Returns the damage of the source and the frames that were left out
+/// because they can't be written in their codec's form. A target whose track is missing, or can't be written in the
+/// job's form, makes no file; `job_refusal` reports that beforehand.
 ///
-/// The records of `source` must have been read from its file. The tracks of the job must allow its form and have
-/// usable frames.
+/// `source` must have been read from its file, and `job` must be one that writes frames. Its output names must differ
+/// from each other and from the source's name. The frames of its tracks must be usable.
 pub fn extract<F: Files>(
     alloc: Global,
     files: &mut F,
@@ -62,7 +63,7 @@ pub fn extract<F: Files>(
     write_tracks(alloc, &list, files, &mut cursor)
 }
 
-/// Writes the outputs, all in one walk over the remaining blocks of `cursor`.
+/// Creates the outputs `list`, writes the remaining blocks of `cursor` to them and closes them, also after a failure.
 fn write_tracks<F: Files>(
     alloc: Global,
     list: &[TrackOutput],
@@ -85,8 +86,8 @@ fn write_tracks<F: Files>(
     ended
 }
 
-/// Creates the outputs `list`, and writes to each its part of the blocks that `cursor` has left. The outputs stay
-/// open in any case.
+/// Creates the outputs `list` in `outputs`, which is empty before, and writes to each its part of the blocks that
+/// `cursor` has left. The outputs stay open in any case: `write_tracks` closes them.
 fn write_all<F: Files>(
     alloc: Global,
     list: &[TrackOutput],
@@ -112,7 +113,8 @@ fn write_all<F: Files>(
     Ok(extracted)
 }
 
-/// Creates the outputs, each with its bytes before the first frame.
+/// Creates the outputs `list`, in order, in `outputs`, and writes the bytes that come before the first frame of each.
+/// It is the step before the blocks.
 fn make_all<F: Files>(
     list: &[TrackOutput],
     outputs: &mut Outputs,

@@ -3,19 +3,20 @@
 use elementary::Aac;
 use mkv_io::Bytes;
 
-/// Form of a frame. To add a codec, add a case here, a line of `codec_coding`, and one each of `give_frame` and
-/// `is_bad`.
+/// Written form of a frame in an output. To add a codec, add a case here, a line of `codec_coding`, and one each of
+/// `give_frame` and `is_bad`.
 #[derive(Clone, Copy, Debug, PartialEq, Eq)]
 pub enum FrameForm {
     /// The frame as it is.
     Plain,
-    /// An entry of SubRip.
+    /// An entry of SubRip: number, times and text.
     SubRip,
-    /// Units after start codes. In the frame the length of a unit has `length_size` bytes.
+    /// Annex B byte stream (H.264): units after start codes. In the frame, the length before each unit has
+    /// `length_size` bytes.
     AnnexB { length_size: u8 },
-    /// A frame after its ADTS header.
+    /// The frame after an ADTS header (AAC).
     Adts { aac: Aac },
-    /// A line with the timestamp.
+    /// A line with the frame's timestamp in milliseconds.
     Time,
 }
 
@@ -26,7 +27,7 @@ pub struct Coding {
     pub form: FrameForm,
 }
 
-/// Reason why the frames of a track aren't extracted in the form of its codec.
+/// Reason why a track can't be written in the form of its codec.
 #[derive(Clone, Copy, Debug, PartialEq, Eq)]
 pub enum UnsupportedTrack {
     /// No form is known for the codec.
@@ -35,7 +36,7 @@ pub enum UnsupportedTrack {
     BadConfig,
 }
 
-/// Reason why a job is refused for a track, counted from 0.
+/// Reason why an extraction is refused, with the index of the track in the Tracks, from 0.
 #[derive(Clone, Copy, Debug, PartialEq, Eq)]
 pub struct Refusal {
     pub why: UnsupportedTrack,

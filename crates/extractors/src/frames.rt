@@ -1,4 +1,4 @@
-//! Writer of the frames of one block into one output.
+//! Writing of the frames of one block to one output.
 
 ghost use Rattle.std.specs.Prelude.{◌≡◌, ◌≢◌, ◌<◌, ◌++◌, ◌^◌, length, IfOk, OnOk};
 ghost use Rattle.mkv_io.specs.Faults.{HasCause, is_make_failure};
@@ -20,7 +20,7 @@ use mkv_outputs::Outputs;
 use std::alloc::{AllocError, Global};
 use text_formats::put_srt;
 
-/// Frame that is written to an output.
+/// Frame of a block, on its way to an output.
 #[derive(Clone, Copy)]
 struct Framed<'a> {
     /// Number of the frame in its track, counted from 1.
@@ -31,7 +31,7 @@ struct Framed<'a> {
     duration: u64,
 }
 
-/// Buffers for the bytes of one frame before they are written.
+/// Buffers that are reused from frame to frame; they hold one frame before it is written.
 #[derive(Drop)]
 pub struct Scratch {
     line: String,
@@ -50,7 +50,8 @@ impl Scratch {
     }
 }
 
-/// Returns `prefix` followed by `octets`. The bytes are joined in `text` only if the prefix isn't empty.
+/// Returns a frame as it was before the track's header stripping: `prefix`, the bytes that were removed, followed by
+/// `octets`. The bytes are joined in `text` only if the prefix isn't empty.
 pub(crate) fn whole<'a>(
     text: &'a mut Bytes,
     prefix: &[u8],
@@ -67,9 +68,10 @@ pub(crate) fn whole<'a>(
     Ok(text.as_slice())
 }
 
-/// Writes the frames of the cursor's block to output `k`; returns the number of the frame after them. The first frame
-/// has number `number` in its track. The output takes the bytes of frames. The content of `scratch` before and after
-/// the call doesn't matter.
+/// Writes the frames of the cursor's block to `output`, which has index `k` in `outputs`. It has any form except the
+/// timestamps. Returns the number of the frame after the block, whose first frame has number `number` in its track,
+/// counted from 1. Bad frames are counted, and left out. The content of `scratch` before and after the call doesn't
+/// matter.
 pub fn give_frames<F: Files>(
     outputs: &mut Outputs,
     files: &mut F,
@@ -106,8 +108,9 @@ pub fn give_frames<F: Files>(
     Ok(number.saturating_add(sizes.len() as u64))
 }
 
-/// Writes the timestamps of the frames of the cursor's block to output `k`; returns the number of the frame after
-/// them. The first frame has number `number`. The frames themselves may be missing.
+/// Writes the timestamps of the frames of the cursor's block, one line each, to `output`, which has index `k` in
+/// `outputs`. Returns the number of the frame after the block, whose first frame has number `number` in its track,
+/// counted from 1. The cursor needs only the head of the block and the number of its frames.
 pub fn give_times<F: Files>(
     outputs: &mut Outputs,
     files: &mut F,
@@ -134,7 +137,7 @@ pub fn give_times<F: Files>(
     Ok(number.saturating_add(frames as u64))
 }
 
-/// Writes a frame to output `k`, which takes the bytes of frames; writes nothing for a bad frame.
+/// Writes `frame` to `output`, which has index `k` in `outputs`, in the output's form; writes nothing for a bad frame.
 fn give_frame<F: Files>(
     outputs: &mut Outputs,
     files: &mut F,
@@ -171,7 +174,7 @@ fn give_frame<F: Files>(
     }
 }
 
-/// Writes `prefix` and then `octets` to output `k`.
+/// Writes `prefix` and then `octets` to the output with index `k`. The frame needs no buffer.
 fn give_behind<F: Files>(
     outputs: &mut Outputs,
     files: &mut F,
@@ -189,7 +192,8 @@ fn give_behind<F: Files>(
     outputs.write(files, k, octets)
 }
 
-/// Writes a timestamp, as a line, to output `k`.
+/// Writes the timestamp `time`, in nanoseconds, as a line of milliseconds to the output with index `k`. `text` is
+/// working memory.
 fn give_time<F: Files>(
     outputs: &mut Outputs,
     files: &mut F,
@@ -208,7 +212,7 @@ fn give_time<F: Files>(
     outputs.write(files, k, text.as_bytes())
 }
 
-/// Writes `prefix` and a frame, as an entry of SubRip, to output `k`.
+/// Writes an entry of SubRip to the output with index `k`; its text is `prefix` and the bytes of `frame`.
 fn give_text<F: Files>(
     outputs: &mut Outputs,
     files: &mut F,
@@ -227,7 +231,7 @@ fn give_text<F: Files>(
     outputs.write(files, k, scratch.entry.as_slice())
 }
 
-/// Puts `prefix` and a frame, as an entry of SubRip, into `scratch`.
+/// Replaces the entry in `scratch` with an entry of SubRip whose text is `prefix` and the bytes of `frame`.
 fn put_text(prefix: &[u8], frame: Framed<'_>, scratch: &mut Scratch) -> Result<(), AllocError>
     ensures { OnOk result (scratch.new.entry ≡ as_text prefix.now frame.entry) }
 {
@@ -242,7 +246,8 @@ fn put_text(prefix: &[u8], frame: Framed<'_>, scratch: &mut Scratch) -> Result<(
     )
 }
 
-/// Writes the units of `prefix` and a frame, each after a start code, to output `k`; writes nothing for a bad frame.
+/// Writes the H.264 frame `prefix` and `octets` to the output with index `k`, each unit after a start code; writes
+/// nothing for a bad frame. `length_size` is the number of bytes of each length before a unit.
 fn give_units<F: Files>(
     outputs: &mut Outputs,
     files: &mut F,
@@ -263,7 +268,9 @@ fn give_units<F: Files>(
     give_join(outputs, files, k, frame, length_size)
 }
 
-/// Writes the units of a frame, each after a start code, to output `k`; writes nothing for a bad frame.
+/// Writes the units of the whole H.264 frame `frame`, each after a start code, to the output with index `k`. It writes
+/// nothing if the units don't fill the frame exactly. `length_size` is the number of bytes of each length before a
+/// unit.
 fn give_join<F: Files>(
     outputs: &mut Outputs,
     files: &mut F,
@@ -289,7 +296,8 @@ fn give_join<F: Files>(
     Ok(())
 }
 
-/// Writes a header, `prefix` and a frame to output `k`; writes nothing for a bad frame.
+/// Writes the AAC frame `prefix` and `octets` after its ADTS header to the output with index `k`. It writes nothing if
+/// the frame is too long for the header.
 fn give_headed<F: Files>(
     outputs: &mut Outputs,
     files: &mut F,

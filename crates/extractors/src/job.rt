@@ -15,7 +15,8 @@ use requests::{Form, Job, Target};
 use std::alloc::{AllocError, Global};
 use track_records::{Track, usable};
 
-/// Returns the form that a job writes the frames of tracks in; None if it extracts something else.
+/// Returns the form of the frames that an extraction of tracks writes; None if the job extracts attached files, cue
+/// points or chapters.
 pub fn form_of(job: &Job) -> Option<Form>
     ensures { result ≡ form_of job.now }
 {
@@ -25,7 +26,8 @@ pub fn form_of(job: &Job) -> Option<Form>
     }
 }
 
-/// Returns the targets of a job that name tracks; the targets for attached files don't.
+/// Returns the targets of a job whose IDs are indexes of tracks: for frames, timestamps and cue points. It returns none
+/// for attached files and chapters.
 pub fn targets_of(job: &Job) -> &[Target]
     ensures { result.now ≡ targets_of job.now }
 {
@@ -35,8 +37,8 @@ pub fn targets_of(job: &Job) -> &[Target]
     }
 }
 
-/// Returns the outputs of targets, in order. A target whose track is missing or isn't extracted in this form has
-/// none.
+/// Returns the outputs that are created for `targets` in the form `form`, in order. A target gets none if its track is
+/// missing, or can't be written in this form. No file is touched.
 pub fn track_outputs(
     alloc: Global,
     form: Form,
@@ -61,7 +63,8 @@ pub fn track_outputs(
     Ok(list)
 }
 
-/// Returns the output `name` for the frames of `track`, with the head and form of `coding`. No file is made yet.
+/// Returns the description of the output `name` for the frames of `track`, with the head and form of `coding`. No file
+/// is created yet.
 fn output_with(
     alloc: Global,
     coding: Coding,
@@ -86,7 +89,8 @@ fn output_with(
     })
 }
 
-/// Returns the reason why a job is refused for a track that it names, if any.
+/// Returns the reason why the extraction `job` is refused for one of the tracks that it names, if any; `tracks` has the
+/// file's tracks. The command asks before it creates a file.
 pub fn job_refusal(
     alloc: Global,
     job: &Job,
@@ -101,8 +105,8 @@ pub fn job_refusal(
     }
 }
 
-/// Returns the refusal for the tracks of targets: for the first codec without a form, or else for the first bad
-/// configuration.
+/// Returns the refusal for the tracks of `targets` in the form `form`. It is for the first track whose codec has no
+/// form, or else for the first with a missing or invalid configuration.
 fn first_refusal(
     alloc: Global,
     form: Form,
@@ -124,7 +128,8 @@ fn first_refusal(
     Ok(refusal_of(None, bad_config))
 }
 
-/// Returns the refusal for a track without a form for its codec, or else for one with a bad configuration.
+/// Returns the refusal for the first track without a form for its codec (`no_extractor`), or else for the first with a
+/// bad configuration (`bad_config`). Both are indexes in the Tracks, from 0.
 fn refusal_of(no_extractor: Option<u64>, bad_config: Option<u64>) -> Option<Refusal>
     ensures { result ≡ refusal_of no_extractor bad_config }
 {
@@ -141,7 +146,8 @@ fn refusal_of(no_extractor: Option<u64>, bad_config: Option<u64>) -> Option<Refu
     }
 }
 
-/// Returns the reason why the target's track isn't extracted in this form, if any. A missing track has none.
+/// Returns the reason why the track of `target` can't be written in the form `form`, if any. A track that is missing in
+/// `tracks` has none.
 fn unfit_of(
     alloc: Global,
     form: Form,
@@ -158,7 +164,7 @@ fn unfit_of(
     Ok(read.err())
 }
 
-/// Returns a copy of `text`.
+/// Returns a copy of `text` that an output owns.
 fn text_of(alloc: Global, text: &str) -> Result<Text, AllocError>
     ensures { IfOk result (λ copy. copy ≡ text.now) }
 {

@@ -1,7 +1,7 @@
 #![tactic(auto)]
 
-//! Extractions: frames of tracks, or their timestamps, to their own files, all in one walk over the blocks of the
-//! file. Chapters and cue points are extracted as text, attached files as they are.
+//! Extraction from a Matroska file: the frames of tracks, or their timestamps, each track to its own file in one pass
+//! over the blocks. Chapters and cue points are extracted as text, attached files as they are.
 
 mod attached;
 mod bad_frames;

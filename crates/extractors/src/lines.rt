@@ -1,4 +1,4 @@
-//! The cue points of a track as lines of text.
+//! The cue points of a track as lines of text: `timestamp=.. cluster_position=.. relative_position=..`.
 
 ghost use Rattle.std.specs.Prelude.{◌≡◌, ◌++◌, OnOk};
 ghost use Rattle.std.specs.String.{string_bytes};
@@ -16,9 +16,10 @@ use mkv_schema::ids::{
 use std::alloc::AllocError;
 use std::fmt::Write;
 
-/// Appends a line for each CueTrackPositions with this TrackNumber, in the order of the Cues. A line has the time in
-/// nanoseconds, at `scale` nanoseconds a tick, and the positions. They are the numbers in the Cues, in bytes from the
-/// start of the Segment's body and of the Cluster's.
+/// Appends a line to `out` for each CueTrackPositions of the track with TrackNumber `track`, in the order of `cues`. A
+/// line has the time in nanoseconds, at `scale` nanoseconds per tick, and the two positions as the Cues has them.
+/// CueClusterPosition is in bytes from the start of the Segment's data, CueRelativePosition from the start of the
+/// Cluster's data.
 pub fn put_cues(cues: &Tree, track: u64, scale: u64, out: &mut String) -> Result<(), AllocError>
     requires { IsSoundOf ids.CUES cues.now }
     ensures { OnOk result (string_bytes out.new ≡ string_bytes out.old ++ spec.cue_lines scale track cues.now) }
@@ -31,7 +32,7 @@ pub fn put_cues(cues: &Tree, track: u64, scale: u64, out: &mut String) -> Result
     Ok(())
 }
 
-/// Appends the lines of one cue point.
+/// Appends the lines of one CuePoint, `point`, for the track with TrackNumber `track`, at `scale` nanoseconds per tick.
 fn put_point(point: &Tree, track: u64, scale: u64, out: &mut String) -> Result<(), AllocError>
     requires { IsSoundOf ids.CUE_POINT point.now }
     ensures { OnOk result (string_bytes out.new ≡ string_bytes out.old ++ spec.point_lines scale track point.now) }
@@ -45,7 +46,8 @@ fn put_point(point: &Tree, track: u64, scale: u64, out: &mut String) -> Result<(
     Ok(())
 }
 
-/// Returns the time of a cue point in nanoseconds, if it has one.
+/// Returns the CueTime of the CuePoint `point` in nanoseconds, at `scale` nanoseconds per tick; None if it has no
+/// CueTime.
 fn time_of(point: &Tree, scale: u64) -> Option<u128>
     requires { IsSoundOf ids.CUE_POINT point.now }
     ensures { result ≡ spec.point_time scale point.now }
@@ -54,7 +56,7 @@ fn time_of(point: &Tree, scale: u64) -> Option<u128>
     Some(u128::from(ticks) * u128::from(scale))
 }
 
-/// Appends the line of `place`, if it has the track's number.
+/// Appends the line of `place`, a CueTrackPositions of a CuePoint at `time` nanoseconds, if its CueTrack is `track`.
 fn put_place(
     time: Option<u128>,
     place: &Tree,
@@ -70,7 +72,7 @@ fn put_place(
     }
 }
 
-/// Appends the line of a cue point: its time, and the positions in `place`, a CueTrackPositions.
+/// Appends one line: `time` in nanoseconds, and the positions in `place`, a CueTrackPositions. An absent number is `-`.
 fn put_line(time: Option<u128>, place: &Tree, out: &mut String) -> Result<(), AllocError>
     requires { IsSoundOf ids.CUE_TRACK_POSITIONS place.now }
     ensures { OnOk result (string_bytes out.new ≡ string_bytes out.old ++ spec.cue_line time place.now) }
@@ -81,7 +83,8 @@ fn put_line(time: Option<u128>, place: &Tree, out: &mut String) -> Result<(), Al
     out.push_str("\n")
 }
 
-/// Appends `name`, and the unsigned integer with this `id` in decimal, or `-` if it is absent.
+/// Appends the label `name`, and the first child of `tree` with this `id`, an unsigned integer, in decimal, or `-` if
+/// it is absent.
 fn put_integer(name: &str, tree: &Tree, id: u32, out: &mut String) -> Result<(), AllocError>
     requires sound { IsSound tree.now }
     requires uint { HasUint (id_of tree.now) id }
@@ -93,7 +96,7 @@ fn put_integer(name: &str, tree: &Tree, id: u32, out: &mut String) -> Result<(),
     }
 }
 
-/// Appends `name`, and `number` in decimal, or `-` if it is absent.
+/// Appends the label `name`, and `number` in decimal, or `-` if it is None.
 fn put_number(name: &str, number: Option<u128>, out: &mut String) -> Result<(), AllocError>
     ensures { OnOk result (string_bytes out.new ≡ string_bytes out.old ++ spec.labelled name.now number) }
 {

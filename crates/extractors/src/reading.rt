@@ -16,8 +16,9 @@ use mkv_io::{FileId, Reads};
 use mkv_schema::ids::CUES;
 use std::alloc::Global;
 
-/// Reads the first Cues of level 1, if there is one. It refuses the file if the Cues is over 64 MiB
-/// (`HeaderTooLarge`), has over 8,388,608 Elements (`TooMany`), or is damaged inside.
+/// Reads the first Cues at level 1 of `file`, whose top-level Elements `outline` lists; returns None if there is none.
+/// Refuses the file if the Cues is over 64 MiB (`HeaderTooLarge`), has over 8,388,608 Elements (`TooMany`), or is
+/// damaged inside.
 pub fn first_cues<R: Reads>(
     alloc: Global,
     outline: &Outline,

@@ -1,4 +1,4 @@
-//! A file to extract from.
+//! The file that an extraction reads.
 
 use ebml_tree::Tree;
 use element_reader::Outline;
@@ -6,7 +6,7 @@ use mkv_io::{FileId, List};
 use output_model::Attachment;
 use track_records::Track;
 
-/// Live file, with the records that were read before its blocks.
+/// Open file to extract from, with the records that were read before its blocks.
 #[derive(Drop)]
 pub struct Source {
     pub file: FileId,

@@ -1,4 +1,4 @@
-//! Selection of the blocks of a file that outputs take.
+//! Choice of what the walk over a file's blocks must read for the outputs.
 
 ghost use Rattle.std.specs.Prelude.{◌≡◌, ◌==◌};
 ghost use Rattle.std.specs.List.{list_all};
@@ -9,7 +9,7 @@ use crate::frame_form::FrameForm;
 use crate::track_output::TrackOutput;
 use cluster_reader::BlockFilter;
 
-/// Checks whether only timestamps are written for frames, and not their bytes.
+/// Checks whether the form writes only the timestamps of frames, and not their bytes.
 fn is_of_times(form: &FrameForm) -> bool
     ensures { result ≡ is_of_times form.now }
 {
@@ -20,21 +20,22 @@ fn is_of_times(form: &FrameForm) -> bool
     }
 }
 
-/// Checks whether each output takes only timestamps.
+/// Checks whether every output of `list` takes only timestamps, so that no frame need be read.
 fn are_of_times(list: &[TrackOutput]) -> bool
     ensures { result ≡ list_all (λ (o : OutputSeen). is_of_times o.form) list.now }
 {
     list.iter().all(|output| is_of_times(&output.form))
 }
 
-/// Checks whether all outputs take this track.
+/// Checks whether all outputs of `list` are for the track with TrackNumber `track`.
 fn are_of_track(list: &[TrackOutput], track: u64) -> bool
     ensures { result ≡ list_all (λ (o : OutputSeen). o.track == track) list.now }
 {
     list.iter().all(|output| output.track == track)
 }
 
-/// Returns the filter for the track of all outputs, or for all blocks if they take more than one track.
+/// Returns the filter that reads only the blocks of one track if all outputs of `list` are for it, and all blocks
+/// otherwise.
 fn of_one_track(list: &[TrackOutput]) -> BlockFilter
     ensures { result ≡ of_one_track list.now }
 {
@@ -48,7 +49,8 @@ fn of_one_track(list: &[TrackOutput]) -> BlockFilter
     }
 }
 
-/// Returns the filter for the blocks that outputs take: no frames, if each output takes only timestamps.
+/// Returns the filter for the walk over the blocks of the source. It is only the heads of blocks if each output of
+/// `list` takes only timestamps. It is only one track if they are all for it, or else all blocks.
 pub fn takes_of(list: &[TrackOutput]) -> BlockFilter
     ensures { result ≡ takes_of list.now }
 {

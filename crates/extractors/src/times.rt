@@ -9,7 +9,8 @@ use cluster_reader::BlockHead;
 use std::alloc::AllocError;
 use std::fmt::Write;
 
-/// Returns the time of frame `i` of a lace, counted from 0, in nanoseconds: the block's time and `i` steps.
+/// Returns the time in nanoseconds of frame `i`, from 0, of the lace in the block with this head. It is the block's
+/// time and `i` times `step`, the track's DefaultDuration in nanoseconds or 0.
 pub fn frame_time(head: &BlockHead, i: usize, step: u64) -> i64
     requires small { IsSmallTime head.now.time }
     requires few { i < 256 }
@@ -19,7 +20,8 @@ pub fn frame_time(head: &BlockHead, i: usize, step: u64) -> i64
     head.time + (i as u64 * step) as i64
 }
 
-/// Appends a time as a line, in milliseconds.
+/// Appends `time`, in nanoseconds, as a line of a timestamp file: in milliseconds, with six decimals unless it is
+/// whole.
 pub fn push_time(text: &mut String, time: i64) -> Result<(), AllocError>
     ensures { OnOk result (string_bytes text.new ≡ string_bytes text.old ++ time_line time) }
 {

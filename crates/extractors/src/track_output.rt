@@ -3,7 +3,7 @@
 use crate::frame_form::FrameForm;
 use mkv_io::{Bytes, Text};
 
-/// Output for the frames of one track.
+/// Output of an extraction: a file for the frames of one track.
 #[derive(Debug, Drop)]
 pub struct TrackOutput {
     /// Name of its file.
@@ -12,10 +12,10 @@ pub struct TrackOutput {
     pub track: u64,
     /// Nanoseconds from one frame of a lace to the next: the track's DefaultDuration, or 0 if it is absent.
     pub step: u64,
-    /// Bytes before the first frame.
+    /// Bytes that are written before the first frame.
     pub head: Bytes,
-    /// Bytes that were removed from the start of each frame.
+    /// Bytes that ContentCompAlgo 3 (header stripping) removed from the start of each frame.
     pub prefix: Bytes,
-    /// Form of each frame.
+    /// Written form of each frame.
     pub form: FrameForm,
 }
