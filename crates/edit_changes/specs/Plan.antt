@@ -36,8 +36,9 @@ use Rattle.edit_changes.specs.SeekHead.{SeekHeadAt, seek_head_of, seek_head_with
 
 -- ---- the Elements of level 1 that are rewritten
 
--- An Element of level 1 that is rewritten. `place` is the offset of the old one, and `room` its length with the Voids after it, 0 if there is no
--- old one. `nodes` counts the Elements that are written, itself included. `element` is the new one in its normal form, or none if it is removed.
+-- An Element at level 1 that is rewritten or removed. `place` is the offset of the old one in the file. `room` is its length and the Voids directly
+-- after it, in bytes, 0 if there is no old one. `nodes` counts the Elements that are written, itself included. `element` is the new one in its normal
+-- form, or none if it is removed.
 pub record Part : Type 0 where
   pub id : ℕ
   pub place : ℕ
@@ -45,7 +46,7 @@ pub record Part : Type 0 where
   pub nodes : ℕ
   pub element : Option Element
 
--- the Element with header `h` of `list`, rewritten with the children `nodes`
+-- the Element at level 1 with header `h`, rewritten with the children `nodes`; `list` has all headers at level 1
 abbrev pub part : List Header → List Node → Header → Part
 part list nodes h = record {
   id = h.id;
@@ -55,7 +56,8 @@ part list nodes h = record {
   element = Some (element h.id (flat_map octets nodes));
 }
 
--- the first Element with this ID, rewritten with the children `nodes`, if `written` holds
+-- the first Element with the ID `id` at level 1, rewritten with the children `nodes`. There is none unless `written` is true and the file has one.
+-- `list` has all headers at level 1.
 abbrev pub part_of : Bool → ℕ → List Header → List Node → List Part
 part_of written id list nodes = if written then option_map_or (λ h. part list nodes h ∷ []) (first_of id list) [] else []
 
@@ -63,172 +65,177 @@ part_of written id list nodes = if written then option_map_or (λ h. part list n
 abbrev pub info_nodes : Option Node → List Node
 info_nodes info = option_map_or children info []
 
--- Info and Tracks, in this order, each if an edit is about it
+-- Info and Tracks, in this order, each if one of `edits` is about it, with the children in the edited trees `t`. `list` has all headers at level 1.
 abbrev pub parts : List Header → List Edit → Trees → List Part
 parts list edits t =
     part_of (are_of_info edits) INFO list (info_nodes t.info) ++ part_of (are_of_tracks edits) TRACKS list t.tracks
 
--- The new Element is longer than its room, so it moves to the end of the file.
+-- The new Element of part `p` is longer than its room, so it is appended to the file.
 abbrev pub moves : Part → Bool
 moves p = option_map_or (λ e. nat_lt p.room (length (octets_of e))) p.element false
 
--- The part replaces an Element that exists in the file.
+-- The part `p` replaces an Element that exists in the file.
 abbrev pub stands : Part → Bool
 stands p = nat_lt 0 p.room
 
--- the parts that move to the end of the file
+-- the parts of `ps` whose new Element is appended to the file
 abbrev pub moving : List Part → List Part
 moving ps = filter moves ps
 
--- the bytes that replace the old Element: the new one, or the header of a Void if it moves or is removed
+-- the bytes that are written over the old Element of part `p`. They are the new Element, or the header of a Void if it is appended to the file
+-- instead, or removed.
 abbrev pub overwrite_or_void : Part → List ℕ
 overwrite_or_void p = unwrap_or (option_and_then (λ e. fitted e p.room) p.element) (void_header p.room)
 
--- the Elements that move to the end of the file
+-- the new Elements of the parts `ps` that are appended to the file, in their order
 abbrev pub elements_moving : List Part → List Element
 elements_moving ps = filter_map (λ p. p.element) (moving ps)
 
--- the bytes that are appended to the file: the Elements that move, in sequence
+-- the bytes that are appended to the file for the parts `ps`: the Elements that move, in sequence
 abbrev pub appended : List Part → List ℕ
 appended ps = flat_map octets_of (elements_moving ps)
 
 -- ---- the new SeekHead, and the Segment's size
 
--- An Element with this ID is removed.
+-- One of the parts `ps` removes the Element with the ID `id`.
 abbrev pub goes : List Part → ℕ → Bool
 goes ps id = list_any (λ (p : Part). p.id == id && not (is_some p.element)) ps
 
--- the Seek of the Element with header `h` in a Segment whose body begins at `base`
+-- the Seek of the Element with header `h`; its position counts from `base`, the offset of the Segment's data
 abbrev pub seek_to : ℕ → Header → Seek
 seek_to base h = record { id = h.id; position = h.offset - base }
 
--- the Seek of the first existing Element with this ID, unless it is removed
+-- the Seek of the first existing Element with the ID `id`; none if there is none, or if one of the parts `ps` removes it. `o` is the outline of the
+-- file.
 abbrev pub standing_seek : FileOutline → List Part → ℕ → Option Seek
 standing_seek o ps id = if goes ps id then None else option_map (seek_to o.segment.body) (first_of id o.others)
 
--- the Seek of an ID: for the appended Element, or else for the first existing one, unless it is removed
+-- the Seek for the ID `id`, in a file with the outline `o`. It is in `moved`, the Seeks of the appended Elements, or else points to the first
+-- existing Element. An Element that one of the parts `ps` removes has none.
 abbrev pub seek_for : List Seek → FileOutline → List Part → ℕ → Option Seek
 seek_for moved o ps id = option_or (find (λ s. s.id == id) moved) (standing_seek o ps id)
 
--- the Seeks of `ids`, as far as they exist; `moved` has the Seeks of the appended Elements
+-- the Seeks of `ids` in their order, without those that have no Element; `moved` has the Seeks of the appended Elements
 abbrev pub seeks_beside : List Seek → FileOutline → List Part → List ℕ → List Seek
 seeks_beside moved o ps ids = filter_map (seek_for moved o ps) ids
 
--- the Seeks of `ids`, as far as they exist
+-- the new Seeks of `ids` after the parts `ps` are written to a file with the outline `o`, without those that have no Element
 abbrev pub seeks : List ℕ → FileOutline → List Part → List Seek
 seeks ids o ps = seeks_beside (seeks_from (o.total - o.segment.body) (elements_moving ps)) o ps ids
 
--- the number of bytes of a SeekHead and the Voids after it, or 0 if there is no SeekHead
+-- the room in bytes of the SeekHead `head`: its length and the Voids directly after it. It is 0 without a SeekHead. `list` has all headers at level
+-- 1.
 abbrev pub room_of : Option SeekHeadAt → List Header → ℕ
 room_of head list = option_map_or (λ s. span_of s.header list) head 0
 
--- the offset of a SeekHead, or 0 if there is none
+-- the offset of the SeekHead `head` in the file, or 0 if there is none
 abbrev pub place_of : Option SeekHeadAt → ℕ
 place_of head = option_map_or (λ s. s.header.offset) head 0
 
--- the new SeekHead, with the Seeks of `ids`
+-- the new SeekHead after the parts `ps` are written. It has the new Seeks of `ids`, and keeps the other children of the old SeekHead `head`.
 abbrev pub seek_head : List ℕ → FileOutline → List Part → Option SeekHeadAt → Element
 seek_head ids o ps head = seek_head_with ids (seeks ids o ps) (option_map_or (λ s. s.seeks) head [])
 
--- the number of bytes of the Segment's size
+-- the number of bytes of the Segment's size field
 abbrev pub size_width : Header → ℕ
 size_width segment = segment.body - segment.offset - length (id_octets SEGMENT)
 
--- the fewest bytes that can express the size of a Segment that ends at the offset `end`
+-- the least number of bytes of a size field for a Segment that ends at the offset `end`
 abbrev pub size_need : Header → ℕ → ℕ
 size_need segment end = least_size_width (end - segment.body)
 
 -- ---- missing room
 
--- the end that a header states, unless it is `total`, the end of the file
+-- the end offset that header `h` states, unless it is `total`, the length of the file. A header of unknown size states none.
 abbrev pub other_end : ℕ → Header → Option ℕ
 other_end total h = if is_unknown h.size || stated_end h == total then None else Some (stated_end h)
 
--- the end that the last Element of level 1 states, if it is a Cluster and this isn't `total`, the end of the file
+-- the end offset that the last Element at level 1 states, if it is a Cluster and the end isn't `total`, the length of the file
 abbrev pub cluster_end : ℕ → Option Header → Option ℕ
 cluster_end total None = None
 cluster_end total (Some h) = if h.id == CLUSTER then other_end total h else None
 
--- The end that prevents appending to the file. It is the end that the Segment states, unless it is the file's. If not, it is the end that the
--- last Element of level 1 states, if it is a Cluster and its end isn't the file's. If not, it is the end of a Segment of unknown size, unless it
--- is the file's.
+-- The end offset that prevents appending to the file with the outline `o`, if any. It is the Segment's stated end, unless that is the file's end. If
+-- not, it is the stated end of the last Element at level 1, if that is a Cluster that doesn't end with the file. If not, it is the end of a Segment
+-- of unknown size that doesn't end with the file.
 abbrev pub wrong_end : FileOutline → Option ℕ
 wrong_end o =
     option_or (other_end o.total o.segment)
     (option_or (cluster_end o.total o.last)
     (if o.end == o.total then None else Some o.end))
 
--- the number of Elements with this ID in `list`
+-- the number of Elements with the ID `id` in `list`
 abbrev pub number_of : ℕ → List Header → ℕ
 number_of id list = count_by (λ h. h.id == id) list
 
--- the refusal for this kind of room, if `need` is more than `have`
+-- the refusal of the kind `why`, if `need` is more than `have`
 abbrev pub lacks : Room → ℕ → ℕ → Option Refusal
 lacks why need have = if nat_lt have need then Some (NoRoom why need have) else None
 
--- the refusal to append to a file whose Segment or last Cluster states another end than the file's
+-- the refusal to append to a file with the outline `o`, whose Segment or last Cluster states another end than the file's
 abbrev pub tail_refusal : FileOutline → Option Refusal
 tail_refusal o = option_map (λ end. NoRoom Tail end o.total) (wrong_end o)
 
--- the refusal, if an Element that moves isn't the only one with its ID
+-- the refusal to move the Element with the ID `id`, if `list`, the headers at level 1, has more than one with it
 abbrev pub twin_of : List Header → ℕ → Option Refusal
 twin_of list id = if nat_lt 1 (number_of id list) then Some (NoRoom Twin 1 (number_of id list)) else None
 
--- the first refusal of an Element that isn't the only one with its ID
+-- the refusal of the first part in this list whose Element isn't the only one with its ID; `list` has all headers at level 1
 abbrev pub twin_refusal : List Header → List Part → Option Refusal
 twin_refusal list [] = None
 twin_refusal list (p ∷ ps) = option_or (twin_of list p.id) (twin_refusal list ps)
 
--- the refusal of a Segment that ends at `end`, if its size is known and has too few bytes for this end
+-- the refusal of a Segment that ends at the offset `end` after the edit, if its size field has too few bytes for it. A Segment of unknown size isn't
+-- refused.
 abbrev pub size_refusal : Header → ℕ → Option Refusal
 size_refusal segment end =
     if is_unknown segment.size then None else lacks SegmentSize (size_need segment end) (size_width segment)
 
 -- ---- the writes
 
--- the write of the bytes `octets` at the offset `place`
+-- the write of the bytes `octets` over the file, starting at the offset `place`
 abbrev pub write : ℕ → List ℕ → Write
 write place octets = record { at = place; bytes = octets }
 
--- `w` inserted into writes in order of their places
+-- the list with the write `w` inserted, if the list is sorted by offset
 abbrev pub inserted : Write → List Write → List Write
 inserted w [] = w ∷ []
 inserted w (v ∷ vs) = if nat_le w.at v.at then w ∷ v ∷ vs else v ∷ inserted w vs
 
--- the writes in order of their places
+-- the list of writes, sorted by offset
 abbrev pub ascending : List Write → List Write
 ascending [] = []
 ascending (w ∷ ws) = inserted w (ascending ws)
 
--- the writes at the places of the old Elements
+-- the writes over the old Elements of the parts `ps` that exist in the file
 abbrev pub part_writes : List Part → List Write
 part_writes ps = map (λ p. write p.place (overwrite_or_void p)) (filter stands ps)
 
--- the write of the Segment's size, if it is known, for a Segment that ends at `end`
+-- the write of the Segment's size field for a Segment that ends at the offset `end`; none if its size is unknown
 abbrev pub size_writes : Header → ℕ → List Write
 size_writes segment end =
     if is_unknown segment.size then []
     else write (segment.offset + length (id_octets SEGMENT)) (size_octets (end - segment.body) (size_width segment)) ∷ []
 
--- the number of bytes written for the Segment's size
+-- the number of bytes that the write of the Segment's size takes; 0 if its size is unknown
 abbrev pub size_length : Header → ℕ
 size_length segment = if is_unknown segment.size then 0 else size_width segment
 
--- the greatest number of Elements in one that is rewritten
+-- the greatest number of Elements in a single part
 abbrev pub most_nodes : List Part → ℕ
 most_nodes [] = 0
 most_nodes (p ∷ ps) = max p.nodes (most_nodes ps)
 
--- the number of bytes written at the places of the old Elements
+-- the number of bytes that the parts `ps` write over their old Elements
 abbrev pub length_in_place : List Part → ℕ
 length_in_place ps = sum_by (λ p. length (overwrite_or_void p)) (filter stands ps)
 
--- the refusal for too many bytes to write, or too many Elements in one
+-- the refusal, if `length` bytes in all are more than 16 MiB, or a part of `ps` has too many Elements
 abbrev pub too_large : ℕ → List Part → Option Refusal
 too_large length ps =
     if nat_lt MAX_NODES (most_nodes ps) || nat_lt MAX_WRITTEN length then Some (EditTooLarge length (most_nodes ps)) else None
 
--- the writes of parts that all stay at their places
+-- the writes of the parts `ps`, if none moves and the SeekHead isn't written, or their refusal
 abbrev pub writes_in_place : List Part → Result (List Write) Refusal
 writes_in_place ps = unless (too_large (length_in_place ps) ps) (ascending (part_writes ps))
 
@@ -238,19 +245,20 @@ first_refusal [] = None
 first_refusal (None ∷ rs) = first_refusal rs
 first_refusal (Some r ∷ rs) = Some r
 
--- the bytes of the writes, with the new SeekHead; a SeekHead without room counts without Voids
+-- the number of bytes of all writes of the parts `ps` with the new SeekHead `seeks` in `room` bytes. A SeekHead that doesn't fit counts in its
+-- shortest form.
 abbrev pub length_moving : FileOutline → List Part → Element → ℕ → ℕ
 length_moving o ps seeks room =
     length_in_place ps + length (appended ps) + length (unwrap_or (fitted seeks room) (octets_of seeks))
     + (if list_any moves ps then size_length o.segment else 0)
 
--- the end of the file after the Elements that move are appended
+-- the length of the file after the Elements of the parts `ps` that move are appended
 abbrev pub new_end : FileOutline → List Part → ℕ
 new_end o ps = o.total + length (appended ps)
 
--- The reasons to refuse that parts move, in the order of the checks. Too much is written (EditTooLarge). An Element states another end than the
--- file's (Tail). An Element that moves isn't the only one with its ID (Twin). The SeekHead has no room (SeekHead). The Segment's size has too few
--- bytes for the new end (SegmentSize). If nothing is appended, the ends aren't checked.
+-- The reasons to refuse writes with a SeekHead, in the order of the checks, none for one that passes. Too much is written (EditTooLarge). An Element
+-- states another end than the file's (Tail). An Element that moves isn't the only one with its ID (Twin). The SeekHead `seeks` is longer than its
+-- `room` (SeekHead). The Segment's size field is too short for the new end (SegmentSize). If nothing is appended, the ends aren't checked.
 abbrev pub moving_refusals : FileOutline → List Part → Element → ℕ → List (Option Refusal)
 moving_refusals o ps seeks room =
     too_large (length_moving o ps seeks room) ps
@@ -259,37 +267,38 @@ moving_refusals o ps seeks room =
     ∷ lacks SeekHead (length (octets_of seeks)) room
     ∷ (if list_any moves ps then size_refusal o.segment (new_end o ps) else None) ∷ []
 
--- The writes, by their places: the SeekHead and the parts at their old places. If something is appended, the Segment's size comes first and the
--- appended Elements come last.
+-- The writes of the parts `ps` with the SeekHead `seeks`, sorted by offset. `place` and `room` are the offset and room of the old SeekHead. If
+-- something is appended, the Segment's size comes first and the appended Elements come last.
 abbrev pub moving_writes : FileOutline → List Part → Element → ℕ → ℕ → List Write
 moving_writes o ps seeks place room =
     let middle = ascending (write place (unwrap_or (fitted seeks room) []) ∷ part_writes ps) in
     if list_any moves ps then size_writes o.segment (new_end o ps) ++ middle ++ write o.total (appended ps) ∷ [] else middle
 
--- the writes of the parts and of the SeekHead with the Seeks of `ids`
+-- the writes of the parts `ps` and of the SeekHead with the Seeks of `ids`, or the first refusal; `head` is the old SeekHead
 abbrev pub writes_moving : List ℕ → FileOutline → List Part → Option SeekHeadAt → Result (List Write) Refusal
 writes_moving ids o ps head =
     let seeks = seek_head ids o ps head in
     let room = room_of head o.others in
     unless (first_refusal (moving_refusals o ps seeks room)) (moving_writes o ps seeks (place_of head) room)
 
--- The writes of parts, or the first refusal: together with the SeekHead if something moves or if `always` holds.
+-- The writes of the parts `ps` of a file with the content `bytes` and the outline `o`, or the first refusal. If a part moves or `always` is true, the
+-- SeekHead is rewritten too, with new Seeks of `ids`.
 abbrev pub writes_of_parts : List ℕ → Bool → List ℕ → FileOutline → List Part → Result (List Write) Refusal
 writes_of_parts ids always bytes o ps =
     if always || list_any moves ps then writes_moving ids o ps (seek_head_of bytes o) else writes_in_place ps
 
 -- ---- the writes of edits
 
--- Info and Tracks; the SeekHead gets their Seeks when one of them moves
+-- the IDs of Info and Tracks; when one of them moves, the SeekHead gets new Seeks of both
 abbrev pub edit_ids : List ℕ
 edit_ids = INFO ∷ TRACKS ∷ []
 
--- the value, or the refusal because of damage in the file
+-- the value that was read, or the refusal of the edits because of damage in the file
 abbrev pub if_editable : {A : Type 0} → Result A Damage → Result A Refusal
 if_editable (Ok x) = Ok x
 if_editable (Err d) = Err (Damaged d)
 
--- The writes of `edits` to a file with the content `bytes`, by ascending places, or the first refusal.
+-- The writes of `edits` to a file with the content `bytes`, sorted by offset, or the first refusal.
 unfoldable pub plan_of : List ℕ → List Edit → Result (List Write) Refusal
 plan_of bytes edits =
     and_then (if_editable (editable bytes)) (λ f.
@@ -298,15 +307,16 @@ plan_of bytes edits =
 
 -- ---- the edited file, and the record of the edit
 
--- The edited content, or the refusal of the edits.
+-- The content of a file after `edits`, if it had `bytes` before, or the refusal of the edits.
 abbrev pub edited : List ℕ → List Edit → Result (List ℕ) Refusal
 edited bytes edits = and_then (plan_of bytes edits) (λ ws. Ok (applied bytes ws))
 
--- the offset and the length of a write
+-- the offset and the length of the write `w`, as a journal has them
 abbrev pub place : Write → Place
 place w = record { at = w.at; len = length w.bytes }
 
--- The journal's record of the writes `ws` to a file with the content `bytes`.
+-- The journal's record of the writes `ws` to a file with the content `bytes`. It has the old and new length, the first bytes of the file, and the
+-- places and new bytes.
 abbrev pub recorded : List ℕ → List Write → Planned
 recorded bytes ws = record {
   head = record { old_len = length bytes; new_len = extent (length bytes) ws; first = take KEPT bytes; places = map place ws };

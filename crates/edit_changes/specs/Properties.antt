@@ -9,15 +9,15 @@ use Rattle.edit_changes.specs.declared.property.ValueKind.TheVariants.{Words, La
 use Rattle.edit_changes.specs.Property as spec
 use Rattle.edit_changes.specs.declared.table.Row.{Row}
 
--- a row of the code's table
+-- a row of the code's table, as a row of the table of the definitions
 abbrev pub shown : Row → spec.Row
 shown r = record { name = r.0.now; property = r.1 }
 
--- the master that contains the properties of a section
+-- the ID of the master with the properties: Info if `info` is true, or else TrackEntry
 abbrev pub section_of : Bool → ℕ
 section_of info = if info then INFO else TRACK_ENTRY
 
--- The table of Elements allows `id` in `parent`, with values of this kind.
+-- The Matroska table allows the child `id` in `parent`, with values of this kind.
 abbrev pub IsOfKind : ℕ → ℕ → ValueKind → Type 0
 IsOfKind parent id Words = IsTextIn parent id
 IsOfKind parent id Language = IsTextIn parent id
@@ -26,7 +26,7 @@ IsOfKind parent id Codec = IsTextIn parent id
 IsOfKind parent id Duration = IsUintIn parent id
 IsOfKind parent id Flag = IsUintIn parent id
 
--- The table allows the property's Element in `parent`, with values of its kind.
+-- The Matroska table allows the Element of the property `p` in `parent`, with values of its kind.
 pub record IsPropertyOf (parent : ℕ) (p : Property) : Type 0 where
   pub valid : is_id p.id ≡ true
   pub kind : IsOfKind parent p.id p.kind

@@ -1,4 +1,5 @@
--- The properties that can be edited, and their values: RFC 9559, sections 5.1.2 (Info Element) and 5.1.4 (Tracks Element). The names are this project's.
+-- The properties that can be edited, and their values: RFC 9559, sections 5.1.2 (Info Element) and 5.1.4 (Tracks Element). Their names on the command
+-- line are this project's.
 use Rattle.std.specs.Prelude.{ℕ, ◌^◌, ◌-◌, ◌==◌, nat_le, Bool, true, false, not, ◌&&◌, ◌||◌, if◌then◌else◌, List, [], ◌∷◌, length, find, codes, Option, Some, None}
 use Rattle.std.specs.List.{list_all}
 use Rattle.std.specs.Option.{option_map}
@@ -15,7 +16,7 @@ use Rattle.edit_changes.specs.declared.property.ValueKind.TheVariants.{Words, La
 
 -- ---- the table
 
--- a property with its name
+-- a property with its name on the command line
 pub record Row : Type 0 where
   pub name : List ℕ
   pub property : Property
@@ -57,11 +58,11 @@ is_info (Typed kind n) = false
 is_info (Uid uid) = false
 is_info (Number number) = false
 
--- the properties of Info if `info` is true, and of a TrackEntry otherwise
+-- the table of the Info's properties if `info` is true, or else of a track's
 abbrev pub table_of : Bool → List Row
 table_of info = if info then info_table else track_table
 
--- the property with this name in a section
+-- the property with the name `name` in the table `rows`
 abbrev pub in_table : List ℕ → List Row → Option Property
 in_table name rows = option_map (λ r. r.property) (find (λ r. bytes_eq name r.name) rows)
 
@@ -87,16 +88,16 @@ is_printable c = is_between 0x20 0x7E c
 abbrev pub is_codec : List ℕ → Bool
 is_codec octets = is_between 1 63 (length octets) && list_all is_printable octets
 
--- the bytes of a value, if it passes a test
+-- the bytes of a text value, if `test`, the result of its check, is true
 abbrev pub where_text : Bool → List ℕ → Option (List ℕ)
 where_text test octets = if test then Some octets else None
 
--- the fewest bytes of a number, if there is one from `least` to `most`
+-- the shortest bytes of the number that was read, if there is one and it is from `least` to `most`
 abbrev pub where_number : ℕ → ℕ → Option ℕ → Option (List ℕ)
 where_number least most None = None
 where_number least most (Some n) = if is_between least most n then Some (uint_octets n) else None
 
--- the fewest bytes of the decimal number `octets`, if it is from `least` to `most`
+-- the shortest bytes of the number that `octets` spells in decimal, if it is from `least` to `most`
 abbrev pub number_in : ℕ → ℕ → List ℕ → Option (List ℕ)
 number_in least most octets = where_number least most (number octets)
 
@@ -112,7 +113,7 @@ is_words value = is_utf8 value && list_all is_not_zero value
 abbrev pub is_language : List ℕ → Bool
 is_language value = length value == 3 && list_all is_lower value
 
--- the bytes of a value, if it has this kind
+-- the body of the child Element for a value as it is on the command line, if it is a value of this kind
 abbrev pub value_of : ValueKind → List ℕ → Option (List ℕ)
 value_of Words value = where_text (is_words value) value
 value_of Language value = where_text (is_language value) value

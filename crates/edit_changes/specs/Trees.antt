@@ -1,4 +1,4 @@
--- Edits of the trees of a file.
+-- The code's edits of the trees of a file, by the definitions of edits.
 use Rattle.std.specs.Prelude.{◌≡◌, ⊤, ℕ, ◌+◌, List, Option, Some, None, slice_get, slice_set, IfSome, Result, Ok, Err}
 use Rattle.std.specs.List.{All}
 use Rattle.mkv_schema.specs.declared.ids.TheConstants.{INFO, TRACKS, TRACK_ENTRY}
@@ -19,37 +19,38 @@ use Rattle.edit_changes.specs.declared.editing.EditsEnd.{EditsEnd}
 use Rattle.edit_changes.specs.declared.editing.EditsEnd.TheVariants.{Refused, Memory}
 use Rattle.edit_changes.specs.Made.{BecomesOrStays, Sounds}
 
--- The Info was read as one, and the table allows the children of Tracks there.
+-- The trees `t` are ones that a file has: the Info was read as one, and the Matroska table allows the children of Tracks there.
 pub record AreSound (t : Trees) : Type 0 where
   pub info : IfSome t.info (IsRead INFO)
   pub tracks : All (StandsIn TRACKS) t.tracks
 
--- The child `k` of a Tracks with the children `ns` is a TrackEntry.
+-- The child with index `k` of a Tracks with the children `ns` is a TrackEntry.
 pub record IsEntryAt (ns : List Node) (k : ℕ) : Type 0 where
   pub entry : Node
   pub at : slice_get ns k ≡ Some entry
   pub id : id_of entry ≡ TRACK_ENTRY
 
--- the Info after the edit `e`, or its refusal
+-- the Info after the edit `e`, or its refusal; without an Info the edit is refused
 abbrev pub info_edited : Edit → Option Node → Result (Option Node) EditRefusal
 info_edited e None = Err NoInfo
 info_edited e (Some n) = and_then (edited_node e n) (λ m. Ok (Some m))
 
--- the children of Tracks after edit `e` of child `k`
+-- the children `ns` of Tracks after the edit `e` of the one with index `k`, or its refusal. Without such a child the edit is refused.
 abbrev pub entry_edited : Edit → List Node → ℕ → Option Node → Result (List Node) EditRefusal
 entry_edited e ns k None = Err NoSuchTrack
 entry_edited e ns k (Some n) = and_then (edited_node e n) (λ m. Ok (slice_set ns k m))
 
--- the children `ns` of Tracks after edit `e` of the child with the index that was found, if any
+-- the children `ns` of Tracks after the edit `e` of the one with the index that its selector gave, or its refusal
 abbrev pub tracks_edited_at : Edit → List Node → Option ℕ → Result (List Node) EditRefusal
 tracks_edited_at e ns None = Err NoSuchTrack
 tracks_edited_at e ns (Some k) = entry_edited e ns k (slice_get ns k)
 
--- the children of Tracks after edit `e` of the TrackEntry that it selects
+-- the children `ns` of Tracks after the edit `e` of the TrackEntry that it selects, or its refusal
 abbrev pub tracks_edited : Edit → List Node → Result (List Node) EditRefusal
 tracks_edited e ns = tracks_edited_at e ns (place_of e.place ns)
 
--- TrackEntry `k` is edited, and the other children stay.
+-- A call made the edit `e` of the TrackEntry with index `k`: `old` and `new` are the children of Tracks before and after. The others stay, and so
+-- does this one if the edit isn't made.
 pub record MakesEntry {A : Type 0} (result : Result A EditEnd) (old new : List Node) (k : ℕ) (e : Edit) : Type 0 where
   pub before : Node
   pub after : Node
@@ -58,12 +59,12 @@ pub record MakesEntry {A : Type 0} (result : Result A EditEnd) (old new : List N
   pub makes : BecomesOrStays result before after (edited_node e before)
   pub sounds : Sounds before after
 
--- the reason of edit `k + 1`, which isn't made
+-- the end of a sequence of edits if the one with index `k`, from 0, isn't made; a refusal has its number, from 1
 abbrev pub numbered : ℕ → EditEnd → EditsEnd
 numbered k (end.Refused why) = Refused (k + 1) why
 numbered k end.Memory = Memory
 
--- The result is the trees after all edits, or the first refusal; or memory ran out.
+-- The result of the code's edits is `made`, the trees after all of them or the first refusal; or memory ran out.
 abbrev pub MakesAll : Result Trees EditsEnd → Result Trees Refusal → Type 0
 MakesAll (Ok t) made = made ≡ Ok t
 MakesAll (Err (Refused edit why)) made = made ≡ Err (RefusedEdit edit why)

@@ -1,14 +1,14 @@
--- An Element by its parts, and the Voids after an Element, one at a time.
+-- Helpers for Elements that are written: a size field of a given width, and the step over one Void.
 use Rattle.std.specs.Prelude.{ℕ, ◌==◌, ◌&&◌, if◌then◌else◌, List}
 use Rattle.mkv_schema.specs.declared.ids.TheConstants.{VOID}
 use Rattle.mkv_schema.specs.declared.element.Header.{Header}
 use Rattle.mkv_schema.specs.Element.{stated_end}
 use Rattle.output_model.specs.Element.{Element}
 
--- an Element whose size takes `width` bytes
+-- the Element with the ID `id` and the body `body`, whose size field takes `width` bytes
 abbrev pub element_with : ℕ → ℕ → List ℕ → Element
 element_with id width body = record { id = id; width = width; body = body }
 
--- the offset after `h` if it is a Void at `p`, and `p` if not
+-- the offset after the Element with header `h` if it is a Void that begins at offset `p`, or else `p`
 abbrev pub behind_void : ℕ → Header → ℕ
 behind_void p h = if h.id == VOID && h.offset == p then stated_end h else p

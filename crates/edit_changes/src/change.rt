@@ -1,4 +1,4 @@
-//! One change of an Info or a TrackEntry.
+//! One change of a property, in the tree of an Info or a TrackEntry.
 
 ghost use Rattle.std.specs.Prelude.{◌≡◌};
 ghost use Rattle.tree_format.specs.Node.{IsMaster, id_of};
@@ -18,7 +18,7 @@ use mkv_io::Text;
 use requests::{Change, Edit, Selector};
 use std::alloc::{AllocError, Global};
 
-/// Reason why an edit isn't made.
+/// Reason why one edit isn't made.
 #[derive(Clone, Copy, Debug, PartialEq, Eq)]
 pub enum EditEnd {
     /// The edit is refused.
@@ -35,7 +35,8 @@ impl From<AllocError> for EditEnd {
     }
 }
 
-/// Sets `property` to this value, as its only child. It takes the place of the first one, or comes last.
+/// Sets `property` to `value` in `tree`, as its only child with that ID. The new child takes the place of the first old
+/// one, or comes last. A value that isn't one of the property is refused. Used by `apply` for `--set`.
 #[tactic(auto, using(crate::proofs::ChangeLemmas::changes))]
 fn set(alloc: Global, tree: &mut Tree, property: Property, value: &Text) -> Result<(), EditEnd>
     requires master { IsMaster tree.old }
@@ -50,7 +51,8 @@ fn set(alloc: Global, tree: &mut Tree, property: Property, value: &Text) -> Resu
     Ok(())
 }
 
-/// Appends a value, unless the property exists.
+/// Appends a child for `property` with `value` to `tree`. It refuses a value that isn't one of the property, and then a
+/// property that exists. Used by `apply` for `--add`.
 #[tactic(auto, using(crate::proofs::ChangeLemmas::changes))]
 fn add(alloc: Global, tree: &mut Tree, property: Property, value: &Text) -> Result<(), EditEnd>
     requires master { IsMaster tree.old }
@@ -68,7 +70,7 @@ fn add(alloc: Global, tree: &mut Tree, property: Property, value: &Text) -> Resu
     Ok(())
 }
 
-/// Removes every child of `property`, if it may be deleted.
+/// Removes every child of `property` from `tree`; a mandatory property is refused. Used by `apply` for `--delete`.
 #[tactic(auto, using(crate::proofs::ChangeLemmas::changes))]
 fn delete(tree: &mut Tree, property: Property) -> Result<(), EditEnd>
     requires { IsMaster tree.old }
@@ -82,14 +84,15 @@ fn delete(tree: &mut Tree, property: Property) -> Result<(), EditEnd>
     Ok(())
 }
 
-/// Checks whether the selector means Info.
+/// Checks whether the selector `place` names the Info, and not a track.
 pub fn is_info(place: Selector) -> bool
     ensures { result ≡ is_info place }
 {
     matches!(place, Selector::Info)
 }
 
-/// Makes one change of an Info or of a TrackEntry. A refused change leaves it as it was.
+/// Makes the change `edit` in `tree`, the Info or TrackEntry that it selects. A refused change leaves the tree as it
+/// was.
 pub fn apply(alloc: Global, tree: &mut Tree, edit: &Edit) -> Result<(), EditEnd>
     requires master { IsMaster tree.old }
     requires section { id_of tree.old ≡ section_of (is_info edit.now.place) }

@@ -1,4 +1,4 @@
-//! Edits of a file's Info and Tracks.
+//! The edits of a command line, made in sequence on a file's Info and Tracks in memory.
 
 ghost use Rattle.std.specs.Prelude.{◌≡◌, ◌<◌, ◌+◌, ◌^◌, false, true, length, List, Some, slice_get, IfOk, IfSome};
 ghost use Rattle.std.specs.List.{All};
@@ -20,7 +20,7 @@ use mkv_io::List;
 use requests::Edit;
 use std::alloc::Global;
 
-/// Reason why edits aren't made.
+/// Reason why a sequence of edits isn't made.
 #[derive(Clone, Copy, Debug, PartialEq, Eq)]
 pub enum EditsEnd {
     /// An edit, counted from 1, is refused.
@@ -29,7 +29,8 @@ pub enum EditsEnd {
     Memory,
 }
 
-/// Makes the edit `edit` of the Info. Fails if there is no Info, or if the edit is refused.
+/// Makes `edit`, one of the Info, in `info`, the file's Info. Fails if there is no Info, or if the edit is refused;
+/// `info` then stays.
 fn edit_info(alloc: Global, info: &mut Option<Tree>, edit: &Edit) -> Result<(), EditEnd>
     requires section { is_info edit.now.place ≡ true }
     requires info { IfSome info.old (IsRead INFO) }
@@ -42,7 +43,8 @@ fn edit_info(alloc: Global, info: &mut Option<Tree>, edit: &Edit) -> Result<(), 
     }
 }
 
-/// Makes an edit of child `k` of Tracks, a TrackEntry.
+/// Makes `edit`, one of a track, in the child of Tracks with index `k`, which is a TrackEntry. A refused edit leaves it
+/// as it was.
 fn edit_entry(alloc: Global, tracks: &mut Vec<Tree>, k: usize, edit: &Edit) -> Result<(), EditEnd>
     requires section { is_info edit.now.place ≡ false }
     requires inside { k < length tracks.old.items }
@@ -52,7 +54,8 @@ fn edit_entry(alloc: Global, tracks: &mut Vec<Tree>, k: usize, edit: &Edit) -> R
     apply(alloc, &mut tracks[k], edit)
 }
 
-/// Makes an edit of the TrackEntry that it selects.
+/// Makes `edit`, one of a track, in the TrackEntry that it selects among `tracks`, the children of Tracks. A refused
+/// edit leaves them as they were.
 #[tactic(auto, using(crate::proofs::TrackLemmas::tracks))]
 fn edit_track(alloc: Global, tracks: &mut Vec<Tree>, edit: &Edit) -> Result<(), EditEnd>
     requires section { is_info edit.now.place ≡ false }
@@ -66,7 +69,8 @@ fn edit_track(alloc: Global, tracks: &mut Vec<Tree>, edit: &Edit) -> Result<(), 
     edit_entry(alloc, tracks, k, edit)
 }
 
-/// Returns the end of the edits because the edit number `k + 1` isn't made: its refusal, or that memory ran out.
+/// Returns the error for the whole sequence if the edit with index `k`, from 0, ended with `end`. A refusal gets its
+/// number on the command line, `k + 1`.
 fn numbered(end: EditEnd, k: usize) -> EditsEnd
     requires { k + 1 < 2 ^ 64 }
     ensures { result ≡ numbered k end }
@@ -80,7 +84,8 @@ fn numbered(end: EditEnd, k: usize) -> EditsEnd
     }
 }
 
-/// Makes `edits` in sequence, each on the result of the previous one. It fails with the first edit that is refused.
+/// Makes `edits` in sequence on `trees`, each on the result of the previous one, and returns the edited trees. It ends
+/// with the first edit that is refused. No file is touched.
 pub fn edited(alloc: Global, trees: Trees, edits: &List<Edit>) -> Result<Trees, EditsEnd>
     requires { AreSound trees }
     ensures exact { MakesAll result (spec.edited_trees edits.now trees) }

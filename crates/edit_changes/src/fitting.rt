@@ -1,4 +1,4 @@
-//! Bytes that are written into a span.
+//! Bytes of Elements that are made as long as the room that they replace, padded by the header of a Void.
 
 ghost use Rattle.std.specs.Prelude.{◌≡◌, ◌≤◌, ◌<◌, ◌+◌, ◌++◌, ◌^◌, IfOk, IsTrue, ℕ, List, length, option_map};
 ghost use Rattle.ebml_numbers.specs.Number.{is_id, id_octets, size_octets, least_size_width, all_ones};
@@ -10,7 +10,8 @@ use ebml_numbers::{put_id, put_size, size_width};
 use mkv_schema::ids::VOID;
 use std::alloc::{AllocError, Global};
 
-/// Returns the header of a Void of `total` bytes in all. Its size takes one byte if that is enough, and eight if not.
+/// Returns the header of a Void that has `total` bytes, at least 2, with its body, which isn't written. Its size field
+/// takes one byte for up to 128 bytes in all, and eight for more.
 #[tactic(auto, unfolding(ebml_numbers::specs::Number::is_id), using(crate::proofs::SpanLemmas::voids))]
 pub fn void_header(alloc: Global, total: u64) -> Result<Vec<u8>, AllocError>
     requires { total ≤ 2 ^ 48 }
@@ -25,7 +26,7 @@ pub fn void_header(alloc: Global, total: u64) -> Result<Vec<u8>, AllocError>
     Ok(out)
 }
 
-/// Returns an Element whose size takes `width` bytes.
+/// Returns the bytes of an Element with the ID `id` and the body `body`, whose size field takes `width` bytes.
 fn element(alloc: Global, id: u32, body: &[u8], width: u8) -> Result<Vec<u8>, AllocError>
     requires id { IsTrue (is_id id) }
     requires some { 1 ≤ width }
@@ -39,7 +40,8 @@ fn element(alloc: Global, id: u32, body: &[u8], width: u8) -> Result<Vec<u8>, Al
     Ok(out)
 }
 
-/// Returns the least number of bytes for the size `len`; one byte more is enough too.
+/// Returns the least number of bytes of a size field for a body of `len` bytes. One byte more is possible too, so that
+/// an Element can fill one byte that is left.
 fn width_of(len: u64) -> u8
     requires { len ≤ 2 ^ 48 }
     ensures exact { result ≡ least_size_width len }
@@ -51,7 +53,7 @@ fn width_of(len: u64) -> u8
     size_width(len)
 }
 
-/// Returns the least length in bytes of an Element with a body of `len` bytes.
+/// Returns the length in bytes of the shortest Element with the ID `id` and a body of `len` bytes.
 #[tactic(auto, using(crate::proofs::SpanLemmas::lengths))]
 pub fn shortest(id: u32, len: u64) -> u64
     requires id { IsTrue (is_id id) }
@@ -62,7 +64,7 @@ pub fn shortest(id: u32, len: u64) -> u64
     u64::from(put_id(id).len) + u64::from(width_of(len)) + len
 }
 
-/// Returns the Element with this body in its fewest bytes.
+/// Returns the shortest Element with the ID `id` and the body `body`.
 pub fn whole(alloc: Global, id: u32, body: &[u8]) -> Result<Vec<u8>, AllocError>
     requires id { IsTrue (is_id id) }
     requires short { length body.now ≤ 2 ^ 48 }
@@ -71,7 +73,8 @@ pub fn whole(alloc: Global, id: u32, body: &[u8]) -> Result<Vec<u8>, AllocError>
     element(alloc, id, body, width_of(body.len() as u64))
 }
 
-/// Returns the bytes of an Element with this body for a span of `room` bytes, or None if it is longer.
+/// Returns bytes for the ID `id` and the body `body` that fill `room` bytes together with the body of a Void after the
+/// Element. Returns None if the shortest Element is longer than `room`. If one byte is left, the size field takes it.
 #[tactic(auto, using(crate::proofs::SpanLemmas::fits))]
 pub fn fit(alloc: Global, id: u32, body: &[u8], room: u64) -> Result<Option<Vec<u8>>, AllocError>
     requires id { IsTrue (is_id id) }
@@ -96,8 +99,9 @@ pub fn fit(alloc: Global, id: u32, body: &[u8], room: u64) -> Result<Option<Vec<
     Ok(Some(out))
 }
 
-/// Returns the bytes that replace an Element by one with this body. If the new Element is longer than `room`, they
-/// are the header of a Void.
+/// Returns the bytes for a new Element with the ID `id` and the body `body` over an old one of `room` bytes. The room
+/// includes the Voids after the old one. If the new one is longer, they are the header of a Void, since the new one is
+/// appended to the file.
 pub fn overwrite_or_void(
     alloc: Global,
     id: u32,

@@ -1,8 +1,9 @@
 #![tactic(auto)]
 
-//! Edits of a file's properties: the reasons to refuse them, and the edits of its Info and of the children of its
-//! Tracks. The crate also has the room of Elements (RFC 8794, section 11.3.2, Void Element; RFC 9559, sections 5.1.1,
-//! SeekHead Element, 5.1.2, Info Element, and 5.1.4, Tracks Element).
+//! Edits of a file's properties, before any byte is written. The crate has the table of properties, the changes of the
+//! Info and of the children of Tracks, and the reasons to refuse them. It also fits Elements into the room of old ones.
+//! See RFC 8794, section 11.3.2 (Void Element), and RFC 9559, sections 5.1.1 (SeekHead Element), 5.1.2 (Info Element)
+//! and 5.1.4 (Tracks Element).
 
 mod change;
 mod editing;

@@ -1,6 +1,6 @@
-//! The properties that can be edited.
+//! The properties that `propedit` can edit.
 
-/// Kind of values of a property, with their spelling.
+/// Kind of the values of a property, with the spelling on the command line.
 #[derive(Clone, Copy, Debug, PartialEq, Eq)]
 pub enum ValueKind {
     /// Text in UTF-8 without a zero byte.
@@ -17,11 +17,11 @@ pub enum ValueKind {
     Flag,
 }
 
-/// Element of a property, kind of its values, and whether it may be deleted.
+/// Property that can be edited: ID of its Element, kind of its values, and whether it may be deleted.
 #[derive(Clone, Copy, Debug, PartialEq, Eq)]
 pub struct Property {
     pub id: u32,
     pub kind: ValueKind,
-    /// The property may be deleted.
+    /// False for a mandatory property.
     pub deletable: bool,
 }

@@ -1,4 +1,4 @@
-//! Reasons to refuse edits.
+//! Reasons to refuse edits; the command prints them.
 
 use mkv_io::Damage;
 
@@ -22,28 +22,31 @@ pub enum EditRefusal {
     Mandatory,
 }
 
-/// Kind of room that is missing for moving an Info or a Tracks to the end of the file, in the order of the checks.
+/// Kind of room that is missing if an Info or a Tracks moves to the end of the file, in the order of the checks.
+/// `Refusal::NoRoom` has the numbers `need` and `have`.
 #[derive(Clone, Copy, Debug, PartialEq, Eq)]
 pub enum Room {
-    /// Nothing may be appended to the file: an Element or the Segment ends at `need`, and the file at `have`.
+    /// Nothing may be appended to the file, since an Element or the Segment ends at offset `need`, and the file at
+    /// `have`.
     Tail,
-    /// The Element that moves must be the only one with its ID: 1 is needed, and `have` exist.
+    /// An Element that moves must be the only one with its ID: `need` is 1, and `have` exist.
     Twin,
     /// The new SeekHead needs more bytes than the old one and the Voids after it have.
     SeekHead,
-    /// The Segment's new size needs more bytes than the old one has.
+    /// The Segment's new size needs a size field of `need` bytes, and the old one has `have`.
     SegmentSize,
 }
 
-/// Reason to refuse edits, in the order of the checks.
+/// Reason to refuse all edits of a command line, in the order of the checks.
 #[derive(Clone, Copy, Debug, PartialEq, Eq)]
 pub enum Refusal {
     /// The file can't be read up to the Elements that describe it.
     Damaged(Damage),
     /// The first refused edit, counted from 1, with the reason.
     Edit { edit: u64, why: EditRefusal },
-    /// Too many bytes to write, or too many Elements in a new Info or Tracks.
+    /// More than 16 MiB to write, or too many Elements in a new Info or Tracks: `length` bytes in all, `nodes` Elements
+    /// in the largest.
     EditTooLarge { length: u64, nodes: u64 },
-    /// The Elements that move have no room.
+    /// An Element that moves has no room: `need` bytes, Elements or an end offset, by `why`, against `have`.
     NoRoom { why: Room, need: u64, have: u64 },
 }

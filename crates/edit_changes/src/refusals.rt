@@ -1,4 +1,4 @@
-//! Missing room for moving an Info or a Tracks to the end of the file.
+//! Refusals of a move of Info or Tracks to the end of the file, if something there has no room.
 
 ghost use Rattle.std.specs.Prelude.{◌≡◌, ◌≤◌, ◌<◌, ◌^◌, IfSome};
 ghost use Rattle.mkv_schema.specs.Element.{stated_end};
@@ -12,7 +12,8 @@ use ebml_numbers::{Size, put_id, size_width as least_width};
 use element_reader::{Header, Outline};
 use mkv_schema::ids::{CLUSTER, SEGMENT};
 
-/// Returns the end that `header` states, unless it is `total`, the end of the file.
+/// Returns the end offset that `header` states, unless it is `total`, the length of the file. A header of unknown size
+/// states none.
 fn other_end(total: u64, header: &Header) -> Option<u64>
     ensures { stated_end header.now < 2 ^ 64 → result ≡ plan.other_end total header.now }
 {
@@ -26,7 +27,8 @@ fn other_end(total: u64, header: &Header) -> Option<u64>
     Some(end)
 }
 
-/// Returns the end that the last Element of level 1 states, if it is a Cluster and the end isn't `total`.
+/// Returns the end offset that `last`, the last Element at level 1, states, if it is a Cluster. It is None if the end
+/// is `total`, the length of the file.
 fn cluster_end(total: u64, last: Option<Header>) -> Option<u64>
     ensures { IfSome last (λ h. stated_end h < 2 ^ 64) → result ≡ plan.cluster_end total last }
 {
@@ -37,7 +39,8 @@ fn cluster_end(total: u64, last: Option<Header>) -> Option<u64>
     other_end(total, &last)
 }
 
-/// Returns the end that prevents appending to the file.
+/// Returns the first end offset that prevents appending to the file, if any. It is the Segment's stated end, the last
+/// Cluster's, or the end of a Segment of unknown size, whichever isn't the file's end.
 fn wrong_end(outline: &Outline) -> Option<u64>
     ensures { EndsFit outline.now → result ≡ plan.wrong_end outline.now }
 {
@@ -54,7 +57,7 @@ fn wrong_end(outline: &Outline) -> Option<u64>
     Some(outline.end())
 }
 
-/// Returns the refusal if nothing may be appended to the file.
+/// Returns the refusal `Room::Tail` if nothing may be appended to the file with this outline.
 pub fn tail_refusal(outline: &Outline) -> Option<Refusal>
     ensures { EndsFit outline.now → result ≡ plan.tail_refusal outline.now }
 {
@@ -66,7 +69,7 @@ pub fn tail_refusal(outline: &Outline) -> Option<Refusal>
     })
 }
 
-/// Returns the refusal if `need` is more than `have`.
+/// Returns the refusal `Room` of kind `why` if `need` is more than `have`.
 pub fn lacks(why: Room, need: u64, have: u64) -> Option<Refusal>
     ensures { result ≡ plan.lacks why need have }
 {
@@ -76,7 +79,8 @@ pub fn lacks(why: Room, need: u64, have: u64) -> Option<Refusal>
     None
 }
 
-/// Returns the refusal if an Element that moves isn't the only one with its ID.
+/// Returns the refusal `Room::Twin` if the file has more than one Element with the ID `id` at level 1. Such an Element
+/// can't move.
 pub fn twin_refusal(outline: &Outline, id: u32) -> Option<Refusal>
     ensures { result ≡ plan.twin_of outline.now.others id }
 {
@@ -91,7 +95,7 @@ pub fn twin_refusal(outline: &Outline, id: u32) -> Option<Refusal>
     None
 }
 
-/// Returns the number of bytes of the Segment's size.
+/// Returns the number of bytes of the Segment's size field, from its header.
 #[tactic(auto, unfolding(ebml_numbers::specs::Number::is_id), using(crate::proofs::SpanLemmas::ids))]
 pub fn size_width(segment: &Header) -> u64
     ensures { result ≡ plan.size_width segment.now }
@@ -102,7 +106,8 @@ pub fn size_width(segment: &Header) -> u64
         .saturating_sub(u64::from(put_id(SEGMENT).len))
 }
 
-/// Returns the refusal if the size of a Segment that ends at `end` needs more bytes than the old size has.
+/// Returns the refusal `Room::SegmentSize` if the Segment ends at the offset `end` after the edit, and its size field
+/// has too few bytes for that. A Segment of unknown size isn't refused.
 pub fn size_refusal(segment: &Header, end: u64) -> Option<Refusal>
     requires { end ≤ 2 ^ 50 }
     ensures { result ≡ plan.size_refusal segment.now end }

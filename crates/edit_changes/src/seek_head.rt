@@ -1,4 +1,4 @@
-//! The SeekHead that replaces the old one.
+//! The body of the SeekHead that replaces the file's old one when an Element has moved.
 
 ghost use Rattle.std.specs.Prelude.{◌≡◌, ◌++◌, IfOk, IsTrue, OnOk, filter, flat_map};
 ghost use Rattle.std.specs.List.{AllPass};
@@ -29,7 +29,8 @@ fn is_seek_of(id: u32, tree: &Tree) -> bool
     }
 }
 
-/// Checks whether `tree` isn't a Seek of one of `ids`.
+/// Checks whether `tree`, a child of the old SeekHead, is copied to the new one. A Seek of one of `ids` isn't, since
+/// they get new Seeks.
 fn stays(ids: &[u32], tree: &Tree) -> bool
     requires { AllPass is_id ids.now }
     ensures { result ≡ spec.stays ids.now tree.now }
@@ -42,7 +43,8 @@ fn stays(ids: &[u32], tree: &Tree) -> bool
     true
 }
 
-/// Appends the children of the old SeekHead that stay in a SeekHead with new Seeks for `ids`.
+/// Appends to `out` the children `old` of the old SeekHead that are copied to the new one. The Seeks of `ids` aren't,
+/// since they have new ones.
 fn put_staying(out: &mut Bytes, ids: &[u32], old: &[Tree]) -> Result<(), AllocError>
     requires { AllPass is_id ids.now }
     ensures { OnOk result (out.new ≡ out.old ++ flat_map octets (filter (spec.stays ids.now) old.now)) }
@@ -55,7 +57,8 @@ fn put_staying(out: &mut Bytes, ids: &[u32], old: &[Tree]) -> Result<(), AllocEr
     Ok(())
 }
 
-/// Returns the body of a SeekHead with `seeks`, the Seeks of `ids`, and the children of the old one that stay.
+/// Returns the body of the new SeekHead: `seeks`, the new Seeks of `ids`, followed by the children in `old` that aren't
+/// Seeks of `ids`. `old` has the children of the old SeekHead.
 pub fn seek_head_body(
     alloc: Global,
     ids: &[u32],

@@ -1,4 +1,4 @@
-//! Selection of a TrackEntry.
+//! Selection of the TrackEntry that an edit changes.
 
 ghost use Rattle.std.specs.Prelude.{◌≡◌, IfSome};
 ghost use Rattle.std.specs.List.{All};
@@ -13,7 +13,8 @@ use mkv_schema::ids::{TRACK_ENTRY, TRACK_NUMBER, TRACK_TYPE, TRACK_UID};
 use mkv_schema::uint_default;
 use requests::Selector;
 
-/// Returns the unsigned integer with this `id` in a TrackEntry, or the table's default, or 0.
+/// Returns the unsigned integer of the child with this `id` in the TrackEntry `entry`. If it is absent, it is the
+/// default of the Matroska table, or 0.
 fn uint_in(entry: &Tree, id: u32) -> u64
     requires entry { IsSoundOf ENTRY_ID entry.now }
     requires uint { HasUint ENTRY_ID id }
@@ -25,7 +26,8 @@ fn uint_in(entry: &Tree, id: u32) -> u64
     }
 }
 
-/// Checks whether a child of Tracks is a TrackEntry that the selector matches, apart from its position.
+/// Checks whether `tree`, a child of Tracks, is a TrackEntry of the kind that `selector` names: by TrackType, TrackUID
+/// or TrackNumber. The position of the TrackEntry among them isn't checked.
 #[tactic(auto, using(crate::proofs::SelectLemmas::entries))]
 fn fits(selector: Selector, tree: &Tree) -> bool
     requires { StandsIn TRACKS tree.now }
@@ -43,7 +45,7 @@ fn fits(selector: Selector, tree: &Tree) -> bool
     }
 }
 
-/// Returns the position among the matching TrackEntries, counted from 1.
+/// Returns the position, from 1, of the selected TrackEntry among those that `fits` accepts; 0 for the Info.
 fn turn_of(selector: Selector) -> u64
     ensures { result ≡ spec.turn_of selector }
 {
@@ -56,7 +58,8 @@ fn turn_of(selector: Selector) -> u64
     }
 }
 
-/// Returns the index of the selected TrackEntry among the children of Tracks.
+/// Returns the index, from 0, of the TrackEntry that `selector` names among `tracks`, the children of Tracks; None if
+/// there is none.
 #[tactic(auto, using(crate::proofs::SelectLemmas::places))]
 pub fn place_of(selector: Selector, tracks: &[Tree]) -> Option<usize>
     requires { All (StandsIn TRACKS) tracks.now }

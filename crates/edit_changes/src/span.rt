@@ -1,4 +1,4 @@
-//! The room of an Element of level 1.
+//! The room of an Element at level 1: its own bytes and the Voids that follow it directly.
 
 ghost use Rattle.std.specs.Prelude.{◌≡◌, ◌≤◌, ◌==◌, if◌then◌else◌};
 ghost use Rattle.mkv_schema.specs.Element.{stated_end};
@@ -11,7 +11,7 @@ use element_reader::{Header, Outline};
 use elements::known;
 use mkv_schema::ids::VOID;
 
-/// Returns the offset after an Element, as its header states it.
+/// Returns the offset after the Element with this header, whose size is known. `total` is the length of the file.
 fn end_of(total: u64, header: &Header) -> u64
     requires inside { stated_end header.now ≤ total }
     ensures exact { result ≡ stated_end header.now }
@@ -19,7 +19,8 @@ fn end_of(total: u64, header: &Header) -> u64
     header.body + known(header.size)
 }
 
-/// Returns the offset after `next` if it is a Void at `end`, and `end` if not.
+/// Returns the offset after `next` if it is a Void that begins at `end`, or else `end`. It is one step over the Voids
+/// after an Element.
 fn end_behind(total: u64, end: u64, next: &Header) -> u64
     requires next { stated_end next.now ≤ total }
     requires end { end ≤ total }
@@ -32,7 +33,8 @@ fn end_behind(total: u64, end: u64, next: &Header) -> u64
     end
 }
 
-/// Returns the number of bytes of an Element of level 1 with the Voids that follow it directly.
+/// Returns the room in bytes of the Element at level 1 with this `header`: its length and the Voids that follow it
+/// directly.
 #[tactic(auto, using(crate::proofs::OutlineLemmas::spans))]
 pub fn span_of(outline: &Outline, header: &Header) -> u64
     requires { IsInFile outline.now.total header.now }
@@ -47,7 +49,7 @@ pub fn span_of(outline: &Outline, header: &Header) -> u64
     end.saturating_sub(header.offset)
 }
 
-/// Returns 1 for an Element with this `id`, and 0 for another.
+/// Returns 1 if the Element with this header has the ID `id`, and 0 if not.
 fn one_of(id: u32, header: &Header) -> u64
     ensures exact { result ≡ if header.now.id == id then 1 else 0 }
     ensures most { result ≤ 1 }
@@ -55,7 +57,7 @@ fn one_of(id: u32, header: &Header) -> u64
     if header.id == id { 1 } else { 0 }
 }
 
-/// Returns the number of Elements of level 1 with this `id`, other than Clusters.
+/// Returns the number of Elements with the ID `id`, other than Clusters, at level 1 of the file with this outline.
 #[tactic(auto, using(crate::proofs::OutlineLemmas::numbers))]
 pub fn number_of(outline: &Outline, id: u32) -> u64
     ensures { result ≡ plan.number_of id outline.now.others }

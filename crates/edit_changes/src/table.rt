@@ -11,7 +11,7 @@ use mkv_schema::ids::{
     LANGUAGE_BCP47, MUXING_APP, NAME, SEGMENT_FILENAME, TITLE, WRITING_APP,
 };
 
-/// Property with its name.
+/// Property with its name on the command line.
 #[derive(Clone, Copy)]
 pub struct Row(pub &'static str, pub Property);
 
@@ -157,14 +157,14 @@ const TRACK_TABLE: [Row; 13] = [
     ),
 ];
 
-/// Returns the properties of Info if `info` holds, or of a track.
+/// Returns the table of the Info's properties if `info` is true, or else of a track's.
 fn table(info: bool) -> &'static [Row]
     ensures { map shown result.now ≡ spec.table_of info }
 {
     if info { &INFO_TABLE } else { &TRACK_TABLE }
 }
 
-/// Returns the property with the name `name` in a table.
+/// Returns the property with the name `name` in the table `rows`.
 fn row_of(rows: &[Row], name: &str) -> Option<Property>
     ensures { result ≡ spec.in_table name.now (map shown rows.now) }
 {
@@ -176,7 +176,8 @@ fn row_of(rows: &[Row], name: &str) -> Option<Property>
     None
 }
 
-/// Returns the property with this name, of Info if `info` holds, or of a track.
+/// Returns the property with the name `name`: the Info's if `info` is true, or else a track's. It is None for an
+/// unknown name.
 #[tactic(auto, unfolding(crate::specs::Property::property_of), using(crate::proofs::PropertyLemmas::properties))]
 pub fn property_of(info: bool, name: &str) -> Option<Property>
     ensures exact { result ≡ spec.property_of info name.now }

@@ -1,4 +1,4 @@
-//! The values of properties.
+//! Checks of the values of properties, and the child Element that a value gives.
 
 ghost use Rattle.std.specs.Prelude.{◌≡◌, ℕ, IfOk, IfSome, IsTrue, option_map};
 ghost use Rattle.std.specs.List.{list_all};
@@ -15,7 +15,7 @@ use mkv_io::Text;
 use requests::{is_language_tag, number};
 use std::alloc::{AllocError, Global};
 
-/// Checks whether `n` is from `least` to `most`.
+/// Checks whether `n` is at least `least` and at most `most`.
 fn is_between(least: u64, most: u64, n: u64) -> bool
     ensures { result ≡ spec.is_between least most n }
 {
@@ -57,7 +57,7 @@ fn are_printable(octets: &[u8]) -> bool
     octets.iter().all(|&octet| is_printable(octet))
 }
 
-/// Checks whether a value is a text without a zero byte.
+/// Checks whether a value is a text without a zero byte: the form of names and titles.
 fn is_words(value: &str) -> bool
     ensures { result ≡ spec.is_words value.now }
 {
@@ -78,7 +78,8 @@ fn is_codec(octets: &[u8]) -> bool
     is_between(1, 63, octets.len() as u64) && are_printable(octets)
 }
 
-/// Makes a text leaf, if `passes` holds.
+/// Makes a child with the ID `id` and the text `text`. Returns None if `passes`, the result of the check of the value,
+/// is false.
 fn text_where(alloc: Global, id: u32, passes: bool, text: &str) -> Result<Option<Tree>, AllocError>
     requires { IsTrue (is_id id) }
     ensures exact { IfOk result (λ tree. tree ≡ option_map (leaf id 0) (spec.where_text passes text.now)) }
@@ -90,7 +91,8 @@ fn text_where(alloc: Global, id: u32, passes: bool, text: &str) -> Result<Option
     Ok(Some(text_leaf(alloc, id, text)?))
 }
 
-/// Reads a decimal number and makes a leaf of it, if it is from `least` to `most`.
+/// Makes a child with the ID `id` and the unsigned integer that `octets` spells in decimal. Returns None unless it is a
+/// number from `least` to `most`.
 fn number_where(
     alloc: Global,
     id: u32,
@@ -108,7 +110,8 @@ fn number_where(
     }
 }
 
-/// Makes the property's leaf with this value, if the value has the property's kind.
+/// Makes the child Element for `property` with `value` as it is on the command line. Returns None if the value isn't
+/// one of the property's kind.
 pub fn leaf_of(alloc: Global, property: Property, value: &Text) -> Result<Option<Tree>, AllocError>
     requires { IsTrue (is_id property.id) }
     ensures exact { IfOk result (λ tree. tree ≡ option_map (leaf property.id 0) (spec.value_of property.kind value.now)) }
