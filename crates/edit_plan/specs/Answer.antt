@@ -1,4 +1,4 @@
--- Results of the calls that make writes.
+-- Results of the calls that plan an edit, against the definitions of edits. Nothing is promised about a failed read or if memory runs out.
 use Rattle.std.specs.Prelude.{◌≡◌, ⊤, Bool, true, false, List, map, Result, Ok, Err}
 use Rattle.std.specs.declared.alloc.Global.{Global}
 use Rattle.std.specs.declared.vec.Vec.{Vec}
@@ -21,34 +21,36 @@ use Rattle.edit_changes.specs.Plan.{if_editable}
 use Rattle.edit_changes.specs.Records.{trees_of}
 use Rattle.edit_plan.specs.Opening.{IfOutline}
 
--- The result is `found`: the writes or their refusal; or a read failed, or memory ran out.
+-- The result has `found`, the writes or their refusal that the definitions give; or a read failed, or memory ran out.
 abbrev pub Answers : Result (List disk.Write) Refusal → Result (Vec Write Global) PlanEnd → Type 0
 Answers found (Ok writes) = found ≡ Ok (map written writes.items)
 Answers found (Err (end.Refused r)) = found ≡ Err r
 Answers found (Err end.ReadFault) = ⊤
 Answers found (Err end.Memory) = ⊤
 
--- The end of planning is a failed read.
+-- Planning ended because a read failed.
 abbrev pub is_plan_fault : PlanEnd → Bool
 is_plan_fault (end.Refused r) = false
 is_plan_fault end.ReadFault = true
 is_plan_fault end.Memory = false
 
--- The result is `found`: the value or its refusal; or a read failed, or memory ran out.
+-- The result has `found`, the value or its refusal that the definitions give; or a read failed, or memory ran out.
 abbrev pub Gives : {A : Type 0} → Result A Refusal → Result A PlanEnd → Type 0
 Gives found (Ok x) = found ≡ Ok x
 Gives found (Err (end.Refused r)) = found ≡ Err r
 Gives found (Err end.ReadFault) = ⊤
 Gives found (Err end.Memory) = ⊤
 
--- The result is the writes of `parts` of a file, or their refusal, if the content is visible to the proof.
+-- The result has the writes of `parts` with the rule `rewriting` for the file `file` with this outline, or their refusal. It is promised if the
+-- file's content is visible to the proof.
 abbrev pub AnswersWrites : {S : Type 0} → Ghosts S → S → FileId → Rewriting → FileOutline → List Part → Result (Vec Write Global) PlanEnd → Type 0
 AnswersWrites r src file rewriting outline parts result = IfTold r src file (λ bytes. Answers (writes_in rewriting bytes outline parts) result)
 
--- The result is the editable parts of a file with this outline, or its refusal, if the content is visible to the proof.
+-- The result has the editable parts of the file `file` with this outline, or its refusal, if the content is visible to the proof.
 abbrev pub ReadsTrees : {S : Type 0} → Ghosts S → S → FileId → FileOutline → Result Trees OutlineEnd → Type 0
 ReadsTrees r src file outline result = IfOutlined r src file outline (λ bytes. ReadsAs (trees_of bytes outline.segment) result)
 
--- The result is the editable parts of a file with this outline, or the refusal of its edits. The content must be visible to the proof.
+-- The result has the editable parts of the file `file` with this outline, or the refusal of its edits. It is promised if the content is visible to
+-- the proof.
 abbrev pub AnswersTrees : {S : Type 0} → Ghosts S → S → FileId → FileOutline → Result Trees PlanEnd → Type 0
 AnswersTrees r src file outline result = IfOutline r src file outline (λ bytes. Gives (if_editable (trees_of bytes outline.segment)) result)

@@ -1,4 +1,4 @@
--- A SeekHead in the form of the definitions of edits.
+-- The SeekHead that the code has read, in the form of the definitions of edits.
 use Rattle.edit_changes.specs.SeekHead as spec
 use Rattle.edit_plan.specs.declared.found.SeekHead.{SeekHead}
 use Rattle.std.specs.Prelude.{◌≡◌, Option, option_map, Result, IfOk}
@@ -7,11 +7,11 @@ use Rattle.mkv_io.specs.declared.reads.Reads.{Ghosts}
 use Rattle.mkv_io.specs.declared.outside.FileId.{FileId}
 use Rattle.element_reader.specs.Outline.{FileOutline}
 
--- a SeekHead of the code, as the definitions of edits have it
+-- the code's SeekHead `s`, as the definitions of edits have it
 abbrev pub found : SeekHead → spec.SeekHeadAt
 found s = record { header = s.header; seeks = s.seeks }
 
--- The result is the first SeekHead of a file with this outline, if the content is visible to the proof.
+-- The result has the SeekHead of the file `file` with this outline, or none, if the file's content is visible to the proof.
 abbrev pub FindsSeekHead : {S E : Type 0} → Ghosts S → S → FileId → FileOutline → Result (Option SeekHead) E → Type 0
 FindsSeekHead r src file outline result =
     IfTold r src file (λ bytes. IfOk result (λ head. option_map found head ≡ spec.seek_head_of bytes outline))

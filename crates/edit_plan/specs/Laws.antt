@@ -1,4 +1,4 @@
--- Laws that hold for every plan.
+-- Laws that hold for the plan of every edit.
 use Rattle.std.specs.Prelude.{◌≡◌, ◌≤◌, ℕ, ◌==◌, Bool, true, false, List, length, Some, Ok, IfSome}
 use Rattle.std.specs.List.{All, AllPairs}
 use Rattle.ebml_numbers.specs.Number.{is_id}
@@ -13,21 +13,21 @@ use Rattle.sidecar_edit.specs.Writes.{Write}
 use Rattle.edit_changes.specs.Span.{span_of}
 use Rattle.edit_changes.specs.Plan.{Part, plan_of, recorded, stands, writes_of_parts}
 
--- The writes of edits to a file that isn't too long are in order, and their record is the plan of an edit. There are at most eight writes, of at
--- most 16 MiB together. Each has bytes and follows the previous one, and none begins past the file's end.
+-- The writes `ws` of `edits` to a file with the content `bytes` are sorted and don't overlap, and a journal can have them. There are at most eight
+-- writes, of at most 16 MiB together. Each has bytes, and none begins past the file's end. The file has at most 2^48 bytes.
 abbrev pub PlansAreInOrder : Type 0
 PlansAreInOrder =
     (bytes : List ℕ) (edits : List Edit) (ws : List Write) → length bytes ≤ LONGEST_FILE → plan_of bytes edits ≡ Ok ws → IsPlan (recorded bytes ws)
 
--- The old Element of part `p` is the first with its ID in `list`, and has its room.
+-- The old Element of part `p` is the first with its ID in `list`, the headers at level 1. The part has its offset and room.
 pub record IsFirst (list : List Header) (p : Part) : Type 0 where
   pub header : Header
   pub first : first_of p.id list ≡ Some header
   pub place : p.place ≡ header.offset
   pub room : p.room ≡ span_of header list
 
--- Part `p` rewrites an Element of `list`, the Elements of level 1. It is neither a Void nor a SeekHead. The new Element has its ID, and the old
--- one is the first with this ID.
+-- Part `p` rewrites an Element of `list`, the headers at level 1. It is neither a Void nor a SeekHead. The new Element has its ID, and the old one is
+-- the first with this ID.
 pub record IsPartOf (list : List Header) (p : Part) : Type 0 where
   pub valid : is_id p.id ≡ true
   pub void : (p.id == VOID) ≡ false
@@ -35,13 +35,14 @@ pub record IsPartOf (list : List Header) (p : Part) : Type 0 where
   pub new : IfSome p.element (λ e. e.id ≡ p.id)
   pub old : stands p ≡ true → IsFirst list p
 
--- `ps` are at most five parts, with different IDs.
+-- The list `ps` has at most five parts, with different IDs, of the file whose headers at level 1 are `list`.
 pub record ArePartsOf (list : List Header) (ps : List Part) : Type 0 where
   pub few : length ps ≤ 5
   pub parts : All (IsPartOf list) ps
   pub distinct : AllPairs (λ p q. (p.id == q.id) ≡ false) ps
 
--- The writes of any parts are in order, whatever the Seeks of the SeekHead are, and whether or not it is always written.
+-- The writes `ws` of any parts `ps` are sorted, and a journal can have them. The SeekHead may get any Seeks, and may be written always or only if a
+-- part moves.
 abbrev pub PartsAreInOrder : Type 0
 PartsAreInOrder =
     (bytes : List ℕ) (held : ℕ) (o : FileOutline) (ids : List ℕ) (always : Bool) (ps : List Part) (ws : List Write)

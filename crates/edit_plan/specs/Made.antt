@@ -1,4 +1,4 @@
--- Results of the steps of a plan, in the terms of the definitions of edits.
+-- Results of the steps that make the writes of an edit, in the terms of the definitions of edits.
 use Rattle.std.specs.Prelude.{◌≡◌, ◌≤◌, ℕ, ◌+◌, if◌then◌else◌, List, ◌++◌, map, Option, None, unwrap_or, option_map, Result, IfOk, true, Some}
 use Rattle.std.specs.List.{insert as inserted_at, list_any}
 use Rattle.std.specs.declared.alloc.Global.{Global}
@@ -17,47 +17,48 @@ use Rattle.edit_plan.specs.declared.write.Write.{Write}
 use Rattle.edit_plan.specs.Found.{found}
 use Rattle.edit_plan.specs.Shown.{shown, written}
 
--- The list `new` of parts is `old` with the parts `more` appended.
+-- The list `new` of parts is `old` with the parts `more` appended, as the definitions have them.
 abbrev pub AddsParts : List spec.Part → List Part → List Part → Type 0
 AddsParts more old new = map shown new ≡ map shown old ++ more
 
--- the bytes of Element `e` fitted into `room` bytes, or as it is if it doesn't fit
+-- the bytes that fill `room` bytes with the Element `e`, or its shortest bytes if it is longer
 abbrev pub in_room : Element → ℕ → List ℕ
 in_room e room = unwrap_or (fitted e room) (octets_of e)
 
--- `body` is the body of the SeekHead with the Seeks of `ids`, if the parts `ps` are rewritten.
+-- The bytes `body` are the body of the new SeekHead, with Seeks for `ids` after the parts `ps` are rewritten. `head` is the old SeekHead.
 abbrev pub IsSeekHead : List ℕ → FileOutline → List Part → Option SeekHead → List ℕ → Type 0
 IsSeekHead ids o ps head body = element SEEK_HEAD body ≡ spec.seek_head ids o (map shown ps) (option_map found head)
 
--- The writes make a Segment end at `end`, if the field of its size has at most eight bytes.
+-- The result has the write of the size field for a Segment that ends at the offset `end`. It is promised if the field has at most eight bytes.
 abbrev pub WritesSize : {E : Type 0} → Header → ℕ → Result (Vec Write Global) E → Type 0
 WritesSize segment end result = spec.size_width segment ≤ 8 → IfOk result (λ writes. map written writes.items ≡ spec.size_writes segment end)
 
--- The writes begin with the write of the Segment's size for this end, if the field has at most eight bytes.
+-- The result has the write of the size field for a Segment that ends at the offset `end`, and then the writes `behind`. It is promised if the field
+-- has at most eight bytes.
 abbrev pub BeginsWithSize : {E : Type 0} → Header → ℕ → List disk.Write → Result (Vec Write Global) E → Type 0
 BeginsWithSize segment end behind result = spec.size_width segment ≤ 8 → IfOk result (λ all. map written all.items ≡ spec.size_writes segment end ++ behind)
 
--- the writes of parts if something moves, with a SeekHead with the Seeks of `ids`
+-- the writes of the parts `ps` together with the SeekHead, which gets new Seeks for `ids`, or the first refusal; `head` is the old SeekHead
 abbrev pub writes_moving : List ℕ → FileOutline → List Part → Option SeekHead → Result (List disk.Write) Refusal
 writes_moving ids o ps head = spec.writes_moving ids o (map shown ps) (option_map found head)
 
--- the refusal of appending to the file, if a part moves there
+-- the refusal to append to a file with the outline `o`, if one of the parts `ps` moves there
 abbrev pub tail_refused : FileOutline → List spec.Part → Option Refusal
 tail_refused o ps = if list_any spec.moves ps then spec.tail_refusal o else None
 
--- the refusal of a Segment's size that is too short after `added` bytes are appended, if a part moves to the end of the file
+-- the refusal of a Segment's size field that is too short for `added` bytes more. There is none unless one of the parts `ps` is appended to the file.
 abbrev pub size_refused : FileOutline → List spec.Part → ℕ → Option Refusal
 size_refused o ps added = if list_any spec.moves ps then spec.size_refusal o.segment (o.total + added) else None
 
--- If a part moves to the file's end, the Segment may grow by `added` bytes.
+-- If one of the parts `ps` is appended to the file, the Segment's size field has enough bytes for `added` bytes more.
 abbrev pub SizeFits : FileOutline → List spec.Part → ℕ → Type 0
 SizeFits o ps added = list_any spec.moves ps ≡ true → spec.size_refusal o.segment (o.total + added) ≡ None
 
--- The part moves to the file's end, and `octets` is its body.
+-- The new Element of the part is appended to the file, and `octets` is its body.
 abbrev pub MovesWith : Part → List ℕ → Type 0
 MovesWith part octets = (spec.moves (shown part) ≡ true) × (part.body ≡ Some octets)
 
--- A write with place `at` is inserted at index `k`, whatever its bytes are.
+-- A write at the offset `at`, whatever its bytes are, is inserted into `writes`, sorted by offset, at the index `k`, from 0.
 abbrev pub IsPlaceAmong : List Write → ℕ → ℕ → Type 0
 IsPlaceAmong writes at k = (octets : List ℕ)
     → spec.inserted (spec.write at octets) (map written writes) ≡ inserted_at (map written writes) k (spec.write at octets)

@@ -1,4 +1,4 @@
--- The refusals of parts, and their writes.
+-- The refusals of writes that move Elements, and the writes before they are checked.
 use Rattle.std.specs.Prelude.{◌≡◌, ◌≤◌, ℕ, ◌+◌, if◌then◌else◌, List, [], ◌∷◌, length, map, Option, None, unwrap_or}
 use Rattle.std.specs.List.{list_any}
 use Rattle.element_reader.specs.Outline.{FileOutline}
@@ -13,7 +13,8 @@ use Rattle.edit_plan.specs.declared.prepared.Prepared.{Prepared}
 use Rattle.edit_plan.specs.Shown.{written}
 use Rattle.edit_plan.specs.Made.{in_room, size_refused, tail_refused}
 
--- the first refusal of parts: `length` bytes are written and `added` bytes are appended; the SeekHead needs `need` bytes and has `room`
+-- the first refusal of the parts `ps`, in the order of the checks. `length` bytes are written in all, and `added` of them appended. The SeekHead
+-- needs `need` bytes and has `room`.
 abbrev pub refused : FileOutline → List Part → ℕ → ℕ → ℕ → ℕ → Option Refusal
 refused o ps length added need room =
     first_refusal (too_large length ps
@@ -22,12 +23,13 @@ refused o ps length added need room =
     ∷ lacks SeekHead need room
     ∷ size_refused o ps added ∷ [])
 
--- The ends that headers state have 64 bits, and the Segment's size has at most eight bytes.
+-- In the outline `o`, the ends that headers state have 64 bits, and the Segment's size field has at most eight bytes. The writes of a move are
+-- promised only then.
 pub record CanMove (o : FileOutline) : Type 0 where
   pub ends : EndsFit o
   pub size : size_width o.segment ≤ 8
 
--- `p` has the writes of the parts `ps` and of a SeekHead with the Seeks of `ids`, before any check.
+-- The writes `p` are made of the parts `ps` and the SeekHead with new Seeks for `ids`, before any check. `old` is the old SeekHead.
 pub record IsPrepared (ids : List ℕ) (o : FileOutline) (ps : List Part) (old : Option SeekHeadAt) (p : Prepared) : Type 0 where
   pub head : p.head.items ≡ in_room (seek_head ids o ps old) (room_of old o.others)
   pub need : p.need ≡ length (octets_of (seek_head ids o ps old))

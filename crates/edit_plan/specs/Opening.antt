@@ -1,4 +1,4 @@
--- The outline of a file that can be edited.
+-- The outline of a file whose properties are edited.
 use Rattle.std.specs.Prelude.{◌≡◌, ℕ, List, Result, Ok}
 use Rattle.mkv_io.specs.declared.damage.Damage.{Damage}
 use Rattle.mkv_io.specs.Results.{and_then, unless}
@@ -7,10 +7,10 @@ use Rattle.mkv_io.specs.Sources.{IfTold}
 use Rattle.mkv_io.specs.declared.reads.Reads.{Ghosts}
 use Rattle.mkv_io.specs.declared.outside.FileId.{FileId}
 
--- the outline, unless level 1 is damaged
+-- the outline of a file with the content `bytes`, or the damage for which it is refused; damage at level 1 is refused too
 abbrev pub opening : List ℕ → Result FileOutline Damage
 opening bytes = and_then (outline_in 0 bytes) (λ (o : FileOutline). unless o.damage o)
 
--- `P` holds of a file's content, if it is visible to the proof and has this outline.
+-- `P` holds of the content of the file `file` in the state `src`, if the content is visible to the proof and has this outline.
 abbrev pub IfOutline : {S : Type 0} → Ghosts S → S → FileId → FileOutline → (List ℕ → Type 0) → Type 0
 IfOutline r src file outline P = IfTold r src file (λ bytes. outline_in 0 bytes ≡ Ok outline → P bytes)

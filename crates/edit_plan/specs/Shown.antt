@@ -1,4 +1,4 @@
--- Parts and writes in the form of the definitions of edits.
+-- Parts and writes of the code, in the form of the definitions of edits.
 use Rattle.std.specs.Prelude.{ℕ, List, map, Result}
 use Rattle.std.specs.Option.{option_map}
 use Rattle.element_reader.specs.Outline.{FileOutline}
@@ -10,14 +10,14 @@ use Rattle.edit_plan.specs.declared.part.Part.{Part}
 use Rattle.edit_plan.specs.declared.seek_rule.Rewriting.{Rewriting}
 use Rattle.edit_plan.specs.declared.write.Write.{Write}
 
--- an Element of the code that is rewritten, as the definitions have it
+-- the code's part `p`, as the definitions of edits have it
 abbrev pub shown : Part → spec.Part
 shown p = record { id = p.id; place = p.place; room = p.room; nodes = p.nodes; element = option_map (element p.id) p.body }
 
--- bytes and their place in the file
+-- the code's write `w`, as the definitions of edits have it
 abbrev pub written : Write → disk.Write
 written w = record { at = w.at; bytes = w.octets.items }
 
--- the writes of parts, with the SeekHead of the rule `r`
+-- the writes of `parts` to a file with the content `bytes` and the outline `o`, or the first refusal. The rule `r` is for the SeekHead.
 abbrev pub writes_in : Rewriting → List ℕ → FileOutline → List Part → Result (List disk.Write) Refusal
 writes_in r bytes o parts = spec.writes_of_parts r.ids.now r.always bytes o (map shown parts)

@@ -1,10 +1,10 @@
--- The Seeks of a SeekHead: RFC 9559, section 5.1.1 (SeekHead Element).
+-- The IDs that a SeekHead gets Seeks for: RFC 9559, section 5.1.1 (SeekHead Element).
 use Rattle.std.specs.Prelude.{◌≡◌, ◌==◌, ℕ, false, List}
 use Rattle.std.specs.List.{All, AllPass}
 use Rattle.ebml_numbers.specs.Number.{is_id}
 use Rattle.mkv_schema.specs.declared.ids.TheConstants.{CLUSTER}
 
--- `ids` are valid IDs of Elements of level 1 other than Clusters.
+-- Seeks can be made for `ids`: they are valid IDs of Elements other than Clusters.
 pub record AreSought (ids : List ℕ) : Type 0 where
   pub valid : AllPass is_id ids
   pub others : All (λ id. (id == CLUSTER) ≡ false) ids

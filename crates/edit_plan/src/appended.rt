@@ -1,4 +1,4 @@
-//! The Elements that move to the end of the file.
+//! The rewritten Elements that are appended to the file, because they are longer than the room of the old ones.
 
 ghost use Rattle.std.specs.Prelude.{◌≡◌, false, IfOk, MatchOption, map};
 ghost use Rattle.std.specs.List.{list_any};
@@ -14,8 +14,8 @@ use element_reader::Outline;
 use output_model::Seek;
 use std::alloc::{AllocError, Global};
 
-/// Returns the body of the new Element, if the Element is longer than its room. Such an Element moves to the end of
-/// the file.
+/// Returns the body of the new Element of `part`, if it is appended to the file since it is longer than its room.
+/// Returns None if it stays at its place or is removed.
 fn moving_body(part: &Part) -> Option<&[u8]>
     ensures { MatchOption result (spec.moves (shown part.now) ≡ false) (λ body. MovesWith part.now body.now) }
 {
@@ -26,14 +26,14 @@ fn moving_body(part: &Part) -> Option<&[u8]>
     Some(body)
 }
 
-/// Checks whether the new Element moves to the end of the file.
+/// Checks whether the new Element of `part` is longer than its room, so that it is appended to the file.
 fn moves(part: &Part) -> bool
     ensures { result ≡ spec.moves (shown part.now) }
 {
     moving_body(part).is_some()
 }
 
-/// Checks whether one of the parts moves.
+/// Checks whether the new Element of one of `parts` is appended to the file.
 pub fn any_moves(parts: &[Part]) -> bool
     ensures { result ≡ list_any spec.moves (map shown parts.now) }
 {
@@ -45,8 +45,8 @@ pub fn any_moves(parts: &[Part]) -> bool
     false
 }
 
-/// Returns the Seeks of the parts that move; the first of them is at offset `from` inside the Segment. An offset that
-/// exceeds 64 bits fails as out of memory.
+/// Returns the Seeks of the Elements in `parts` that are appended to the file. The first of them is at offset `from` in
+/// the Segment's data. An offset that exceeds 64 bits fails as out of memory.
 pub fn moving_seeks(alloc: Global, from: u64, parts: &[Part]) -> Result<Vec<Seek>, AllocError>
     ensures { IfOk result (λ seeks. seeks.items ≡ seeks_from from (spec.elements_moving (map shown parts.now))) }
 {
@@ -64,7 +64,8 @@ pub fn moving_seeks(alloc: Global, from: u64, parts: &[Part]) -> Result<Vec<Seek
     Ok(seeks)
 }
 
-/// Returns the bytes that are appended to the file: the Elements that move, in sequence.
+/// Returns the bytes that are appended to the file: the new Elements in `parts` that are longer than their room, in
+/// sequence.
 pub fn appended(alloc: Global, parts: &[Part]) -> Result<Vec<u8>, AllocError>
     ensures { IfOk result (λ octets. octets.items ≡ spec.appended (map shown parts.now)) }
 {
@@ -78,7 +79,8 @@ pub fn appended(alloc: Global, parts: &[Part]) -> Result<Vec<u8>, AllocError>
     Ok(out)
 }
 
-/// Returns the refusal of the first part that moves and isn't the only Element with its ID.
+/// Returns the refusal for the first of `parts` that moves to the file's end and isn't the only Element with its ID, if
+/// any.
 pub fn duplicates(outline: &Outline, parts: &[Part]) -> Option<Refusal>
     ensures { result ≡ spec.twin_refusal outline.now.others (spec.moving (map shown parts.now)) }
 {
@@ -92,7 +94,7 @@ pub fn duplicates(outline: &Outline, parts: &[Part]) -> Option<Refusal>
     None
 }
 
-/// Returns the greatest number of Elements in one part.
+/// Returns the greatest number of Elements in one of `parts`, which the limit of Elements is checked with.
 pub fn most_nodes(parts: &[Part]) -> u64
     ensures { result ≡ spec.most_nodes (map shown parts.now) }
 {

@@ -1,4 +1,4 @@
-//! The writes of parts that are rewritten, with or without the SeekHead.
+//! The writes of rewritten Elements: each at its place, or with moved Elements and a new SeekHead.
 
 ghost use Rattle.std.specs.Prelude.{◌≡◌, ◌≤◌, ◌+◌, ◌++◌, ◌^◌, [], ◌∷◌, None, false, IfErr, IfOk, IfSome, length, map, option_map, sum_by};
 ghost use Rattle.element_reader.specs.Collected.{IsInFile};
@@ -27,7 +27,8 @@ use element_reader::{Header, Outline};
 use mkv_schema::ids::SEEK_HEAD;
 use std::alloc::{AllocError, Global};
 
-/// Returns the writes of parts that all stay at their places.
+/// Returns the writes of `parts` if none of them moves and the SeekHead stays, sorted by offset; or the refusal for too
+/// much to write.
 pub fn place_writes(alloc: Global, parts: &[Part]) -> Result<Vec<Write>, PlanEnd>
     ensures exact { Answers (spec.writes_in_place (map shown parts.now)) result }
     ensures cause { IfErr result (λ end. is_plan_fault end ≡ false) }
@@ -40,8 +41,8 @@ pub fn place_writes(alloc: Global, parts: &[Part]) -> Result<Vec<Write>, PlanEnd
     Ok(ascending(alloc, writes)?)
 }
 
-/// Returns the number of bytes written: at the old places, at the end of the file, in the SeekHead and in the
-/// Segment's size.
+/// Returns the number of bytes of all writes together. They are `places` over the old Elements, `added` at the end of
+/// the file, `head` of the SeekHead and `size` of the Segment's size.
 fn moving_len(places: &[Write], added: u64, head: u64, size: u64) -> Result<u64, AllocError>
     ensures exact { IfOk result (λ n. n ≡ sum_by (λ w. length w.bytes) (map written places.now) + added + head + size) }
 {
@@ -50,7 +51,8 @@ fn moving_len(places: &[Write], added: u64, head: u64, size: u64) -> Result<u64,
     sum(length, size)
 }
 
-/// Prepares the writes of `parts` and of the SeekHead with the Seeks of `ids`, before any check.
+/// Prepares the writes of `parts`, and of the SeekHead with new Seeks for `ids`, for `moving_writes`, which then checks
+/// them. `head` is the old SeekHead. The file isn't touched.
 fn prepared(
     alloc: Global,
     ids: &[u32],
@@ -84,7 +86,7 @@ fn prepared(
     })
 }
 
-/// Appends the writes of `second` to `first`.
+/// Returns the writes `first` followed by the writes `second`.
 fn joined(mut first: Vec<Write>, second: Vec<Write>) -> Result<Vec<Write>, AllocError>
     ensures { IfOk result (λ all. map written all.items ≡ map written first.items ++ map written second.items) }
 {
@@ -94,7 +96,7 @@ fn joined(mut first: Vec<Write>, second: Vec<Write>) -> Result<Vec<Write>, Alloc
     Ok(first)
 }
 
-/// Sorts `first` and `writes` by their places.
+/// Returns `first` and `writes` together, sorted by offset.
 fn sorted(alloc: Global, first: Write, mut writes: Vec<Write>) -> Result<Vec<Write>, AllocError>
     ensures { IfOk result (λ all. map written all.items ≡ spec.ascending (written first ∷ map written writes.items)) }
 {
@@ -102,7 +104,8 @@ fn sorted(alloc: Global, first: Write, mut writes: Vec<Write>) -> Result<Vec<Wri
     ascending(alloc, writes)
 }
 
-/// Puts the write of the Segment's size before `writes`, and `last` after them. The Segment then ends at `end`.
+/// Returns the write of the Segment's size, then `writes`, then `last`, the write at the end of the file. The Segment
+/// ends at the offset `end` afterwards.
 fn assembled(
     alloc: Global,
     segment: &Header,
@@ -120,7 +123,8 @@ fn assembled(
     Ok(all)
 }
 
-/// Returns the writes of `parts` and of the SeekHead with the Seeks of `ids`.
+/// Returns the writes of `parts`, and of the SeekHead with new Seeks for `ids`, sorted by offset; or the first refusal.
+/// `head` is the old SeekHead. It is for an edit that moves an Element, or that always writes the SeekHead.
 pub fn moving_writes(
     alloc: Global,
     ids: &[u32],

@@ -1,4 +1,4 @@
-//! The Elements of level 1 that are rewritten.
+//! The new Info and Tracks, as Elements at level 1 that replace the old ones.
 
 ghost use Rattle.std.specs.Prelude.{◌≡◌, ◌≤◌, ◌<◌, ◌^◌, ◌++◌, true, false, ◌==◌, IfOk, OnOk, IsTrue, length, map, flat_map};
 ghost use Rattle.ebml_numbers.specs.Number.{is_id};
@@ -20,7 +20,8 @@ use mkv_schema::ids::{INFO, TRACKS};
 use requests::Edit;
 use std::alloc::{AllocError, Global};
 
-/// Returns the bytes of `nodes`, in sequence. More bytes than a file can have fail as out of memory.
+/// Returns the bytes of the Elements `nodes`, in sequence: the body of their parent. More bytes than a file can have
+/// fail as out of memory.
 fn body_of(alloc: Global, nodes: &[Tree]) -> Result<Bytes, AllocError>
     ensures exact { IfOk result (λ body. body ≡ flat_map octets nodes.now) }
     ensures short { IfOk result (λ body. length body ≤ 2 ^ 48) }
@@ -35,7 +36,7 @@ fn body_of(alloc: Global, nodes: &[Tree]) -> Result<Bytes, AllocError>
     Ok(body)
 }
 
-/// Makes an Element of level 1 with new children.
+/// Makes the part that replaces the Element with this `header` at level 1 by one with the children `nodes`.
 fn part(
     alloc: Global,
     outline: &Outline,
@@ -58,7 +59,8 @@ fn part(
     })
 }
 
-/// Appends the first Element with this `id` and new children, if there is one.
+/// Appends to `parts` the first Element with the ID `id` at level 1, with the new children `nodes`. It appends nothing
+/// if there is none.
 #[tactic(auto, using(crate::proofs::PartLemmas::firsts))]
 fn add_part(
     alloc: Global,
@@ -78,7 +80,7 @@ fn add_part(
     Ok(())
 }
 
-/// Returns the children of the Info; none if there is no Info.
+/// Returns the children of the Info in the edited `trees`; none if there is no Info.
 fn info_nodes(trees: &Trees) -> &[Tree]
     ensures { result.now ≡ spec.info_nodes trees.now.info }
 {
@@ -88,21 +90,22 @@ fn info_nodes(trees: &Trees) -> &[Tree]
     }
 }
 
-/// Checks whether an edit is about Info.
+/// Checks whether one of `edits` is about the Info.
 fn are_of_info(edits: &List<Edit>) -> bool
     ensures { result ≡ change.are_of_info edits.now }
 {
     edits.as_slice().iter().any(|edit| is_info(edit.place))
 }
 
-/// Checks whether an edit is about Tracks.
+/// Checks whether one of `edits` is about a track.
 fn are_of_tracks(edits: &List<Edit>) -> bool
     ensures { result ≡ change.are_of_tracks edits.now }
 {
     edits.as_slice().iter().any(|edit| !is_info(edit.place))
 }
 
-/// Returns the Info and the Tracks that edits are about, with their edited children.
+/// Returns the Info and the Tracks with their edited children in `trees`, in this order, each if one of `edits` is
+/// about it.
 #[tactic(auto, unfolding(ebml_numbers::specs::Number::is_id))]
 pub fn parts(
     alloc: Global,

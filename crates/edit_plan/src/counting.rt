@@ -1,4 +1,4 @@
-//! Counts of the Elements that are written.
+//! Counts of the Elements and bytes that are written. A count beyond 64 bits fails as out of memory.
 
 ghost use Rattle.std.specs.Prelude.{◌≡◌, ◌+◌, IfOk};
 ghost use Rattle.tree_format.specs.Node.{nodes_of};
@@ -7,15 +7,15 @@ ghost use Rattle.tree_format.specs.Standing.{kept, kept_all};
 use ebml_tree::Tree;
 use std::alloc::AllocError;
 
-/// Adds two numbers. A sum above 64 bits fails as out of memory.
+/// Returns `a + b`. A sum above 64 bits fails as out of memory.
 pub(crate) fn sum(a: u64, b: u64) -> Result<u64, AllocError>
     ensures { IfOk result (λ n. n ≡ a + b) }
 {
     a.checked_add(b).ok_or(AllocError)
 }
 
-/// Returns the number of Elements written for `tree`, itself included. An Element that isn't written, such as Void,
-/// has no bytes.
+/// Returns the number of Elements that are written for `tree`, itself included. A child that isn't written, such as a
+/// Void, counts as none.
 fn kept(tree: &Tree) -> Result<u64, AllocError>
     ensures { IfOk result (λ n. n ≡ kept tree.now) }
 {
@@ -28,7 +28,8 @@ fn kept(tree: &Tree) -> Result<u64, AllocError>
     Ok(count)
 }
 
-/// Returns the number of Elements written for `trees`, the children of one master.
+/// Returns the number of Elements that are written for `trees`, the children of one master, with all that is inside
+/// them.
 pub(crate) fn kept_all(trees: &[Tree]) -> Result<u64, AllocError>
     ensures { IfOk result (λ n. n ≡ kept_all (nodes_of trees.now)) }
 {

@@ -1,7 +1,8 @@
 #![tactic(auto)]
 
-//! The plan of edits of a file's properties. It reads the editable parts and makes the writes over the file (RFC
-//! 9559, sections 5.1.1, SeekHead Element, 5.1.2, Info Element, and 5.1.4, Tracks Element).
+//! The plan of an edit: the bytes that `propedit` and `reindex` write over a file, and the journal's record of them. It
+//! reads the parts that edits change, and never writes itself. See RFC 9559, sections 5.1.1 (SeekHead Element), 5.1.2
+//! (Info Element) and 5.1.4 (Tracks Element).
 
 mod appended;
 mod at_seek_head;

@@ -1,4 +1,4 @@
-//! The Seeks of the new SeekHead.
+//! The new Seeks of a SeekHead after an edit, each with the position of an Element in the Segment's data.
 
 ghost use Rattle.std.specs.Prelude.{◌≡◌, ◌==◌, false, IfOk, find, map};
 ghost use Rattle.mkv_schema.specs.declared.ids.TheConstants.{CLUSTER};
@@ -12,7 +12,7 @@ use element_reader::Outline;
 use output_model::Seek;
 use std::alloc::{AllocError, Global};
 
-/// Checks whether an Element with this `id` is removed.
+/// Checks whether one of `parts` removes the Element with the ID `id`, so that it gets no Seek.
 fn goes(parts: &[Part], id: u32) -> bool
     ensures { result ≡ spec.goes (map shown parts.now) id }
 {
@@ -24,7 +24,8 @@ fn goes(parts: &[Part], id: u32) -> bool
     false
 }
 
-/// Returns the Seek of the appended Element with this `id`.
+/// Returns the Seek for the ID `id` in `moved`, if it is there. `moved` has the Seeks of the Elements that are appended
+/// to the file.
 fn appended_seek(moved: &[Seek], id: u32) -> Option<Seek>
     ensures { result ≡ find (λ s. s.id == id) moved.now }
 {
@@ -36,7 +37,8 @@ fn appended_seek(moved: &[Seek], id: u32) -> Option<Seek>
     None
 }
 
-/// Returns the Seek of the first existing Element with this `id`, unless it is removed.
+/// Returns the Seek of the first existing Element with the ID `id` at level 1. Returns None if there is none, or if one
+/// of `parts` removes it.
 fn standing_seek(outline: &Outline, parts: &[Part], id: u32) -> Option<Seek>
     requires { (id == CLUSTER) ≡ false }
     ensures { result ≡ spec.standing_seek outline.now (map shown parts.now) id }
@@ -51,7 +53,8 @@ fn standing_seek(outline: &Outline, parts: &[Part], id: u32) -> Option<Seek>
     })
 }
 
-/// Returns the Seek for `id`, if there is one: to the appended Element, or else to the first existing one.
+/// Returns the Seek for the ID `id`: in `moved`, the Seeks of the appended Elements, or else of the first existing
+/// Element, if any.
 fn seek_for(outline: &Outline, parts: &[Part], moved: &[Seek], id: u32) -> Option<Seek>
     requires { (id == CLUSTER) ≡ false }
     ensures { result ≡ spec.seek_for moved.now outline.now (map shown parts.now) id }
@@ -62,7 +65,8 @@ fn seek_for(outline: &Outline, parts: &[Part], moved: &[Seek], id: u32) -> Optio
     }
 }
 
-/// Returns the Seeks of `ids`, as far as they exist; `moved` has the Seeks of the appended Elements.
+/// Returns the Seeks for `ids`, in this order, without those that have no Element. `moved` has the Seeks of the
+/// appended Elements.
 fn seeks_for(
     alloc: Global,
     ids: &[u32],
@@ -82,7 +86,7 @@ fn seeks_for(
     Ok(seeks)
 }
 
-/// Returns the Seeks of `ids`, as far as they exist.
+/// Returns the new Seeks for `ids`, in this order, after `parts` are written; an ID without an Element has none.
 pub fn seeks(
     alloc: Global,
     ids: &[u32],

@@ -1,4 +1,4 @@
-//! The SeekHead of a file.
+//! Reading of the SeekHead that a file has before an edit.
 
 ghost use Rattle.std.specs.Prelude.{◌≡◌, IfOk, IfSome};
 ghost use Rattle.mkv_io.specs.Bounds.{ReadsUpTo};
@@ -15,7 +15,7 @@ use mkv_io::{FileId, List, ReadEnd, Reads};
 use mkv_schema::ids::SEEK_HEAD;
 use std::alloc::Global;
 
-/// Returns the first SeekHead of level 1, if it is before the first Cluster.
+/// Returns the header of the first SeekHead at level 1, if it is before the first Cluster.
 fn seek_head_in(outline: &Outline) -> Option<Header>
     ensures exact { result ≡ spec.seek_head_in outline.now }
     ensures inside { IfSome result (IsInFile outline.now.total) }
@@ -27,7 +27,8 @@ fn seek_head_in(outline: &Outline) -> Option<Header>
     }
 }
 
-/// Reads the first SeekHead, before the first Cluster. If it is longer than 16 MiB or damaged, there is none.
+/// Reads the first SeekHead of `file`, if it is before the first Cluster; `outline` is the file's. One that is longer
+/// than 16 MiB or damaged counts as none. It fails only if a read fails or memory runs out.
 pub fn first_seek_head<R: Reads>(
     alloc: Global,
     outline: &Outline,

@@ -1,4 +1,4 @@
-//! An Element of level 1 that is rewritten.
+//! An Element at level 1 that an edit rewrites or removes.
 
 ghost use Rattle.std.specs.Prelude.{◌≡◌, ◌≤◌, ◌^◌, true, length};
 ghost use Rattle.std.specs.Option.{option_map_or};

@@ -1,4 +1,4 @@
-//! The writes of parts.
+//! The writes of an edit, made of the Elements that it rewrites.
 
 ghost use Rattle.std.specs.Prelude.{◌≡◌, ◌≤◌, ◌^◌};
 ghost use Rattle.mkv_io.specs.Bounds.{ReadsUpTo};
@@ -20,8 +20,9 @@ use element_reader::Outline;
 use mkv_io::{FileId, ReadEnd, Reads};
 use std::alloc::Global;
 
-/// Returns the writes of `parts`, by ascending places, or the first refusal. If the SeekHead is written, the first
-/// SeekHead is read.
+/// Returns the writes that replace `parts` in `file`, sorted by offset, or the first refusal. `outline` lists the
+/// file's Elements at level 1. If a part moves, or `rewriting` asks for it, the old SeekHead is read and a new one is
+/// written. Nothing is written yet.
 pub fn parts_writes<R: Reads>(
     alloc: Global,
     rewriting: &Rewriting,

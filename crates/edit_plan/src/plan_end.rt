@@ -1,4 +1,4 @@
-//! Reasons why there is no plan.
+//! Reasons why an edit has no plan.
 
 ghost use Rattle.std.specs.Prelude.{◌≡◌};
 ghost use Rattle.edit_plan.specs.declared.plan_end.PlanEnd.TheVariants as end;
@@ -7,7 +7,7 @@ use edit_changes::Refusal;
 use mkv_io::Failed;
 use std::alloc::AllocError;
 
-/// Reason why edits have no plan.
+/// Reason why an edit has no plan, so that the file stays as it is.
 #[derive(Clone, Copy, Debug, PartialEq, Eq)]
 pub enum PlanEnd {
     /// The edits are refused.

@@ -1,4 +1,4 @@
-//! The writes of edits.
+//! The writes of the edits of a `propedit`.
 
 ghost use Rattle.std.specs.Prelude.{◌≡◌, ◌*◌, ◌^◌, Ok, false, IfErr, IfOk};
 ghost use Rattle.mkv_io.specs.Bounds.{ReadsUpTo};
@@ -24,10 +24,10 @@ use mkv_schema::ids::{INFO, TRACKS};
 use requests::Edit;
 use std::alloc::Global;
 
-/// IDs of the Elements that edits rewrite; the SeekHead gets their Seeks.
+/// IDs of the Elements that edits rewrite. If one of them moves, the SeekHead gets new Seeks for both.
 const EDITED: [u32; 2] = [INFO, TRACKS];
 
-/// Reads the outline of a file without damage at level 1.
+/// Reads the outline of `file`, its Elements at level 1, for an edit. Damage at level 1 is refused.
 #[tactic(auto, using(crate::proofs::StepLemmas::opens))]
 fn open_outline<R: Reads>(alloc: Global, src: &mut R, file: FileId) -> Result<Outline, PlanEnd>
     requires { IsLive R.Reads src.old file }
@@ -51,7 +51,8 @@ fn open_outline<R: Reads>(alloc: Global, src: &mut R, file: FileId) -> Result<Ou
     Ok(outline)
 }
 
-/// Reads the editable parts of a file with this outline.
+/// Reads the parts of `file` that edits change, its Info and Tracks; `outline` is the file's. Damage or an invalid
+/// value in them is refused.
 #[tactic(auto, using(crate::proofs::StepLemmas::opens))]
 fn open_trees<R: Reads>(
     alloc: Global,
@@ -75,7 +76,7 @@ fn open_trees<R: Reads>(
     }
 }
 
-/// Makes the edits in sequence, or returns the first refusal.
+/// Makes `edits` in sequence on `trees`, in memory, or returns the first refusal.
 fn edit_trees(alloc: Global, trees: Trees, edits: &List<Edit>) -> Result<Trees, PlanEnd>
     requires { AreSound trees }
     ensures exact { Gives (change.edited_trees edits.now trees) result }
@@ -88,8 +89,8 @@ fn edit_trees(alloc: Global, trees: Trees, edits: &List<Edit>) -> Result<Trees, 
     }
 }
 
-/// Returns the writes of `edits` to a file, by ascending places, or the first refusal: for the file, for an edit, or
-/// for the writes. Each edit is made on the result of the previous one. Nothing is written.
+/// Returns the writes of `edits` to `file`, sorted by offset, or the first reason to refuse the file, an edit, or the
+/// writes. Each edit is made on the result of the previous one. The file is read, and nothing is written.
 pub fn edit_writes<R: Reads>(
     alloc: Global,
     src: &mut R,

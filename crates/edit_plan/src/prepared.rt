@@ -1,11 +1,12 @@
-//! The writes before the check for room.
+//! The writes of an edit before they are checked.
 
 use crate::write::Write;
 
-/// Writes of parts and of the SeekHead, before any check.
+/// Writes of an edit that rewrites the SeekHead, before the check whether it is refused.
 #[derive(Drop)]
 pub struct Prepared {
-    /// New SeekHead, as long as its room; if it is longer, or there is no room, in its shortest form.
+    /// Bytes of the new SeekHead, which fill its room. If it is longer, or there is no room, they are its shortest
+    /// form.
     pub head: Vec<u8>,
     /// Least length of the new SeekHead in bytes.
     pub need: u64,

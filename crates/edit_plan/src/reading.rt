@@ -1,4 +1,4 @@
-//! The editable parts of a file.
+//! Reading of the parts of a file that edits change.
 
 ghost use Rattle.std.specs.Prelude.{◌≡◌, ◌+◌, ◌*◌, false, List, Ok, IfErr, IfOk, IfSome};
 ghost use Rattle.mkv_schema.specs.declared.ids.TheConstants.{TRACKS as TRACKS_ID};
@@ -22,7 +22,8 @@ use mkv_schema::ids::{CHAPTERS, INFO, TAGS, TRACKS};
 use std::alloc::Global;
 use track_records::read_tracks;
 
-/// Checks a Tracks. A file without Tracks is refused.
+/// Returns the Tracks that was read, after a check of its entries. A file without Tracks is refused, at the offset of
+/// its `segment`.
 fn good_tracks(alloc: Global, segment: &Header, tracks: Option<Tree>) -> Result<Tree, OutlineEnd>
     requires { IfSome tracks (IsRead TRACKS_ID) }
     ensures exact { ReadsAs (spec.good_tracks segment.now tracks) result }
@@ -43,9 +44,9 @@ fn good_tracks(alloc: Global, segment: &Header, tracks: Option<Tree>) -> Result<
     }
 }
 
-/// Reads the editable parts of a file with this outline, or returns the first refusal. Info and then Tracks are
-/// checked first for damage inside, and then for a refused value. Then Attachments, Chapters and Tags are checked for
-/// damage inside.
+/// Reads the Info and Tracks of `file`, whose outline is `outline`, or returns the first refusal. Each of the two is
+/// checked for damage inside, and then for a refused value. Then Attachments, Chapters and Tags are checked for damage
+/// inside.
 #[tactic(auto, using(crate::proofs::TreesLemmas::reads))]
 pub fn read_trees<R: Reads>(
     alloc: Global,

@@ -1,4 +1,5 @@
-//! The journal's record of the writes of edits.
+//! The journal's record of an edit: it is written before the file is touched, so that an interrupted edit can be
+//! finished.
 
 ghost use Rattle.std.specs.Prelude.{◌≡◌, ◌≤◌, ◌+◌, ◌*◌, min, IfOk, MatchOption, length, map, flat_map};
 ghost use Rattle.mkv_io.specs.Faults.{HasCause};
@@ -23,7 +24,7 @@ use requests::Edit;
 use sidecar_edit::{KEPT, MAX_OCTETS, MAX_WRITES, Place, Plan, read_first};
 use std::alloc::{AllocError, Global};
 
-/// Returns the offset and length of each write.
+/// Returns the offset and length of each of `writes`, as the journal has them.
 fn places_of(alloc: Global, writes: &[Write]) -> Result<Vec<Place>, AllocError>
     ensures { IfOk result (λ places. places.items ≡ map spec.place (map written writes.now)) }
 {
@@ -37,7 +38,7 @@ fn places_of(alloc: Global, writes: &[Write]) -> Result<Vec<Place>, AllocError>
     Ok(places)
 }
 
-/// Returns the bytes of the writes, in sequence.
+/// Returns the bytes of `writes`, in sequence: the journal's payload.
 fn payload_of(alloc: Global, writes: &[Write]) -> Result<Bytes, AllocError>
     ensures { IfOk result (λ payload. payload ≡ flat_map (λ (w : disk.Write). w.bytes) (map written writes.now)) }
 {
@@ -48,7 +49,9 @@ fn payload_of(alloc: Global, writes: &[Write]) -> Result<Bytes, AllocError>
     Ok(payload)
 }
 
-/// Returns the end of the last place, if the places are in order after `from`, in a file of `old_len` bytes.
+/// Returns the offset after the last of `places`, if they are in ascending order from the offset `from` on. None of
+/// them may be empty, or begin past the end of a file of `old_len` bytes with the previous places written. Returns None
+/// if not.
 fn end_behind(old_len: u64, from: u64, places: &[Place]) -> Option<u64>
     requires short { old_len ≤ LONGEST }
     requires small { sum_of places.now ≤ MOST }
@@ -64,7 +67,7 @@ fn end_behind(old_len: u64, from: u64, places: &[Place]) -> Option<u64>
     end_behind(old_len, place.at + place.len, rest)
 }
 
-/// Makes the record of `writes` over a file of `old_len` bytes that begins with `first`. Writes that can't be
+/// Makes the journal's record of `writes` over a file of `old_len` bytes that begins with `first`. Writes that can't be
 /// recorded fail as out of memory; the writes of edits can.
 pub fn recorded(
     alloc: Global,
@@ -99,9 +102,9 @@ pub fn recorded(
     )
 }
 
-/// Plans `edits` of the file on `disk`: returns the record of their writes, or the first refusal. All memory of an
-/// edit is taken here, and nothing is written. If others write to the file meanwhile, the writes may be ones that no
-/// content has; the call then fails with `Memory`.
+/// Plans `edits` of the file on `disk`, for `propedit`: returns the journal's record of their writes, or the first
+/// refusal. All memory that an edit needs is taken here, and nothing is written. If others write to the file meanwhile,
+/// the writes may be ones that no content has; the call then fails with `Memory`.
 pub fn plan<D: Disk>(alloc: Global, disk: &mut D, edits: &List<Edit>) -> Result<Plan, PlanEnd>
     requires { IsLive D.Reads disk.old MEDIA }
     ensures exact { OfReads D.Disk.own disk.old (λ M S. Gives (record_of M edits.now) result) }

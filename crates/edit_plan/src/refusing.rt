@@ -1,4 +1,4 @@
-//! Reasons to refuse writes.
+//! Reasons to refuse the writes of an edit.
 
 ghost use Rattle.std.specs.Prelude.{◌≡◌, ◌≤◌, ◌+◌, ◌^◌, None, if◌then◌else◌, map};
 ghost use Rattle.edit_changes.specs.Plan as spec;
@@ -14,7 +14,8 @@ use ebml_tree::MAX_NODES;
 use edit_changes::{MAX_WRITTEN, Refusal, Room, lacks, size_refusal, tail_refusal};
 use element_reader::Outline;
 
-/// Returns the refusal if there are too many bytes to write, or too many Elements in one.
+/// Returns the refusal if `length`, the bytes of all writes, is more than 16 MiB, or if one of `parts` has too many
+/// Elements.
 pub fn too_large(length: u64, parts: &[Part]) -> Option<Refusal>
     ensures exact { result ≡ spec.too_large length (map shown parts.now) }
     ensures small { result ≡ None → length ≤ MOST }
@@ -26,7 +27,8 @@ pub fn too_large(length: u64, parts: &[Part]) -> Option<Refusal>
     None
 }
 
-/// Returns the refusal if something is appended and nothing may be.
+/// Returns the refusal if one of `parts` is appended to the file, and the Segment or the last Cluster doesn't end with
+/// the file.
 fn end_refusal(outline: &Outline, parts: &[Part]) -> Option<Refusal>
     ensures { EndsFit outline.now → result ≡ tail_refused outline.now (map shown parts.now) }
 {
@@ -36,8 +38,8 @@ fn end_refusal(outline: &Outline, parts: &[Part]) -> Option<Refusal>
     None
 }
 
-/// Returns the refusal if something is appended and the Segment's new size needs more bytes than the old one has. The
-/// Segment grows by `added` bytes.
+/// Returns the refusal if one of `parts` is appended to the file, and the Segment's size field is too short for `added`
+/// bytes more.
 fn growth_refusal(outline: &Outline, parts: &[Part], added: u64) -> Option<Refusal>
     requires { outline.now.total + added ≤ 2 ^ 50 }
     ensures { result ≡ size_refused outline.now (map shown parts.now) added }
@@ -48,8 +50,9 @@ fn growth_refusal(outline: &Outline, parts: &[Part], added: u64) -> Option<Refus
     None
 }
 
-/// Returns the first refusal of `parts`: `length` bytes are written and `added` bytes are appended. The SeekHead
-/// needs `need` bytes and has `room`.
+/// Returns the first refusal of the writes of `parts`, in the order of the checks. `length` bytes are written in all,
+/// and `added` of them appended to the file. The new SeekHead has `need` bytes in its shortest form, and the old one
+/// leaves `room`.
 pub fn moving_refusal(
     outline: &Outline,
     parts: &[Part],

@@ -1,10 +1,10 @@
-//! Rule for writing a SeekHead.
+//! The rule for writing a SeekHead with rewritten Elements.
 
-/// Rule for the SeekHead of rewritten parts: RFC 9559, section 5.1.1 (SeekHead Element).
+/// Rule for the SeekHead of an edit: RFC 9559, section 5.1.1 (SeekHead Element).
 #[derive(Clone, Copy)]
 pub struct Rewriting<'a> {
-    /// IDs whose Seeks are rewritten and whose old Seeks are dropped.
+    /// IDs that get new Seeks if the SeekHead is written; their old Seeks are dropped.
     pub ids: &'a [u32],
-    /// The SeekHead is written even if nothing moves.
+    /// The SeekHead is written even if no Element moves.
     pub always: bool,
 }

@@ -1,4 +1,4 @@
-//! The new SeekHead, and the Segment's new size.
+//! The new SeekHead, and the write of the Segment's new size.
 
 ghost use Rattle.std.specs.Prelude.{◌≡◌, ◌≤◌, ◌^◌, ◌+◌, [], None, IfOk, IfSome, IsTrue, if◌then◌else◌, length, map, option_map, unwrap_or};
 ghost use Rattle.std.specs.List.{list_any};
@@ -27,7 +27,7 @@ use mkv_io::{Bytes, LONGEST_FILE};
 use mkv_schema::ids::SEGMENT;
 use std::alloc::{AllocError, Global};
 
-/// Returns the children of the old SeekHead.
+/// Returns the children of the old SeekHead, or none if there is no SeekHead.
 fn old_seeks(head: &Option<SeekHead>) -> &[Tree]
     ensures { result.now ≡ option_map_or (λ s. s.seeks) (option_map found head.now) [] }
 {
@@ -37,7 +37,8 @@ fn old_seeks(head: &Option<SeekHead>) -> &[Tree]
     }
 }
 
-/// Returns the body of the new SeekHead, with the Seeks of `ids`.
+/// Returns the body of the new SeekHead: the Seeks for `ids` after `parts` are written, and the other children of the
+/// old one, `head`.
 #[tactic(auto, using(crate::proofs::HeadLemmas::heads))]
 pub fn new_seek_head(
     alloc: Global,
@@ -58,7 +59,8 @@ pub fn new_seek_head(
     Ok(body)
 }
 
-/// Returns the number of bytes of the old SeekHead and the Voids after it, or 0 if there is none.
+/// Returns the room in bytes of the old SeekHead `head`: its length and the Voids directly after it, or 0 if there is
+/// none.
 pub fn room_of(outline: &Outline, head: &Option<SeekHead>) -> u64
     requires { IfSome head.now (λ s. IsInFile outline.now.total s.header) }
     ensures exact { result ≡ spec.room_of (option_map found head.now) outline.now.others }
@@ -70,7 +72,7 @@ pub fn room_of(outline: &Outline, head: &Option<SeekHead>) -> u64
     }
 }
 
-/// Returns the offset of the old SeekHead.
+/// Returns the offset in the file of the old SeekHead `head`, or 0 if there is none.
 pub fn place_of(head: &Option<SeekHead>) -> u64
     ensures { result ≡ spec.place_of (option_map found head.now) }
 {
@@ -80,7 +82,8 @@ pub fn place_of(head: &Option<SeekHead>) -> u64
     }
 }
 
-/// Returns the bytes of an Element for a span of `room` bytes; if it is longer, its shortest form.
+/// Returns bytes for the ID `id` and the body `body` that fill `room` bytes. An Element that is longer is returned in
+/// its shortest form; the caller then refuses the edit.
 pub fn fitted_or_whole(
     alloc: Global,
     id: u32,
@@ -98,7 +101,7 @@ pub fn fitted_or_whole(
     }
 }
 
-/// Returns the number of bytes written for the Segment's size.
+/// Returns the number of bytes that a write of the Segment's size takes: its size field, or 0 if the size is unknown.
 fn size_len(segment: &Header) -> u64
     ensures { result ≡ spec.size_length segment.now }
 {
@@ -108,7 +111,8 @@ fn size_len(segment: &Header) -> u64
     }
 }
 
-/// Returns the number of bytes written for the Segment's size, or 0 unless something is appended.
+/// Returns the number of bytes that the edit writes for the Segment's size: 0 unless one of `parts` is appended to the
+/// file.
 pub fn size_added(outline: &Outline, parts: &[Part]) -> u64
     ensures { result ≡ if list_any spec.moves (map shown parts.now) then spec.size_length outline.now.segment else 0 }
 {
@@ -118,7 +122,8 @@ pub fn size_added(outline: &Outline, parts: &[Part]) -> u64
     0
 }
 
-/// Returns the write of the Segment's size, if it is known, for a Segment that ends at `end`.
+/// Returns the write of the Segment's size field for a Segment that ends at the offset `end`; none if its size is
+/// unknown.
 #[tactic(auto, unfolding(ebml_numbers::specs::Number::is_id), using(crate::proofs::SizeLemmas::sizes))]
 pub fn size_write(alloc: Global, segment: &Header, end: u64) -> Result<Vec<Write>, AllocError>
     requires end { end ≤ 2 ^ 50 }

@@ -1,6 +1,6 @@
-//! A write over a file.
+//! A write of an edit.
 
-/// Bytes that are written over a file.
+/// Bytes that an edit writes over a file, or after its end.
 #[derive(Drop)]
 pub struct Write {
     /// Offset of the first byte in the file.
