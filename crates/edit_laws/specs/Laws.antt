@@ -1,4 +1,4 @@
--- The content of a file after edits: RFC 9559, section 5.1 (Segment Element).
+-- The law on the content of a file after edits: RFC 9559, section 5.1 (Segment Element).
 use Rattle.std.specs.Prelude.{◌≡◌, ◌≤◌, ℕ, ◌+◌, ◌==◌, false, List, length, map, Option, Some, None, Result, Ok}
 use Rattle.std.specs.List.{All}
 use Rattle.std.specs.Option.{option_map}
@@ -25,7 +25,7 @@ use Rattle.edit_changes.specs.Records.{EditableFile, editable}
 use Rattle.edit_changes.specs.Plan.{edited}
 use Rattle.reindex.specs.Index.{indexable}
 
--- the normal form of the first Element with the ID `id` at level 1, or the damage inside it
+-- the normal form of the first Element with the ID `id` at level 1 of this Segment, or the damage inside it. `bytes` is the content of the file.
 abbrev pub normal_form : ℕ → List ℕ → Header → Result (Option (List ℕ)) Damage
 normal_form id bytes segment = and_then (first_tree id bytes segment) (λ n. Ok (option_map octets n))
 
@@ -33,11 +33,11 @@ normal_form id bytes segment = and_then (first_tree id bytes segment) (λ n. Ok 
 abbrev pub tracks_octets : List Node → List ℕ
 tracks_octets tracks = octets (master TRACKS 0 (nodes_of tracks))
 
--- the data of the attached file `a`
+-- the data of the attached file `a` in a file with the content `bytes`
 abbrev pub attached_bytes : List ℕ → AttachedFile → List ℕ
 attached_bytes bytes a = octets_between bytes a.at (a.at + a.len)
 
--- the data of each attached file of the first Attachments at level 1, or the damage inside it
+-- the data of each attached file in the first Attachments of this Segment, or the damage inside it; `bytes` is the content of the file
 abbrev pub attached_data : List ℕ → Header → Result (List (List ℕ)) Damage
 attached_data bytes segment = and_then (first_attached bytes segment) (λ files. Ok (map (attached_bytes bytes) files))
 
@@ -47,9 +47,9 @@ pub record IsOutside (h : Header) : Type 0 where
   pub simple : (h.id == SIMPLE_BLOCK) ≡ false
   pub group : (h.id == BLOCK_GROUP) ≡ false
 
--- The edited file `new` holds the content of `old`, with the edited trees `t`. Info and Tracks are the edited ones. The attached files, their
--- data, Chapters and Tags are the old ones, at their places, and so are the blocks, with any scale. Let `old` have room at level 1 for three more
--- Elements and for the bytes of an edit. Then the file can be edited again, and indexed if `old` can be.
+-- The edited file `new` holds the content of `old`, which was read as `f`; `t` has its edited Info and Tracks. Those two are written as edited. The
+-- attached files, their data, Chapters and Tags are the old ones, at their places, and so are the blocks, with any scale. Let `old` have room at
+-- level 1 for three more Elements and for the bytes of an edit. Then the file can be edited again, and indexed if `old` can be.
 pub record HoldsEdited (old new : List ℕ) (f : EditableFile) (t : Trees) : Type 0 where
   pub segment : Header
   pub ebml : ebml_header new ≡ Ok f.outline.ebml
@@ -65,7 +65,7 @@ pub record HoldsEdited (old new : List ℕ) (f : EditableFile) (t : Trees) : Typ
   pub again : length f.outline.others + 3 ≤ MAX_ELEMENTS → f.outline.held + MAX_WRITTEN ≤ MAX_MASTERS_LEN → (g : EditableFile) × (editable new ≡ Ok g)
   pub indexed : length f.outline.others + 3 ≤ MAX_ELEMENTS → f.outline.held + MAX_WRITTEN ≤ MAX_MASTERS_LEN → indexable old ≡ Ok f → (g : EditableFile) × (indexable new ≡ Ok g)
 
--- An edited file holds the content of the old file, except for what the edits change.
+-- An edited file holds the content of the old file, except for the Info and Tracks that the edits change.
 abbrev pub EditsChangeNothingElse : Type 0
 EditsChangeNothingElse =
     (old new : List ℕ) (edits : List Edit) (f : EditableFile) (t : Trees) → AreOctets old → length old ≤ LONGEST_FILE

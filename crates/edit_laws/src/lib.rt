@@ -1,44 +1,48 @@
 #![tactic(auto)]
 
-//! Laws on edits and new indexes: which content of a file remains, and how an index relates to its file. See RFC
-//! 9559, sections 5.1 (Segment Element) and 5.1.5 (Cues Element). No code that reads or writes depends on this crate.
+//! Laws on edited and reindexed files: which content of the old file remains, and where the cue points of a new index
+//! point. See RFC 9559, sections 5.1 (Segment Element) and 5.1.5 (Cues Element). They are statements for a reader; no
+//! command calls them.
 
 ghost use Rattle.edit_laws.specs.Laws.{EditsChangeNothingElse};
 ghost use Rattle.edit_laws.specs.IndexLaws.{BlocksStandInClusters, EachBlockHasItsPoint, LimitsHideNothing, NewIndexIsWhole, PointsPointAtBlocks, TimesAreTicks};
 
-/// An edited file holds the content of the old file, except for what the edits change. Only Info, Tracks, the
-/// SeekHead, Voids and the Segment's size are written.
+/// States that an edited file holds the content of the old file, except for the edited properties. Only Info, Tracks,
+/// the SeekHead, Voids and the Segment's size are written.
 pub fn edits_change_nothing_else()
     ensures { EditsChangeNothingElse }
 {}
 
-/// Each block of a file, damaged or not, is in the last Cluster that begins before it.
+/// States that each block of a file, damaged or not, is inside the last Cluster that begins before it, which its cue
+/// point names.
 pub fn blocks_stand_in_clusters()
     ensures { BlocksStandInClusters }
 {}
 
-/// The timestamp of a block from the start on is a whole number of ticks.
+/// States that the timestamp of a block that isn't before the start is a whole number of ticks, so that its CueTime is
+/// exact.
 pub fn times_are_ticks()
     ensures { TimesAreTicks }
 {}
 
-/// In a file that can be indexed, a reader without limits finds the same events as a reader with limits.
+/// States that a reader without limits finds the same blocks and damage as one with limits, in a file that can get a
+/// new index.
 pub fn limits_hide_nothing()
     ensures { LimitsHideNothing }
 {}
 
-/// The cue points of a file, damaged or not, belong to its first 1,048,576 indexed blocks, one to each, in the order of
-/// the file. Indexed blocks are the keyframes of video and subtitle tracks from the start on.
+/// States which blocks get cue points: the first 1,048,576 indexed blocks of a file, damaged or not, one each, in the
+/// order of the file. Indexed blocks are the keyframes of video and subtitle tracks that aren't before the start.
 pub fn each_block_has_its_point()
     ensures { EachBlockHasItsPoint }
 {}
 
-/// Each cue point of a file that can be indexed points at a block of it.
+/// States that each cue point of a file that can get a new index points at a block of the file.
 pub fn points_point_at_blocks()
     ensures { PointsPointAtBlocks }
 {}
 
-/// A file whose Cues are rewritten holds its old content and its index.
+/// States that a file with a new Cues holds its old content and the new index.
 pub fn new_index_is_whole()
     ensures { NewIndexIsWhole }
 {}

@@ -1,4 +1,4 @@
--- Results of reading a file for a new index.
+-- A file that was read for a new index, and the calls that read it.
 use Rattle.std.specs.Prelude.{◌≡◌, ⊤, ℕ, List, Result, Ok, Err}
 use Rattle.mkv_io.specs.declared.damage.Damage.{Damage}
 use Rattle.mkv_io.specs.Results.{and_then}
@@ -22,35 +22,35 @@ use Rattle.edit_plan.specs.Opening.{IfOutline}
 use Rattle.edit_plan.specs.declared.write.Write.{Write}
 use Rattle.reindex.specs.Plan.{index_writes}
 
--- A file that can be indexed: its outline, and the points of its new Cues.
+-- A file that gets a new index: its outline, and the cue points of its new Cues.
 pub record Pointed : Type 0 where
   pub outline : FileOutline
   pub points : List CuePoint
 
--- the file with this content, or its refusal
+-- the file with the content `bytes` and its new cue points, or the damage for which it is refused
 abbrev pub pointed : List ℕ → Result Pointed Damage
 pointed bytes =
     and_then (outline_in 0 bytes) (λ o.
     and_then (trees_of bytes o.segment) (λ trees.
     and_then (points_of bytes o.segment trees.tracks) (λ points. Ok (record { outline = o; points = points }))))
 
--- a file as it is found by the code, with its points in the form that is written
+-- a file as the code has read it, in the form of the definitions
 abbrev pub shown : IndexableFile → Pointed
 shown f = record { outline = f.outline; points = cues_of f.points }
 
--- The result is the file or its refusal; or a read failed, or memory ran out.
+-- The result has the file with the content `bytes`, or its refusal; or a read failed, or memory ran out.
 abbrev pub IsFound : List ℕ → Result IndexableFile OutlineEnd → Type 0
 IsFound bytes (Ok f) = pointed bytes ≡ Ok (shown f)
 IsFound bytes (Err (outline_end.Refused d)) = pointed bytes ≡ Err d
 IsFound bytes (Err outline_end.ReadFault) = ⊤
 IsFound bytes (Err outline_end.Memory) = ⊤
 
--- The result is the writes of the new index of `found`, or their refusal, if the content is visible to the proof.
+-- The result has the writes of the new index of `found`, or their refusal. It is promised if the content of the file `file` is visible to the proof.
 abbrev pub WritesFound : {S : Type 0} → Ghosts S → S → FileId → IndexableFile → Result (Vec Write Global) PlanEnd → Type 0
 WritesFound r src file found result =
     IfOutline r src file found.outline (λ bytes. Answers (index_writes bytes found.outline (cues_of found.points)) result)
 
--- the reason why there is no plan, if a file can't be read
+-- the error of the plan for a file that couldn't be read: the same refusal, a failed read, or out of memory
 abbrev pub ends_as : OutlineEnd → PlanEnd
 ends_as (outline_end.Refused d) = end.Refused (Damaged d)
 ends_as outline_end.ReadFault = end.ReadFault

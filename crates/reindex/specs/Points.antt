@@ -1,5 +1,5 @@
--- The cue points of a file: RFC 9559, sections 5.1.5 (Cues Element) and 16 (Segment Position). The selection of blocks, and the greatest number
--- of points, are this project's.
+-- The cue points of a file's new index: RFC 9559, sections 5.1.5 (Cues Element) and 16 (Segment Position). The selection of blocks, and the greatest
+-- number of points, are this project's.
 use Rattle.std.specs.Prelude.{ℕ, ◌-◌, ◌/◌, ◌==◌, nat_lt, true, Bool, ◌&&◌, ◌||◌, if◌then◌else◌, is_some, List, [], ◌∷◌, filter, map, take, Option, Some, None, unwrap_or}
 use Rattle.std.specs.List.{flat_map, list_any}
 use Rattle.std.specs.Option.{option_map_or, option_or}
@@ -19,26 +19,26 @@ use Rattle.mkv_schema.specs.declared.track_type.TheConstants.{VIDEO_TRACK, SUBTI
 
 -- ---- the blocks that get a point
 
--- The node is the TrackEntry of a video or a subtitle track.
+-- The child `n` of Tracks is the TrackEntry of a video or subtitle track, whose keyframes get cue points.
 abbrev pub is_indexed_track : Node → Bool
 is_indexed_track n = id_of n == TRACK_ENTRY && (type_of n == VIDEO_TRACK || type_of n == SUBTITLE_TRACK)
 
--- the numbers of the video and subtitle tracks among the children of Tracks
+-- the TrackNumbers of the video and subtitle tracks in `tracks`, the children of Tracks
 abbrev pub indexed_tracks : List Node → List ℕ
 indexed_tracks tracks = map number_of (filter is_indexed_track tracks)
 
--- Block `b` is a keyframe of a track with one of `numbers`, and isn't before the start.
+-- Block `b` gets a cue point. It is a keyframe of a track with one of the TrackNumbers `numbers`, and isn't before the start of the file.
 abbrev pub is_indexed : List ℕ → Block → Bool
 is_indexed numbers b = b.key && is_some (since_start b.time) && list_any (λ n. n == b.track) numbers
 
 -- ---- their places
 
--- the last Cluster of a list that begins before offset `at`
+-- the last Cluster of the list that begins before the offset `at`, if any
 abbrev pub cluster_before : ℕ → List Header → Option Header
 cluster_before at [] = None
 cluster_before at (h ∷ hs) = option_or (cluster_before at hs) (if h.id == CLUSTER && nat_lt h.offset at then Some h else None)
 
--- The point of block `b` in the Cluster with header `h`. A tick has `scale` nanoseconds, and the Segment's body begins at `base`.
+-- The cue point of block `b` in the Cluster with header `h`. A tick has `scale` nanoseconds, and the Segment's data begins at the offset `base`.
 abbrev pub point_in : ℕ → ℕ → Block → Header → CuePoint
 point_in scale base b h = record {
   tick = unwrap_or (since_start b.time) 0 / scale;
@@ -47,17 +47,20 @@ point_in scale base b h = record {
   relative = b.offset - h.body;
 }
 
--- the point of a block, if it is in one of the Clusters of a list
+-- the cue point of block `b`, if it is in one of the Clusters of `list`, as a list. A tick has `scale` nanoseconds, and the Segment's data begins at
+-- the offset `base`.
 abbrev pub points_to : ℕ → ℕ → List Header → Block → List CuePoint
 points_to scale base list b = option_map_or (λ h. point_in scale base b h ∷ []) (cluster_before b.offset list) []
 
 -- ---- the points of a file
 
--- the points of the blocks that get one
+-- the cue points of the blocks in `blocks` that get one, in their order. `list` has all headers at level 1, and `numbers` the TrackNumbers of the
+-- indexed tracks.
 abbrev pub points_among : ℕ → ℕ → List Header → List ℕ → List Block → List CuePoint
 points_among scale base list numbers blocks = flat_map (points_to scale base list) (filter (is_indexed numbers) blocks)
 
--- The points of a file with this Segment and these children of Tracks, in the order of its blocks, up to MAX_CUES.
+-- The cue points of a file with the content `bytes` and this Segment, in the order of its blocks, at most MAX_CUES. `tracks` has the children of its
+-- Tracks.
 abbrev pub index_points : List ℕ → Header → List Node → List CuePoint
 index_points bytes segment tracks = take MAX_CUES
     (points_among (file_scale bytes segment) segment.body (segment_run bytes segment).list (indexed_tracks tracks)

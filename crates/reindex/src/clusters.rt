@@ -1,4 +1,4 @@
-//! The Cluster that contains a block: RFC 9559, section 5.1.3 (Cluster Element).
+//! Search for the Cluster that contains a block: RFC 9559, section 5.1.3 (Cluster Element).
 
 ghost use Rattle.std.specs.Prelude.{◌≡◌, max, IfOk, OnOk};
 ghost use Rattle.mkv_io.specs.Faults.{HasCause, is_failure};
@@ -10,7 +10,8 @@ use element_reader::{Header, LevelOne, Outline};
 use mkv_io::{Failed, FileId, Reads};
 use mkv_schema::ids::CLUSTER;
 
-/// Walk over the Elements of level 1, up to an offset.
+/// Walk over the Elements at level 1 of a file, which follows the walk over its blocks and keeps the last Cluster
+/// before them.
 #[derive(Drop)]
 pub struct Clusters {
     pub level: LevelOne,
@@ -23,7 +24,7 @@ pub struct Clusters {
 }
 
 impl Clusters {
-    /// Starts a walk, with no Element passed.
+    /// Returns a walk that begins at the first Element of `file` at level 1; `outline` is the file's.
     pub fn start(outline: &Outline, file: FileId) -> Clusters
         ensures place { result.level ≡ first_place outline.now.segment outline.now.total file }
         ensures reached { result.reached ≡ 0 }
@@ -37,7 +38,8 @@ impl Clusters {
         }
     }
 
-    // Reads the next Element, which isn't passed yet. After `Failed` the next call reads the same one.
+    // Returns the header of the next Element at level 1 without passing it, or None at the end. After `Failed` the next
+    // call reads the same Element.
     fn look<R: Reads>(&mut self, src: &mut R) -> Result<Option<Header>, Failed>
         requires { IsReady (live_files R.Reads src.old) self.old }
         ensures exact { IfOk result (LooksAtIn R.Reads src.old self.old self.new) }
@@ -54,7 +56,8 @@ impl Clusters {
         Ok(self.next)
     }
 
-    // Passes the Element with the header `header`, which was read, and keeps it if it is a Cluster.
+    // Passes the Element with the header `header`, which `look` returned, and keeps it as the last Cluster if it is
+    // one.
     fn pass(&mut self, header: Header)
         ensures { self.new ≡ passed header self.old }
     {
@@ -64,7 +67,8 @@ impl Clusters {
         }
     }
 
-    /// Advances to offset `at`, or stays if it is already after it. After `Failed` the walk may continue.
+    /// Advances the walk to the offset `at` of a block, so that `last` is the last Cluster that begins before it. It
+    /// never goes back. After `Failed` the walk may continue.
     pub fn go_to<R: Reads>(&mut self, src: &mut R, at: u64) -> Result<(), Failed>
         requires { IsReady (live_files R.Reads src.old) self.old }
         ensures exact { OnOk result (HasReachedIn R.Reads src.old self.old self.new) }

@@ -1,4 +1,4 @@
-//! The Cues, RFC 9559, section 5.1.5 (Cues Element), of tracks with numbers of up to 56 bits.
+//! The bytes of a new Cues (RFC 9559, section 5.1.5, Cues Element). TrackNumbers may have up to 56 bits here.
 
 ghost use Rattle.std.specs.Prelude.{◌≡◌, ◌≤◌, ◌^◌, ◌++◌, length, map, option_map, IfOk, IfSome, IsTrue, OnOk};
 ghost use Rattle.mkv_schema.specs.declared.ids.TheConstants.{CUES as CUES_ID};
@@ -17,7 +17,8 @@ use mkv_schema::ids::{
 };
 use std::alloc::{AllocError, Global};
 
-// Appends an Element in its fewest bytes. A body that is too long for a file fails as out of memory.
+// Appends the Element with the ID `id` and the body `body` to `out`, in its fewest bytes. A body that is too long for a
+// file fails as out of memory.
 fn put_element(out: &mut Bytes, id: u32, body: &[u8]) -> Result<(), AllocError>
     requires { IsTrue (is_id id) }
     ensures { OnOk result (out.new ≡ out.old ++ octets_of (element id body.now)) }
@@ -32,7 +33,7 @@ fn put_element(out: &mut Bytes, id: u32, body: &[u8]) -> Result<(), AllocError>
     Ok(())
 }
 
-// Appends the element `id` with the unsigned integer `value` in its fewest bytes.
+// Appends the Element with the ID `id` and the unsigned integer `value` to `out`, in its fewest bytes.
 fn put_uint_element(out: &mut Bytes, id: u32, value: u64) -> Result<(), AllocError>
     requires { IsTrue (is_id id) }
     ensures { OnOk result (out.new ≡ out.old ++ octets_of (uint_element id value)) }
@@ -40,7 +41,7 @@ fn put_uint_element(out: &mut Bytes, id: u32, value: u64) -> Result<(), AllocErr
     put_element(out, id, put_uint(value).as_slice())
 }
 
-// Returns the body of the CueTrackPositions of `point`.
+// Returns the body of the CueTrackPositions for `point`: track number and both positions.
 #[tactic(auto, unfolding(ebml_numbers::specs::Number::is_id))]
 fn positions_body(alloc: Global, point: &Point) -> Result<Bytes, AllocError>
     ensures { IfOk result (λ body. body ≡ (positions_element (cue_of point.now)).body) }
@@ -52,7 +53,7 @@ fn positions_body(alloc: Global, point: &Point) -> Result<Bytes, AllocError>
     Ok(body)
 }
 
-// Returns the body of the CuePoint of `point`.
+// Returns the body of the CuePoint for `point`: its time and its CueTrackPositions.
 #[tactic(auto, unfolding(ebml_numbers::specs::Number::is_id))]
 fn point_body(alloc: Global, point: &Point) -> Result<Bytes, AllocError>
     ensures { IfOk result (λ body. body ≡ (point_element (cue_of point.now)).body) }
@@ -64,7 +65,7 @@ fn point_body(alloc: Global, point: &Point) -> Result<Bytes, AllocError>
     Ok(body)
 }
 
-// Appends the CuePoint of a point of the index.
+// Appends the CuePoint for `point` to `out`.
 #[tactic(auto, unfolding(ebml_numbers::specs::Number::is_id))]
 fn put_point(alloc: Global, out: &mut Bytes, point: &Point) -> Result<(), AllocError>
     ensures { OnOk result (out.new ≡ out.old ++ octets_of (point_element (cue_of point.now))) }
@@ -73,7 +74,7 @@ fn put_point(alloc: Global, out: &mut Bytes, point: &Point) -> Result<(), AllocE
     put_element(out, CUE_POINT, body.as_slice())
 }
 
-// Returns the CuePoints of points in sequence.
+// Returns the CuePoints for `points`, in this order: the body of the Cues.
 fn points_body(alloc: Global, points: &[Point]) -> Result<Bytes, AllocError>
     ensures { IfOk result (λ body. body ≡ joined (map point_element (cues_of points.now))) }
 {
@@ -84,8 +85,8 @@ fn points_body(alloc: Global, points: &[Point]) -> Result<Bytes, AllocError>
     Ok(body)
 }
 
-/// Returns the body of a Cues with `points`, or None without points. A body that is too long for a file fails as out
-/// of memory.
+/// Returns the body of a new Cues with a CuePoint for each of `points`, or None without points. A body that is too long
+/// for a file fails as out of memory.
 pub fn cues_body(alloc: Global, points: &[Point]) -> Result<Option<Bytes>, AllocError>
     ensures exact { IfOk result (λ body. option_map (element CUES_ID) body ≡ new_cues (cues_of points.now)) }
     ensures short { IfOk result (λ body. IfSome body (λ octets. length octets ≤ 2 ^ 48)) }

@@ -1,13 +1,13 @@
-//! A file that can be indexed, as it was read.
+//! A file that gets a new index.
 
 use crate::point::Point;
 use element_reader::Outline;
 use mkv_io::List;
 
-/// File that can be indexed.
+/// File that gets a new index: its Elements at level 1 and the points of its new Cues.
 #[derive(Drop)]
 pub struct IndexableFile {
     pub outline: Outline,
-    /// Points of its new Cues.
+    /// Cue points of its new Cues, in file order.
     pub points: List<Point>,
 }

@@ -1,4 +1,4 @@
-//! Selection of the blocks that get a point, and their points.
+//! Choice of the blocks that get a cue point, and their points.
 
 ghost use Rattle.std.specs.Prelude.{◌≡◌, ◌≤◌, ◌==◌, is_some, not, unwrap_or};
 ghost use Rattle.std.specs.List.{list_any};
@@ -12,10 +12,10 @@ use cluster_reader::Cursor;
 use element_reader::Header;
 use mkv_io::List;
 
-/// Data of a file that determine its points.
+/// Properties of a file that determine its cue points.
 #[derive(Drop)]
 pub struct Indexing {
-    /// Numbers of the tracks whose blocks get points.
+    /// TrackNumbers of its video and subtitle tracks, whose keyframes get cue points.
     pub tracks: List<u64>,
     /// Duration of a tick in nanoseconds.
     pub scale: u64,
@@ -23,14 +23,14 @@ pub struct Indexing {
     pub base: u64,
 }
 
-// Returns `time` in nanoseconds, or 0 if it is before the start.
+// Returns the time `time` in nanoseconds, or 0 if it is before the start of the file.
 fn since_start(time: i64) -> u64
     ensures { result ≡ unwrap_or (since_start time) 0 }
 {
     if time < 0 { 0 } else { time as u64 }
 }
 
-// Checks whether a time in nanoseconds is before the start of the file.
+// Checks whether the time `time`, in nanoseconds, is before the start of the file; such a block gets no cue point.
 fn is_before_start(time: i64) -> bool
     ensures { result ≡ not (is_some (since_start time)) }
 {
@@ -38,14 +38,15 @@ fn is_before_start(time: i64) -> bool
 }
 
 impl Indexing {
-    // Checks whether the blocks of the track with this number get points.
+    // Checks whether keyframes of the track with TrackNumber `number` get cue points.
     fn has(&self, number: u64) -> bool
         ensures { result ≡ list_any (λ n. n == number) self.now.tracks }
     {
         self.tracks.as_slice().iter().any(|n| *n == number)
     }
 
-    /// Checks whether the current block of `cursor` gets a point.
+    /// Checks whether the current block of `cursor` gets a cue point: a keyframe of an indexed track that isn't before
+    /// the start.
     pub fn is_indexed(&self, cursor: &Cursor) -> bool
         ensures { result ≡ spec.is_indexed self.now.tracks (block_of cursor.now.block) }
     {
@@ -53,7 +54,7 @@ impl Indexing {
         head.key && !is_before_start(head.time) && self.has(head.track)
     }
 
-    /// Makes the point of the current block of `cursor`, which is in `cluster`.
+    /// Makes the cue point of the current block of `cursor`, which is in the Cluster with the header `cluster`.
     pub fn point(&self, cursor: &Cursor, cluster: &Header) -> Point
         requires { 1 ≤ self.now.scale }
         ensures { cue_of result ≡ spec.point_in self.now.scale self.now.base (block_of cursor.now.block) cluster.now }

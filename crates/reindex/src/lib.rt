@@ -1,7 +1,8 @@
 #![tactic(auto)]
 
-//! The index of an existing file: the blocks that get a cue point, and their places (RFC 9559, sections 5.1.5, Cues
-//! Element, and 16, Segment Position).
+//! The index of an existing file, for the command `reindex`. It finds the blocks that get a cue point and their
+//! positions, and plans the new Cues and SeekHead. See RFC 9559, sections 5.1.5 (Cues Element) and 16 (Segment
+//! Position).
 
 mod clusters;
 mod cues;

@@ -1,4 +1,4 @@
-//! The Cues among the Elements of level 1.
+//! The new Cues, as an Element at level 1 that replaces the old one.
 
 ghost use Rattle.std.specs.Prelude.{◌≡◌, ◌≤◌, ◌^◌, length, map, option_map, IfOk, IfSome};
 ghost use Rattle.mkv_schema.specs.declared.ids.TheConstants.{CUES as CUES_ID};
@@ -16,7 +16,8 @@ use mkv_io::Bytes;
 use mkv_schema::ids::CUES;
 use std::alloc::{AllocError, Global};
 
-// Makes the part for a Cues with this body, or without one, if an old Cues has `room` bytes.
+// Makes the part that writes a Cues with the body `body`, or removes the old Cues if there is no body. The old Cues is
+// at the offset `place` and has `room` bytes with the Voids after it; both are 0 if there is none.
 #[tactic(auto, unfolding(ebml_numbers::specs::Number::is_id))]
 fn cues_part(place: u64, room: u64, body: Option<Bytes>) -> Part
     requires short { IfSome body (λ octets. length octets ≤ 2 ^ 48) }
@@ -32,8 +33,8 @@ fn cues_part(place: u64, room: u64, body: Option<Bytes>) -> Part
     }
 }
 
-/// Returns the Cues with `points`, at the place of the old Cues if there is one. Without points the old Cues is
-/// removed.
+/// Returns the part that writes a Cues with `points` over the old Cues of the file, or appends it if there is none.
+/// Without points the old Cues is removed. The list is empty if there is neither an old nor a new Cues.
 pub fn cues_parts(
     alloc: Global,
     outline: &Outline,

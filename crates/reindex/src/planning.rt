@@ -1,4 +1,4 @@
-//! The writes of a new index.
+//! The plan of a new index: what `reindex` writes over a file.
 
 ghost use Rattle.std.specs.Prelude.{◌≡◌, ◌≤◌, ◌+◌, ◌*◌, length, map, IfOk, Ok};
 ghost use Rattle.mkv_io.specs.Faults.{HasCause};
@@ -27,10 +27,10 @@ use mkv_schema::ids::{ATTACHMENTS, CHAPTERS, CUES, INFO, TAGS, TRACKS};
 use sidecar_edit::{KEPT, Plan, read_first};
 use std::alloc::Global;
 
-/// IDs that have Seeks in the SeekHead of a new index.
+/// IDs that get new Seeks in the SeekHead of a file with a new index.
 const INDEXED: [u32; 6] = [INFO, TRACKS, ATTACHMENTS, CUES, CHAPTERS, TAGS];
 
-// Returns the reason why there is no plan, if a file can't be read.
+// Returns the error of the plan for a file that couldn't be read: `end` as a refusal, a failed read, or out of memory.
 fn plan_end(end: OutlineEnd) -> PlanEnd
     ensures exact { result ≡ ends_as end }
     ensures cause { is_plan_fault result ≡ is_outline_fault end }
@@ -42,7 +42,7 @@ fn plan_end(end: OutlineEnd) -> PlanEnd
     }
 }
 
-// Reads the outline of a file that can be indexed, and its points.
+// Reads the outline of `file`, checks its records, and finds the cue points of its blocks. Any damage is refused.
 fn find<R: Reads>(alloc: Global, src: &mut R, file: FileId) -> Result<IndexableFile, OutlineEnd>
     requires { IsLive R.Reads src.old file }
     ensures exact { IfTold R.Reads src.old file (λ bytes. IsFound bytes result) }
@@ -57,7 +57,8 @@ fn find<R: Reads>(alloc: Global, src: &mut R, file: FileId) -> Result<IndexableF
     Ok(IndexableFile { outline, points })
 }
 
-// Returns the writes of the Cues and the SeekHead, by ascending places, or their refusal.
+// Returns the writes of the new Cues and SeekHead for the file `found`, sorted by offset, or their refusal. A second
+// Cues is refused.
 fn writes_of<R: Reads>(
     alloc: Global,
     found: &IndexableFile,
@@ -83,7 +84,7 @@ fn writes_of<R: Reads>(
     parts_writes(alloc, &rewriting, outline, parts.as_slice(), src, file)
 }
 
-// Returns the record of `writes` over the file on `disk`.
+// Returns the journal's record of `writes` over the file on `disk`.
 fn plan_of<D: Disk>(alloc: Global, disk: &mut D, writes: &[Write]) -> Result<Plan, PlanEnd>
     requires { IsLive D.Reads disk.old MEDIA }
     ensures exact { OfReads D.Disk.own disk.old (λ M S. Gives (Ok (spec.recorded M (map written writes.now))) result) }
@@ -100,9 +101,10 @@ fn plan_of<D: Disk>(alloc: Global, disk: &mut D, writes: &[Write]) -> Result<Pla
     Ok(plan)
 }
 
-/// Plans a new index of the file on `disk`: returns the record of its Cues and SeekHead, or the first refusal. Each
-/// keyframe of a video or subtitle track gets a point. All memory is taken here, and nothing is written. If others
-/// write to the file meanwhile, the writes may be ones that no content has; the call then fails with `Memory`.
+/// Plans a new index of the file on `disk`, for `reindex`: returns the journal's record of its new Cues and SeekHead,
+/// or the first refusal. Each keyframe of a video or subtitle track gets a cue point. All memory is taken here, and
+/// nothing is written. If others write to the file meanwhile, the writes may be ones that no content has; the call then
+/// fails with `Memory`.
 pub fn plan_index<D: Disk>(alloc: Global, disk: &mut D) -> Result<Indexed, PlanEnd>
     requires { IsLive D.Reads disk.old MEDIA }
     ensures exact { OfReads D.Disk.own disk.old (λ M S. Gives (indexed_of M) result) }

@@ -1,9 +1,9 @@
-//! A cue point of a file.
+//! A cue point of a new index.
 
-/// Place of a block: RFC 9559, section 5.1.5 (Cues Element).
+/// Cue point of a block: RFC 9559, section 5.1.5 (Cues Element).
 #[derive(Clone, Copy, Debug, PartialEq, Eq)]
 pub struct Point {
-    /// Timestamp of the block in ticks of the file.
+    /// Timestamp of the block in ticks of the file, from its start.
     pub tick: u64,
     /// TrackNumber of its track, with up to 56 bits.
     pub track: u64,

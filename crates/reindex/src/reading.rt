@@ -1,4 +1,4 @@
-//! Reader of a file's points.
+//! Reading of the blocks of a file for its cue points.
 
 ghost use Rattle.std.specs.Prelude.{◌≡◌, ◌≤◌, ◌*◌, max, length, IfOk};
 ghost use Rattle.mkv_io.specs.Bounds.{ReadsUpTo};
@@ -22,7 +22,8 @@ use mkv_io::{FileId, List, ReadEnd, Reads};
 use output_model::MAX_CUES;
 use std::alloc::Global;
 
-// Appends the point of the current block of `cursor`, if it gets one and there is room.
+// Appends the cue point of the current block of `cursor` to `points`, if it gets one and there are fewer than
+// 1,048,576. `clusters` is advanced to the block, and has its Cluster. Both read the same file.
 fn add_point<R: Reads>(
     points: &mut List<Point>,
     by: &Indexing,
@@ -51,7 +52,8 @@ fn add_point<R: Reads>(
     Ok(())
 }
 
-// Collects the points of the remaining blocks of `cursor`, or fails with the first damage.
+// Returns the cue points of the remaining blocks of `cursor`, or fails with the first damage. `clusters` follows the
+// cursor in the same file.
 fn collect<R: Reads>(
     alloc: Global,
     by: &Indexing,
@@ -80,8 +82,8 @@ fn collect<R: Reads>(
     }
 }
 
-/// Reads the points of a file with this outline and these trees, in the order of its blocks. It fails with the first
-/// damage. After 1,048,576 points it only checks for damage.
+/// Reads the cue points of `file`, whose outline and records are given, in the order of its blocks. It fails with the
+/// first damage. After 1,048,576 points it only checks for damage. Frames aren't read.
 pub fn read_points<R: Reads>(
     alloc: Global,
     outline: &Outline,

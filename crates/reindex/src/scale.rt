@@ -8,7 +8,7 @@ ghost use Rattle.meta_records.specs.Records.{good_info, scale_of_info};
 use ebml_tree::Tree;
 use meta_records::{DEFAULT_SCALE, read_info};
 
-/// Returns the nanoseconds of a tick of a file with this first Info, which isn't refused.
+/// Returns the nanoseconds per tick of a file with the first Info `info`, which was checked; 1,000,000 without an Info.
 pub fn scale_of(info: &Option<Tree>) -> u64
     requires { IfSome info.now (IsRead INFO) }
     ensures value { good_info info.now ≡ Ok info.now → result ≡ scale_of_info info.now }

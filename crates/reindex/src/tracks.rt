@@ -1,4 +1,4 @@
-//! The tracks whose blocks get points.
+//! The tracks whose keyframes get cue points.
 
 ghost use Rattle.std.specs.Prelude.{◌≡◌, ◌||◌, ◌==◌, IfOk};
 ghost use Rattle.std.specs.List.{All};
@@ -15,7 +15,7 @@ use mkv_schema::ids::{TRACK_ENTRY, TRACK_NUMBER, TRACK_TYPE};
 use mkv_schema::track_type::{SUBTITLE_TRACK, VIDEO_TRACK};
 use std::alloc::{AllocError, Global};
 
-// Returns the TrackType of a TrackEntry.
+// Returns the TrackType of `track`, a TrackEntry.
 #[tactic(auto, using(track_records::proofs::EntryLemmas::known))]
 fn type_of(track: &Tree) -> u64
     requires { IsEntry track.now }
@@ -24,7 +24,7 @@ fn type_of(track: &Tree) -> u64
     uint_in(track, TRACK_TYPE)
 }
 
-// Returns the TrackNumber of a TrackEntry.
+// Returns the TrackNumber of `track`, a TrackEntry.
 #[tactic(auto, using(track_records::proofs::EntryLemmas::known))]
 fn number_of(track: &Tree) -> u64
     requires { IsEntry track.now }
@@ -33,7 +33,8 @@ fn number_of(track: &Tree) -> u64
     uint_in(track, TRACK_NUMBER)
 }
 
-// Checks whether an Element of Tracks is the TrackEntry of a track whose blocks get points.
+// Checks whether `tree`, a child of Tracks, is the TrackEntry of a video or subtitle track. Their keyframes get cue
+// points.
 #[tactic(auto, using(edit_changes::proofs::SelectLemmas::entries))]
 fn is_indexed_track(tree: &Tree) -> bool
     requires { StandsIn TRACKS_ID tree.now }
@@ -46,7 +47,7 @@ fn is_indexed_track(tree: &Tree) -> bool
     kind == VIDEO_TRACK || kind == SUBTITLE_TRACK
 }
 
-// Returns the number of a track whose blocks get points, or None for another Element.
+// Returns the TrackNumber of `tree`, a child of Tracks, if it is a video or subtitle track; None for any other child.
 #[tactic(auto, using(edit_changes::proofs::SelectLemmas::entries))]
 fn indexed_number(tree: &Tree) -> Option<u64>
     requires { StandsIn TRACKS_ID tree.now }
@@ -59,7 +60,7 @@ fn indexed_number(tree: &Tree) -> Option<u64>
     }
 }
 
-/// Returns the numbers of the tracks whose blocks get points, among the children of Tracks.
+/// Returns the TrackNumbers of the video and subtitle tracks in `tracks`, the children of Tracks, in their order.
 pub fn indexed_tracks(alloc: Global, tracks: &[Tree]) -> Result<List<u64>, AllocError>
     requires { All (StandsIn TRACKS_ID) tracks.now }
     ensures { IfOk result (λ numbers. numbers ≡ spec.indexed_tracks tracks.now) }
