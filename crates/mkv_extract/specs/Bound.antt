@@ -1,4 +1,4 @@
--- The limits of bytes that `extract` reads. They are this project's.
+-- The limits on the bytes that `extract` reads of a file. They are this project's.
 use Rattle.std.specs.Prelude.{◌≡◌, ℕ, ◌+◌, ◌*◌, min, List, length, Option, Some, None}
 use Rattle.mkv_io.specs.declared.reads.Reads.{Ghosts}
 use Rattle.requests.specs.declared.job.Job.{Job}
@@ -8,41 +8,42 @@ use Rattle.mkv_lines.specs.Command.{with_sidecar_head}
 use Rattle.mkv_io.specs.Bounds.{ReadsByNames, ReadsUpTo}
 use Rattle.mkv_io.specs.declared.files.Files as writing
 
--- the limit for the first Cues of a file of `octets` bytes, which is read once for a job that extracts it
+-- the limit in bytes for reading the first Cues of a file of `octets` bytes; 0 unless the job extracts cue points
 abbrev pub most_of_cues : Job → ℕ → ℕ
 most_of_cues (jobs.Cues list) octets = octets
 most_of_cues job octets = 0
 
--- the limit before the blocks: the first Cues; the outline twice; Info, Tracks, Chapters and Tags once each; and attached files without their
--- data
+-- the limit in bytes for reading a file of `octets` bytes up to its blocks. It is the first Cues; the outline twice; Info, Tracks, Chapters and Tags
+-- once each; and attached files without their data.
 abbrev pub most_before : Job → ℕ → ℕ
 most_before job octets = 6 * octets + min (16 * octets) (2 * MAX_ATTACHMENTS_LEN) + most_of_cues job octets
 
--- the number of bytes that may be read of the content that a job extracts, in a file of `octets` bytes. For frames it is twice the file, for any
--- number of tracks, and for attached files the file for each of them.
+-- the limit in bytes for reading the content that a job extracts from a file of `octets` bytes. For frames it is twice the file, for any number of
+-- tracks. For attached files it is the file for each of them.
 abbrev pub most_of_content : Job → ℕ → ℕ
 most_of_content (jobs.Tracks form list) octets = 2 * octets
 most_of_content (jobs.Attachments list) octets = length list * octets
 most_of_content job octets = 0
 
--- the number of bytes that a job may read of a file of `octets` bytes
+-- the limit in bytes for the job `job` and a file of `octets` bytes
 abbrev pub most_of_file : Job → ℕ → ℕ
 most_of_file job octets = most_before job octets + most_of_content job octets
 
--- the limit of bytes that `job` reads from a file with the content `bytes`, including the head of its journal; 0 without a file
+-- the limit in bytes for the job `job` and a file with the content `bytes`, including the head of its journal; 0 without a file
 abbrev pub most_with : Job → Option (List ℕ) → ℕ
 most_with job None = 0
 most_with job (Some bytes) = with_sidecar_head (most_of_file job) (length bytes)
 
--- the limit for a name among the names of `world`
+-- the limit in bytes for the job `job` and the file `name`, if `world` has the content of each name
 abbrev pub most_to_extract : (List ℕ → Option (List ℕ)) → List ℕ → Job → ℕ
 most_to_extract world name job = most_with job (world name)
 
--- At most the bytes of this limit were read of the file `name`, if the names are visible to the proof.
+-- From the state `old` to `new`, at most the limit for the file `name` and the job `job` was read. It is promised if the contents are visible to the
+-- proof.
 abbrev pub ReadsToExtract : {S : Type 0} → Ghosts S → writing.Ghosts S → S → S → List ℕ → Job → Type 0
 ReadsToExtract r f old new name job = ReadsByNames r f old new (λ world. most_to_extract world name job)
 
--- Only the count of bytes read has changed, by at most `most`.
+-- From the state `old` to `new`, only the count of bytes read has changed, by at most `most`.
 pub record ReadsAtMost {S : Type 0} (r : Ghosts S) (old new : S) (most : ℕ) : Type 0 where
   pub standing : r.standing new ≡ r.standing old
   pub octets : ReadsUpTo r old new most

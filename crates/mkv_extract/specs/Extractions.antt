@@ -1,4 +1,4 @@
--- The requirements of an extraction from a file, and the effect of the call.
+-- The requirements of an extraction from a file, and the effect of the whole call.
 use Rattle.std.specs.Prelude.{ℕ, List, Result}
 use Rattle.mkv_io.specs.Names.{AreOthers}
 use Rattle.mkv_io.specs.Sources.{IsLive}
@@ -16,19 +16,20 @@ use Rattle.mkv_lines.specs.declared.status.Status.{Status}
 use Rattle.mkv_lines.specs.declared.status.CommandEnd.{CommandEnd}
 use Rattle.mkv_extract.specs.Extract.{extract_verdict}
 
--- The call has the result of `extract`, if the names are visible to the proof.
+-- The call has the outcome of `extract` for the file `name` and `job`. `files` and `files'` are the states of the files before and after, `report`
+-- and `report'` of the report. It is promised if the contents are visible to the proof.
 abbrev pub Takes : {F P : Type 0} → ReadsGhosts F → FilesGhosts F → ReportGhosts P → F → F → P → P → Result Status CommandEnd → List ℕ → Job → Type 0
 Takes r f p files files' report report' result name job =
     IfVisible (f.names files) (λ world. Fulfils r f p files files' report report' result (extract_verdict world name job))
 
--- The job can be done, the file is live, and no output has its name.
+-- The job can be done on `file`, which is open in the state `files`, and no output has its name.
 pub record CanTake {F : Type 0} (r : ReadsGhosts F) (f : FilesGhosts F) (files : F) (file : FileId) (job : Job) : Type 0 where
   pub done : CanBeDone job
   pub live : IsLive r files file
   pub other : AreOthers (f.holder files file.n) (names_for job)
 
--- The job can be done, the source is live, and the frames of the tracks that the job names can be used. No output has the name of the source's
--- file.
+-- The job can be done on `source`, which is open in the state `files`. The frames of the tracks that the job names can be used, and no output has the
+-- name of the source.
 pub record CanTakeFrom {F : Type 0} (r : ReadsGhosts F) (f : FilesGhosts F) (files : F) (source : Source) (job : Job) : Type 0 where
   pub done : CanBeDone job
   pub sound : IsSource r files source

@@ -1,4 +1,4 @@
--- The data of a file up to its blocks that a job needs: RFC 9559, section 5.1 (Segment Element).
+-- The records of a file up to its blocks, as an extraction needs them: RFC 9559, section 5.1 (Segment Element).
 use Rattle.std.specs.Prelude.{◌≡◌, ⊤, ℕ, ◌+◌, ◌==◌, Bool, true, if◌then◌else◌, List, [], ◌∷◌, ◌++◌, map, Option, None, Result, Ok, Err}
 use Rattle.std.specs.List.{list_any}
 use Rattle.mkv_io.specs.declared.damage.Damage.{Damage}
@@ -22,24 +22,24 @@ use Rattle.extractors.specs.Job.{targets_of}
 use Rattle.extractors.specs.Source.{events_in}
 use Rattle.extractors.specs.declared.source.Source.{Source}
 
--- A target names track `k`, counted from 0.
+-- One of `targets` names the track with index `k`, from 0.
 abbrev pub is_named : List Target → ℕ → Bool
 is_named targets k = list_any (λ (t : Target). t.id == k) targets
 
--- the reasons why the frames of track `k` can't be used, if a target names it
+-- the reasons why the frames of the track `t`, which has the index `k`, can't be used, if one of `targets` names it
 abbrev pub causes_of : List Target → ℕ → Track → List (Option Damage)
 causes_of targets k t = if is_named targets k then usable_causes t.entry else []
 
--- the reasons why the frames of named tracks can't be used, for tracks in sequence, the first with the number `k`
+-- the reasons why the frames of tracks that `targets` name can't be used. The list has tracks in sequence, and the first has the index `k`.
 abbrev pub causes_from : List Target → ℕ → List Track → List (Option Damage)
 causes_from targets k [] = []
 causes_from targets k (t ∷ ts) = causes_of targets k t ++ causes_from targets (k + 1) ts
 
--- the damage of the first track that a target names and that can't be used
+-- the reason why the frames of the first track that one of `targets` names can't be used, if there is such a track
 abbrev pub first_unusable : List Target → List Track → Option Damage
 first_unusable targets tracks = first_damage (causes_from targets 0 tracks)
 
--- the Segment of a file, the damage that ends its level 1, and the records that a job needs
+-- a file read up to its blocks: its Segment, the damage that ends its level 1, and the records that a job needs
 pub record FileRead : Type 0 where
   pub segment : Header
   pub damage : Option Damage
@@ -49,7 +49,7 @@ pub record FileRead : Type 0 where
   pub chapters : Option Node
   pub cues : Option Node
 
--- the data of an opened source, as the definitions have them
+-- the source that the code has read, in the form of the definitions
 abbrev pub read_in : Source → FileRead
 read_in s = record {
   segment = s.outline.segment;
@@ -61,17 +61,18 @@ read_in s = record {
   cues = s.cues;
 }
 
--- the data of a file with this Segment, damage of level 1, records and Cues
+-- a file with this Segment, damage at level 1, records and Cues
 abbrev pub read_with : Header → Option Damage → FileRecords → Option Node → FileRead
 read_with segment damage r cues =
     record { segment = segment; damage = damage; info = r.info; tracks = r.tracks; attachments = r.attachments; chapters = r.chapters; cues = cues }
 
--- the first Cues, for a job that extracts it
+-- the first Cues of a file with the content `bytes` and this Segment, if the job extracts cue points; none for other jobs
 abbrev pub cues_for : Job → List ℕ → Header → Result (Option Node) Damage
 cues_for (jobs.Cues list) bytes segment = first_cues bytes segment
 cues_for job bytes segment = Ok None
 
--- the data of a content, or its first refusal: for its outline, its records, its Cues, and then the named tracks
+-- the file with the content `bytes`, read up to its blocks for `job`, or its first refusal. It is refused for its outline, its records, its Cues, and
+-- then the named tracks.
 abbrev pub read_of : Job → List ℕ → Result FileRead Damage
 read_of job bytes =
     and_then (outline_of 0 bytes) (λ (o : Outlined).
@@ -79,17 +80,17 @@ read_of job bytes =
     and_then (cues_for job bytes o.segment) (λ (cues : Option Node).
     unless (first_unusable (targets_of job) r.tracks) (read_with o.segment o.damage r cues))))
 
--- The result is the source or the file's refusal; or a read failed, or memory ran out.
+-- The result has `found`, the file or its refusal; or a read failed, or memory ran out.
 abbrev pub ReadsSource : Result FileRead Damage → Result Source OutlineEnd → Type 0
 ReadsSource found (Ok s) = found ≡ Ok (read_in s)
 ReadsSource found (Err (outline_end.Refused d)) = found ≡ Err d
 ReadsSource found (Err outline_end.ReadFault) = ⊤
 ReadsSource found (Err outline_end.Memory) = ⊤
 
--- The first Cues was read, if `outline` is the outline of the content.
+-- If the content `bytes` has this outline, `result` has its first Cues for `job`, or the refusal of the Cues.
 abbrev pub ReadsCues : Job → FileOutline → Result (Option Node) OutlineEnd → List ℕ → Type 0
 ReadsCues job outline result bytes = (held : ℕ) → outline_in held bytes ≡ Ok outline → ReadsAs (cues_for job bytes outline.segment) result
 
--- The source's events are the file's own blocks and damage, with the same tick.
+-- The source `source` has the blocks and damage of the file with the content `bytes`, with the file's tick.
 abbrev pub HasOwnEvents : Source → List ℕ → Type 0
 HasOwnEvents source bytes = events_in source bytes ≡ file_events true bytes source.outline.segment

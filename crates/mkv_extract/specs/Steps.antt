@@ -1,5 +1,5 @@
--- The part of `taken_of` that is left for each inner call, and the effects of the calls. No result depends on this module: each definition is an
--- end of `taken_of`.
+-- The steps of `taken_of` that are left inside each inner call, and the effects of the calls. In each effect, `files` and `files'` are the states of
+-- the files before and after the call, and `report` and `report'` of the report. No outcome depends on this module.
 use Rattle.std.specs.Prelude.{ℕ, Bool, true, if◌then◌else◌, List, Some, None, Result}
 use Rattle.mkv_io.specs.Results.{and_then, unless}
 use Rattle.mkv_io.specs.Sources.{IfTold}
@@ -23,57 +23,58 @@ use Rattle.mkv_extract.specs.Extract.{Taken, attached_taken, done_verdict, frame
 use Rattle.mkv_extract.specs.Read.{FileRead, read_in, read_of}
 use Rattle.requests.specs.declared.job.Target.{Target}
 
--- the content for data that were read, unless a track can't be extracted in this form
+-- the content for the job from the file `name`, once it was read as `file`. The check of its tracks for the job's form is left.
 abbrev pub fit_taken : List ℕ → Job → List ℕ → FileRead → List Event → Result Taken (List ℕ)
 fit_taken name job bytes file events = unless (unfit_track name job file) (taken_by name job bytes file events)
 
--- the content for data that were found
+-- the content for the job from the file `name` with the content `bytes`, given its records, or its refusal
 abbrev pub found_taken : List ℕ → Job → List ℕ → Result FileRead Damage → Result Taken (List ℕ)
 found_taken name job bytes found =
     and_then (or_line name found) (λ (file : FileRead). fit_taken name job bytes file (file_events true bytes file.segment))
 
--- the content for a file that isn't read yet
+-- the content for the job from the file `name` with the content `bytes`, after the check for a pending edit
 abbrev pub file_taken : List ℕ → Job → List ℕ → Result Taken (List ℕ)
 file_taken name job bytes = found_taken name job bytes (read_of job bytes)
 
--- the content for a file that may have a pending edit
+-- the content for the job from the file `name` with the content `bytes`. If `pending` is true, its journal has a pending edit, and it is refused.
 abbrev pub settled_taken : List ℕ → Job → Bool → List ℕ → Result Taken (List ℕ)
 settled_taken name job pending bytes =
     and_then (unless (if pending then Some (pending_edit_line name) else None) (read_of job bytes)) (found_taken name job bytes)
 
 -- ---- the effects of the calls
 
--- The call has the result of `taken` for the content of a live file, if the content is visible to the proof.
+-- The call has the outcome of `taken` for the content of the open file `file` with the name `name`. `files` and `files'` are the states of the files
+-- before and after, `report` and `report'` of the report. It is promised if the content is visible to the proof.
 abbrev pub ComesToTaken : {F P : Type 0} → ReadsGhosts F → FilesGhosts F → ReportGhosts P → FileId → F → F → P → P → Result Status CommandEnd → List ℕ → (List ℕ → Result Taken (List ℕ)) → Type 0
 ComesToTaken r f p file files files' report report' result name taken =
     IfTold r files file (λ bytes. Fulfils r f p files files' report report' result (verdict_of name (taken bytes)))
 
--- A job extracted from a file that may have a pending edit.
+-- The call did `job` on the open file `file` with the name `name`, unless its journal has a pending edit.
 abbrev pub TakesSettled : {F P : Type 0} → ReadsGhosts F → FilesGhosts F → ReportGhosts P → FileId → F → F → P → P → Result Status CommandEnd → List ℕ → Job → Type 0
 TakesSettled r f p file files files' report report' result name job =
     IfVisible (f.names files) (λ world. ComesToTaken r f p file files files' report report' result name (settled_taken name job (is_pending world name)))
 
--- A job extracted from a file.
+-- The call did `job` on the open file `file` with the name `name`, or refused the file.
 abbrev pub TakesFile : {F P : Type 0} → ReadsGhosts F → FilesGhosts F → ReportGhosts P → FileId → F → F → P → P → Result Status CommandEnd → List ℕ → Job → Type 0
 TakesFile r f p file files files' report report' result name job = ComesToTaken r f p file files files' report report' result name (file_taken name job)
 
--- A job extracted from a source, unless a track can't be extracted in this form.
+-- The call did `job` on the source that was read from the file `name`, unless a track can't be extracted in its form.
 abbrev pub TakesSource : {F P : Type 0} → ReadsGhosts F → FilesGhosts F → ReportGhosts P → Source → F → F → P → P → Result Status CommandEnd → List ℕ → Job → Type 0
 TakesSource r f p source files files' report report' result name job =
     ComesToTaken r f p source.file files files' report report' result name (λ bytes. fit_taken name job bytes (read_in source) (events_in source bytes))
 
--- A job extracted frames of a source, unless a track can't be extracted in this form.
+-- The call extracted the frames that `job` asks for from the source, unless a track can't be extracted in its form.
 abbrev pub TakesFrames : {F P : Type 0} → ReadsGhosts F → FilesGhosts F → ReportGhosts P → Source → F → F → P → P → Result Status CommandEnd → List ℕ → Job → Type 0
 TakesFrames r f p source files files' report report' result name job =
     ComesToTaken r f p source.file files files' report report' result name (λ bytes.
     unless (unfit_track name job (read_in source)) (frames_taken name job (read_in source) (events_in source bytes)))
 
--- A job extracted frames of a source whose tracks can all be extracted in this form.
+-- The call extracted the frames that `job` asks for from the source, whose tracks can all be extracted in its form.
 abbrev pub TakesFit : {F P : Type 0} → ReadsGhosts F → FilesGhosts F → ReportGhosts P → Source → F → F → P → P → Result Status CommandEnd → List ℕ → Job → Type 0
 TakesFit r f p source files files' report report' result name job = IfTold r files source.file (λ bytes.
     Fulfils r f p files files' report report' result (done_verdict name (frames_taken name job (read_in source) (events_in source bytes))))
 
--- Attached files were extracted from a source.
+-- The call extracted the attached files that `targets` name from the source, which was read from the file `name`.
 abbrev pub TakesAttached : {F P : Type 0} → ReadsGhosts F → FilesGhosts F → ReportGhosts P → Source → F → F → P → P → Result Status CommandEnd → List ℕ → List Target → Type 0
 TakesAttached r f p source files files' report report' result name targets = IfTold r files source.file (λ bytes.
     Fulfils r f p files files' report report' result (done_verdict name (attached_taken name targets bytes (read_in source))))

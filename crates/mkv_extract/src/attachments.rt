@@ -1,4 +1,4 @@
-//! Extraction of attached files.
+//! The command `extract` for attached files.
 
 ghost use Rattle.std.specs.Prelude.{◌*◌, ◌≤◌, [], length, All};
 ghost use Rattle.mkv_io.specs.Asked.{AsksOnly};
@@ -17,7 +17,8 @@ use mkv_lines::{CommandEnd, Status, stop_of};
 use requests::Target;
 use std::alloc::Global;
 
-/// Extracts attached files of a source, each to its own file, and prints the result. They are numbered from 1.
+/// Extracts the attached files that `targets` name, each to its own file, from `source`, the open file `name`, and
+/// prints the messages. Attached files are numbered from 1. Those that the file lacks are warned of first.
 pub fn extract_attachments<F: Files, P: Report>(
     alloc: Global,
     name: &str,

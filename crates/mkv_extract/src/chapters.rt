@@ -1,4 +1,4 @@
-//! Extraction of the chapters of a file.
+//! The command `extract` for chapters.
 
 ghost use Rattle.std.specs.Prelude.{◌≡◌, ◌≤◌, [], ◌∷◌, false, option_to_list, IfOk, IfSome};
 ghost use Rattle.mkv_io.specs.Asked.{AsksOnly};
@@ -18,7 +18,8 @@ use mkv_io::{Damage, Files, Report};
 use mkv_lines::{CommandEnd, Line, Status, say, stop_of};
 use std::alloc::Global;
 
-/// Extracts the chapters of a source as text to the file `out`, and prints the result.
+/// Extracts the chapters of `source`, the open file `name`, as OGM simple chapters to the file `out`, and prints the
+/// messages.
 pub fn extract_chapters<F: Files, P: Report>(
     alloc: Global,
     name: &str,
@@ -40,7 +41,8 @@ pub fn extract_chapters<F: Files, P: Report>(
     tell_output(alloc, name, out, source.outline.damage(), report)
 }
 
-/// Prints the message of a complete output, and warns of damage at level 1.
+/// Prints the message that the output `out` is complete, and a warning of the damage of the file `name` at level 1, if
+/// any. Returns the status of the command.
 fn tell_output<P: Report>(
     alloc: Global,
     name: &str,

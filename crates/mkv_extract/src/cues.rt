@@ -1,4 +1,4 @@
-//! Extraction of cue points.
+//! The command `extract` for cue points.
 
 ghost use Rattle.std.specs.Prelude.{◌≤◌, []};
 ghost use Rattle.mkv_io.specs.Asked.{AsksOnly};
@@ -15,7 +15,8 @@ use mkv_lines::{CommandEnd, Status, stop_of};
 use requests::Target;
 use std::alloc::Global;
 
-/// Extracts the cue points of each target track to its own file, and prints the result.
+/// Extracts the cue points of the tracks that `targets` name, each track's to its own file, and prints the messages.
+/// `source` is the open file `name`. Tracks that it lacks are warned of first.
 pub fn extract_cues<F: Files, P: Report>(
     alloc: Global,
     name: &str,

@@ -1,4 +1,4 @@
-//! Opening of a file, extraction from it, and closing.
+//! The command `extract`: a file is opened, its parts are written to outputs, and it is closed.
 
 ghost use Rattle.std.specs.Prelude.{◌≡◌, ◌*◌, [], ◌∷◌, None, IsSome};
 ghost use Rattle.mkv_io.specs.Asked.{AsksOnly};
@@ -27,7 +27,8 @@ use requests::Job;
 use sidecar_edit::is_pending;
 use std::alloc::{AllocError, Global};
 
-/// Extracts what `job` asks for from the file `name`, each target to its own file. No two of them have the same name.
+/// Extracts from the file `name` what `job` asks for, each target to its own file. The outputs must have different
+/// names. It opens the file, checks it, writes the outputs and closes it, in any case.
 pub fn extract_of<F: Files, P: Report>(
     alloc: Global,
     name: &str,
@@ -60,7 +61,8 @@ pub fn extract_of<F: Files, P: Report>(
     ended
 }
 
-/// Extracts what `job` asks for from a live file, unless it has a pending edit or is refused for another reason.
+/// Extracts from the open file `file` with the name `name` what `job` asks for. If its journal has a pending edit, it
+/// prints only an error, since the file may be half written.
 fn extract_settled<F: Files, P: Report>(
     alloc: Global,
     name: &str,
@@ -81,7 +83,8 @@ fn extract_settled<F: Files, P: Report>(
     extract_file(alloc, name, job, files, file, report)
 }
 
-/// Extracts what `job` asks for from a live file, unless the file is refused.
+/// Reads the open file `file` with the name `name` up to its blocks, and extracts what `job` asks for. A file that is
+/// refused gets only an error line.
 fn extract_file<F: Files, P: Report>(
     alloc: Global,
     name: &str,
@@ -106,7 +109,7 @@ fn extract_file<F: Files, P: Report>(
     }
 }
 
-/// Extracts what `job` asks for from a source.
+/// Extracts from `source`, the open file `name`, what `job` asks for, by the kind of the job.
 fn extract_job<F: Files, P: Report>(
     alloc: Global,
     name: &str,
@@ -138,7 +141,8 @@ fn extract_job<F: Files, P: Report>(
     }
 }
 
-/// Extracts what `job` asks for from a source, unless a track that it names can't be extracted in this form.
+/// Extracts the tracks that `job` names from `source`, the open file `name`. If one of them can't be written in the
+/// job's form, it prints only an error.
 fn extract_fit<F: Files, P: Report>(
     alloc: Global,
     name: &str,
@@ -161,7 +165,7 @@ fn extract_fit<F: Files, P: Report>(
     }
 }
 
-/// Returns the message for a track that isn't extracted.
+/// Returns the error line for the track of the file `name` that can't be extracted.
 fn line_of(name: &str, refusal: Refusal) -> Line<'_>
     ensures { text_of result ≡ unfit_line name.now refusal.why refusal.track }
 {
@@ -172,7 +176,8 @@ fn line_of(name: &str, refusal: Refusal) -> Line<'_>
     }
 }
 
-/// Extracts the tracks of `job` from a source, and prints the result.
+/// Writes the outputs of `job`, which extracts tracks, from `source`, the open file `name`, and prints the messages.
+/// Tracks that the file lacks are warned of first.
 fn extract_source<F: Files, P: Report>(
     alloc: Global,
     name: &str,

@@ -1,7 +1,7 @@
 #![tactic(auto)]
 
-//! The command `extract`, which extracts frames of tracks, their timestamps, cue points, chapters or attached files
-//! from a file.
+//! The command `extract`. It writes frames of tracks, their timestamps, cue points, chapters or attached files to files
+//! of their own, and prints their names.
 
 mod attachments;
 mod chapters;

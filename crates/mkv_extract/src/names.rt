@@ -1,4 +1,4 @@
-//! Names of the outputs of an extraction, and of the files that it reads.
+//! The check that no output of an extraction has the name of a file that is read.
 
 ghost use Rattle.std.specs.Prelude.{◌≡◌, IfOk};
 ghost use Rattle.std.specs.List.{find};
@@ -13,14 +13,14 @@ use requests::{Job, Target};
 use sidecar_edit::sidecar_name;
 use std::alloc::{AllocError, Global};
 
-/// Checks whether an output has the name of the file or of its journal.
+/// Checks whether the output name `out` is `name`, the file's, or `sidecar`, its journal's.
 fn is_read(name: &str, sidecar: &str, out: &str) -> bool
     ensures { result ≡ is_either name.now sidecar.now out.now }
 {
     out == name || out == sidecar
 }
 
-/// Returns the first target whose output has the name `name` or `sidecar`.
+/// Returns the first of `targets` whose output has the name `name`, the file's, or `sidecar`, its journal's.
 fn target_among<'a>(name: &str, sidecar: &str, targets: &'a [Target]) -> Option<&'a Target>
     ensures { option_copied result ≡ find (λ (t : TargetSeen). is_either name.now sidecar.now t.name) targets.now }
 {
@@ -29,7 +29,7 @@ fn target_among<'a>(name: &str, sidecar: &str, targets: &'a [Target]) -> Option<
         .find(|target| is_read(name, sidecar, target.name.as_str()))
 }
 
-/// Returns the name of the first target that is also the name of a file that is read.
+/// Returns the output name of the first of `targets` that would overwrite the file `name` or its journal, `sidecar`.
 fn written_among<'a>(name: &str, sidecar: &str, targets: &'a [Target]) -> Option<&'a Text>
     requires { sidecar.now ≡ sidecar_of name.now }
     ensures { option_copied result ≡ find (is_read name.now) (names_of targets.now) }
@@ -40,7 +40,8 @@ fn written_among<'a>(name: &str, sidecar: &str, targets: &'a [Target]) -> Option
     }
 }
 
-/// Returns the name of the first output that is also the name of a file that is read.
+/// Returns the first output name of `job` that would overwrite the file `name` or its journal, if any. The command then
+/// is refused.
 pub fn first_written<'a>(
     alloc: Global,
     name: &str,

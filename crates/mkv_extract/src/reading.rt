@@ -1,4 +1,4 @@
-//! Reader of a file up to its blocks.
+//! Reading of a file up to its blocks, for an extraction.
 
 ghost use Rattle.std.specs.Prelude.{◌≡◌, IfOk, IfSome};
 ghost use Rattle.mkv_io.specs.Faults.{HasCause};
@@ -24,8 +24,8 @@ use requests::{Job, Target};
 use std::alloc::Global;
 use track_records::{Track, usable};
 
-/// Reads a live file up to its blocks, or returns its first refusal. It checks the outline, the records, the first
-/// Cues if the job extracts it, and then the tracks that the job names, in their order.
+/// Reads the open file `file` up to its blocks, or returns the first refusal. It checks the outline, the records, the
+/// first Cues if `job` extracts cue points, and then the named tracks in file order.
 pub fn read_source<R: Reads>(
     alloc: Global,
     job: &Job,
@@ -60,7 +60,8 @@ pub fn read_source<R: Reads>(
     })
 }
 
-/// Reads the first Cues, for a job that extracts it, or returns its damage.
+/// Reads the first Cues of the open file `file` if `job` extracts cue points, or returns the damage for which it is
+/// refused. Other jobs get None.
 fn cues_for<R: Reads>(
     alloc: Global,
     job: &Job,
@@ -82,14 +83,15 @@ fn cues_for<R: Reads>(
     }
 }
 
-/// Checks whether a target names track `k`, counted from 0.
+/// Checks whether one of `targets` names the track with index `k`, from 0.
 pub fn is_named(targets: &[Target], k: u64) -> bool
     ensures { result ≡ is_named targets.now k }
 {
     targets.iter().any(|target| target.id == k)
 }
 
-/// Returns the reason why the frames of a named track can't be used, for the first such track.
+/// Returns the reason why the frames of a track that `targets` name can't be used, such as encryption, for the first
+/// such track in `tracks`.
 fn first_unusable(targets: &[Target], tracks: &[Track]) -> Option<Damage>
     requires { AreRead tracks.now }
     ensures { result ≡ first_unusable targets.now tracks.now }
@@ -102,7 +104,7 @@ fn first_unusable(targets: &[Target], tracks: &[Track]) -> Option<Damage>
     None
 }
 
-/// Returns the reason why the frames of track `k` can't be used, if a target names it.
+/// Returns the reason why the frames of `track`, which has the index `k`, can't be used, if one of `targets` names it.
 fn cause_of(targets: &[Target], k: u64, track: &Track) -> Option<Damage>
     requires { IsEntry track.now.entry }
     ensures { result ≡ first_damage (causes_of targets.now k track.now) }

@@ -1,4 +1,4 @@
-//! Messages of an extraction.
+//! Messages of an extraction: missing items, outputs that were written, and warnings.
 
 ghost use Rattle.std.specs.Prelude.{◌≡◌, false, ◌&&◌, not, nat_le, nat_lt, nat_eq, length, option_to_list, ◌∷◌, [], List, Ok, IfOk, IfErr, OnOk};
 ghost use Rattle.mkv_io.specs.declared.damage.Damage.{Damage};
@@ -28,7 +28,7 @@ pub enum Missing {
     Attachment,
 }
 
-/// Kind of warnings in a list.
+/// Kind of the warnings in a list, which determines the line about those that aren't printed.
 #[derive(Clone, Copy)]
 pub enum WarningKind {
     /// Damaged places of the file.
@@ -37,8 +37,8 @@ pub enum WarningKind {
     Frames,
 }
 
-/// Warns of each item that targets name and that the file `name` lacks, once: its number is at least `count`. For
-/// tracks `count` is their number, and for attached files, which are numbered from 1, their number plus 1.
+/// Warns of each item that `targets` name and that the file `name` lacks, once: its number is at least `count`. For
+/// tracks, numbered from 0, `count` is their number. For attached files, numbered from 1, it is their number plus 1.
 pub fn say_absent<P: Report>(
     alloc: Global,
     missing: Missing,
@@ -61,7 +61,7 @@ pub fn say_absent<P: Report>(
     Ok(())
 }
 
-/// Warns of a number that the file lacks.
+/// Warns that the file `name` lacks the track or attached file with the number `number`.
 fn say_missing<P: Report>(
     alloc: Global,
     missing: Missing,
@@ -78,7 +78,8 @@ fn say_missing<P: Report>(
     }
 }
 
-/// Checks whether a number is reported: it isn't below `count`, and it isn't one of `told`, which it then joins.
+/// Checks whether a missing number must be reported: it isn't below `count`, and it isn't one of `told`, those that
+/// were reported. It then joins `told`.
 fn is_told(told: &mut IndexSet<u64>, number: u64, count: u64) -> Result<bool, CommandEnd>
     ensures told { IfOk result (λ is_told. is_told ≡ (nat_le count number && not (contains nat_eq told.old number))) }
     ensures numbers { OnOk result (HasJoined count number told.old.keys told.new.keys) }
@@ -93,7 +94,8 @@ fn is_told(told: &mut IndexSet<u64>, number: u64, count: u64) -> Result<bool, Co
     }
 }
 
-/// Prints the messages of the complete outputs, and warns of problems.
+/// Prints the messages after an extraction of frames: a line for each complete output, and the warnings of `extracted`.
+/// Returns the status. `count` is the number of tracks in the file `name`.
 pub fn tell<P: Report>(
     alloc: Global,
     name: &str,
@@ -112,7 +114,7 @@ pub fn tell<P: Report>(
     Ok(status_of(targets, count, extracted))
 }
 
-/// Warns of damage of the file, and then of the frames that aren't written.
+/// Warns of the damage of the file `name`, and then of the frames that were left out.
 fn warn_all<P: Report>(
     alloc: Global,
     name: &str,
@@ -132,8 +134,8 @@ fn warn_all<P: Report>(
     )
 }
 
-/// Prints a line for each output, that is, for each target with a number below `count`, the first number that the
-/// file lacks.
+/// Prints a line for each output that was written: for each of `targets` with a number below `count`, the first number
+/// that the file lacks.
 pub fn say_wrote<P: Report>(
     alloc: Global,
     targets: &[Target],
@@ -153,7 +155,8 @@ pub fn say_wrote<P: Report>(
     Ok(())
 }
 
-/// Prints a warning for each of the first damaged places, and the number of the others.
+/// Prints a warning for each of the first damaged places in `damages`, and a line with the number of the others. `what`
+/// is their kind, and `name` the file's name.
 fn warn<P: Report>(
     alloc: Global,
     what: WarningKind,
@@ -175,7 +178,8 @@ fn warn<P: Report>(
     Ok(())
 }
 
-/// Prints the number `more` of damaged places that aren't reported each, unless it is 0. `what` is their kind.
+/// Prints a line with the number `more` of damaged places that aren't printed each; `what` is their kind, and `name`
+/// the file's name.
 fn say_more<P: Report>(
     alloc: Global,
     what: WarningKind,
@@ -192,9 +196,9 @@ fn say_more<P: Report>(
     }
 }
 
-/// Prints a line for each complete output and warns of damage at level 1. Returns the status of the extraction. It is
-/// a warning if there is damage or if a target names a missing item. `count` is the first number that the file `name`
-/// lacks.
+/// Prints the messages after an extraction of attached files or cue points: a line for each complete output, and a
+/// warning of damage at level 1. Returns the status, which is a warning if there is damage or if a target names a
+/// missing item. `count` is the first number that the file `name` lacks.
 pub fn tell_held<P: Report>(
     alloc: Global,
     name: &str,
@@ -217,7 +221,7 @@ pub fn tell_held<P: Report>(
     }
 }
 
-/// Warns of damage at level 1, if there is any.
+/// Warns of the damage of the file `name` at level 1, if there is any, and returns the status of the command.
 pub fn warn_outline<P: Report>(
     alloc: Global,
     name: &str,
@@ -236,7 +240,7 @@ pub fn warn_outline<P: Report>(
     Ok(Status::Warned)
 }
 
-/// Prints a warning of a damaged place.
+/// Prints a warning of the damaged place `damage` in the file `name`.
 fn warn_of<P: Report>(
     alloc: Global,
     name: &str,
@@ -250,8 +254,8 @@ fn warn_of<P: Report>(
     say(alloc, report, &Line::Warned { name, damage })
 }
 
-/// Returns the status of an extraction. It is a warning if the file lacks a named item, whose number is at least
-/// `count`. It is one too if there is damage, or a frame that isn't written.
+/// Returns the status of an extraction of frames. It is a warning if `targets` name a track that the file lacks, whose
+/// number is at least `count`. It is one too if `extracted` has damage or a frame that was left out.
 fn status_of(targets: &[Target], count: u64, extracted: &Extracted) -> Status
     ensures value { HasStatusOf extracted.now (has_absent count targets.now) (Ok result) }
     ensures ordinary { IsOrdinary result }
@@ -268,15 +272,15 @@ fn status_of(targets: &[Target], count: u64, extracted: &Extracted) -> Status
     Status::Done
 }
 
-/// Checks whether a list that is reported isn't empty.
+/// Checks whether `told`, a list of reported places, has any.
 fn is_any(told: &Damages) -> bool
     ensures { (list : List Damage) → told.now ≡ told_damages list → result ≡ nat_lt 0 (length list) }
 {
     !told.first().is_empty()
 }
 
-/// Checks whether a target names an item that the file lacks: its number is at least `count`. For tracks `count` is
-/// their number, and for attached files, which are numbered from 1, their number plus 1.
+/// Checks whether one of `targets` names an item that the file lacks: its number is at least `count`. For tracks,
+/// numbered from 0, `count` is their number. For attached files, numbered from 1, it is their number plus 1.
 pub fn has_absent(targets: &[Target], count: u64) -> bool
     ensures { result ≡ has_absent count targets.now }
 {

@@ -1,4 +1,4 @@
--- The attached files in JSON: RFC 9559, section 5.1.6 (Attachments Element). The keys are this project's.
+-- The attached files in the JSON of `merge -J`: RFC 9559, section 5.1.6 (Attachments Element). The keys are this project's.
 use Rattle.std.specs.Prelude.{ℕ, List, [], ◌∷◌}
 use Rattle.serde_json.specs.Data.{Data, string}
 use Rattle.mkv_schema.specs.declared.ids.TheConstants.{FILE_DESCRIPTION, FILE_MEDIA_TYPE, FILE_NAME}
@@ -6,8 +6,8 @@ use Rattle.meta_records.specs.Attached.{AttachedFile}
 use Rattle.mkv_info.specs.Json.{array_of, given, numbered, object_of, whole}
 use Rattle.mkv_info.specs.Texts.{text_or_empty}
 
--- an attached file: FileMediaType, FileDescription and FileName, empty if absent; its number in the file; FileUID; and the size of FileData in
--- bytes
+-- the object of the attached file `a`. It has FileMediaType, FileDescription and FileName, empty if absent; the number `id`, counted from 1; FileUID;
+-- and the size of FileData in bytes.
 abbrev pub attachment_value : ℕ → AttachedFile → Data
 attachment_value id a = object_of (
     given "content_type" (string (text_or_empty FILE_MEDIA_TYPE a.entry)) ∷

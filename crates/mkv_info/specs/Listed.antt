@@ -1,4 +1,4 @@
--- The result of `info` for a file: a line for each Element (RFC 8794, section 8, EBML Document) and each track (RFC 9559, section 5.1.4, Tracks
+-- The outcome of `info` for a file: a line for each Element (RFC 8794, section 8, EBML Document) and each track (RFC 9559, section 5.1.4, Tracks
 -- Element). The lines are this project's.
 use Rattle.std.specs.Prelude.{ℕ, ◌++◌, List, [], ◌∷◌, map, Option, Some, None, Result, Ok, Err}
 use Rattle.mkv_io.specs.declared.damage.Damage.{Damage}
@@ -12,42 +12,42 @@ use Rattle.mkv_lines.specs.declared.status.Status.{Status}
 use Rattle.mkv_lines.specs.declared.status.Status.TheVariants.{Done, Warned}
 use Rattle.mkv_info.specs.Tracks.{file_tracks, track_lines}
 
--- a line for the EBML header, for the Segment, and for each Element of level 1
+-- the lines of `info` for the Elements of a file with the outline `o`: the EBML header, the Segment, and each Element at level 1
 abbrev pub element_lines : Outlined → List (List ℕ)
 element_lines o = level_0_line o.ebml ∷ level_0_line o.segment ∷ map level_1_line o.list
 
--- the same lines, by an outline that was read and the Elements of its Segment
+-- the lines of `info` for the Elements of a file with the content `bytes`, whose outline the code has read as `o`
 abbrev pub shown_lines : List ℕ → FileOutline → List (List ℕ)
 shown_lines bytes o = level_0_line o.ebml ∷ level_0_line o.segment ∷ map level_1_line (segment_run bytes o.segment).list
 
--- the lines of level 1 of a Segment
+-- the lines of `info` for the Elements at level 1 of the Segment `segment` in the content `bytes`
 abbrev pub level_1_lines : Header → List ℕ → List (List ℕ)
 level_1_lines segment bytes = map level_1_line (segment_run bytes segment).list
 
--- the warning after the list; a file that is damaged at level 1 is listed up to the damage
+-- the warning after the list of the file `name`: its damage at level 1, if any, which ends the list
 abbrev pub warnings : List ℕ → Option Damage → List (List ℕ)
 warnings name None = []
 warnings name (Some d) = warning_line name d ∷ []
 
--- the status: done, or warned of damage
+-- the status of the command after a list: Warned if there is damage at level 1, or else Done
 abbrev pub status_with : Option Damage → Status
 status_with None = Done
 status_with (Some d) = Warned
 
--- the list: the Elements, then the tracks, then the warning
+-- the outcome of `info` for the file `name` with the outline `o` and the tracks `tracks`: the Elements, then the tracks, then the warning
 abbrev pub listed : List ℕ → Outlined → List Track → Verdict
 listed name o tracks = only_said (status_with o.damage) (element_lines o ++ (track_lines 0 tracks ++ warnings name o.damage))
 
--- the result of `info` for a file with the outline `o`, given its tracks, or the refusal because of them
+-- the outcome of `info` for the file `name` with the outline `o`, given its tracks, or the damage for which they are refused
 abbrev pub with_tracks : List ℕ → Outlined → Result (List Track) Damage → Verdict
 with_tracks name o (Ok tracks) = listed name o tracks
 with_tracks name o (Err d) = refused (refusal_line name d)
 
--- the result of `info` for a file with the content `bytes`, given its outline, or the refusal because of its outline or tracks
+-- the outcome of `info` for the file `name` with the content `bytes`, given its outline, or the damage for which it is refused
 abbrev pub listed_or_refused : List ℕ → List ℕ → Result Outlined Damage → Verdict
 listed_or_refused name bytes (Ok o) = with_tracks name o (file_tracks bytes o.segment)
 listed_or_refused name bytes (Err d) = refused (refusal_line name d)
 
--- the result for the file `name` with this content, line by line
+-- the outcome of `info` for the file `name` with the content `bytes`
 abbrev pub listed_verdict : List ℕ → List ℕ → Verdict
 listed_verdict name bytes = listed_or_refused name bytes (outline_of 0 bytes)

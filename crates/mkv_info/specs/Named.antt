@@ -1,7 +1,7 @@
--- The TrackUIDs that are looked for. They are this project's.
+-- The match of a TrackUID that a Targets names.
 use Rattle.std.specs.Prelude.{ℕ, ◌==◌, Bool, true, Option, Some, None}
 
--- The TrackUID `own` is the one that is looked for, or any is.
+-- The TrackUID `own` is the one that is looked for; without one, any TrackUID is.
 abbrev pub is_wanted : Option ℕ → ℕ → Bool
 is_wanted None own = true
 is_wanted (Some uid) own = own == uid

@@ -1,4 +1,4 @@
--- Members that are put into an object in sequence.
+-- Members that are put into a JSON object in sequence. The code's objects sort their keys.
 use Rattle.std.specs.Prelude.{ℕ, Bool, true, false, ◌&&◌, List, [], ◌∷◌, ◌++◌, Option, Some, None, ◌≡◌}
 use Rattle.std.specs.Ordering.{nat_cmp, match_ordering}
 use Rattle.std.specs.Cmp.Lexicographic.{slice_cmp}
@@ -10,26 +10,26 @@ use Rattle.std.specs.declared.string.String.{String}
 use Rattle.serde_json.specs.View.{members_view, view}
 use Rattle.serde_json.specs.declared.value.Value.{Value}
 
--- an object after a member is put into it, unless it has no value
+-- the members of an object after the member `key` is put into it; without a value the object stays
 abbrev pub put_if : List ℕ → Option Data → Members → Members
 put_if key None ms = ms
 put_if key (Some value) ms = put key value ms
 
--- A member was put into an object, unless it has no value.
+-- The code put the member `key` with this value into an object, whose members were `old` and are `new`. Without a value the object stays.
 abbrev pub PutsMember : List ℕ → Option Value → List (String Global × Value) → List (String Global × Value) → Type 0
 PutsMember key value old new = members_view new ≡ put_if key (option_map view value) (members_view old)
 
--- an object after these members are put into it in sequence
+-- the members of an object after each of the list is put into it in sequence
 abbrev pub put_each : List Member → Members → Members
 put_each [] ms = ms
 put_each (m ∷ more) ms = put_each more (put_if m.0 m.1 ms)
 
--- A key comes after the keys of all these members, in the order of bytes.
+-- The key `key` comes after the keys of all members in the list, in the order of bytes.
 abbrev pub is_behind : List ℕ → List Member → Bool
 is_behind key [] = true
 is_behind key (m ∷ ms) = match_ordering (slice_cmp nat_cmp key m.0) false false true && is_behind key ms
 
--- The keys of `more` ascend, and come after the keys of `before`.
+-- The keys of `more` ascend in the order of bytes, and come after the keys of `before`.
 abbrev pub rise : List Member → List Member → Bool
 rise before [] = true
 rise before (m ∷ more) = is_behind m.0 before && rise (before ++ m ∷ []) more

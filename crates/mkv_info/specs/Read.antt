@@ -1,4 +1,4 @@
--- The data of a file that its identification needs: RFC 9559, section 5.1 (Segment Element).
+-- The records of a file that its identification needs: RFC 9559, section 5.1 (Segment Element).
 use Rattle.std.specs.Prelude.{◌≡◌, ⊤, List, ℕ, Option, Result, Ok, Err}
 use Rattle.mkv_io.specs.declared.damage.Damage.{Damage}
 use Rattle.mkv_schema.specs.Outline.{Outlined, outline_of}
@@ -8,22 +8,22 @@ use Rattle.element_reader.specs.declared.outline_end.OutlineEnd.TheVariants as o
 use Rattle.meta_records.specs.Records.{FileRecords, described_by, file_records}
 use Rattle.mkv_info.specs.declared.reading.FileRead.{FileRead}
 
--- the records that describe a file, and the damage at level 1
+-- The records that describe a file, and its first damage at level 1, if any.
 pub record Described : Type 0 where
   pub records : FileRecords
   pub damage : Option Damage
 
--- the data that were read, in the form of the definitions
+-- the data `r` that the code has read of a file, in the form of the definitions
 abbrev pub read_in : FileRead → Described
 read_in r = record { records = described_by r.records; damage = r.damage }
 
--- the data of a content, or its first refusal: for its outline, and then for its records
+-- the records and damage of a file with the content `bytes`, or its refusal, first for its outline, and then for its records
 abbrev pub read_of : List ℕ → Result Described Damage
 read_of bytes =
     and_then (outline_of 0 bytes) (λ (o : Outlined).
     and_then (file_records bytes o.segment) (λ (r : FileRecords). Ok (record { records = r; damage = o.damage })))
 
--- The result is the data or the file's refusal; or a read failed, or memory ran out.
+-- The result has `found`, the records and damage of a file or its refusal; or a read failed, or memory ran out.
 abbrev pub ReadsFile : Result Described Damage → Result FileRead OutlineEnd → Type 0
 ReadsFile found (Ok r) = found ≡ Ok (read_in r)
 ReadsFile found (Err (outline_end.Refused d)) = found ≡ Err d

@@ -1,4 +1,4 @@
--- Facts of the records that were read.
+-- Properties of the records of a file that was read without refusal.
 use Rattle.std.specs.Prelude.{All, IfSome}
 use Rattle.mkv_schema.specs.declared.ids.TheConstants.{ATTACHED_FILE, TAGS}
 use Rattle.tree_format.specs.Node.{Node}
@@ -9,15 +9,15 @@ use Rattle.output_model.specs.declared.attachment.Attachment.{Attachment}
 use Rattle.meta_records.specs.Records.{IsGoodInfo}
 use Rattle.meta_records.specs.declared.records.Records.{Records}
 
--- The table allows each child of the AttachedFile in it.
+-- The Matroska table allows each child of the AttachedFile of `a` there.
 abbrev pub IsAttached : Attachment → Type 0
 IsAttached a = IsSoundOf ATTACHED_FILE a.entry
 
--- The table allows each child of the Tags in it.
+-- The Matroska table allows each child of `tags`, a Tags, there.
 abbrev pub AreTags : Node → Type 0
 AreTags tags = IsSoundOf TAGS tags
 
--- The records can be described: the table allows the children of each Element, and the Info isn't refused.
+-- The records `r` can be described: the Matroska table allows the children of each Element, and the Info isn't refused.
 pub record CanBeTold (r : Records) : Type 0 where
   pub info : IfSome r.info IsGoodInfo
   pub tracks : All (λ (t : Track). IsEntry t.entry) r.tracks

@@ -1,4 +1,4 @@
--- Numbers of tags by TrackUID: RFC 9559, section 5.1.8 (Tags Element).
+-- The code's counts of tags by TrackUID: RFC 9559, section 5.1.8 (Tags Element).
 use Rattle.std.specs.Prelude.{◌≡◌, ℕ, ◌+◌, nat_eq, if◌then◌else◌, List, [], length, Option}
 use Rattle.std.specs.List.{list_any}
 use Rattle.std.specs.Option.{unwrap_or}
@@ -10,30 +10,30 @@ use Rattle.tree_format.specs.Changes.{part}
 use Rattle.mkv_info.specs.declared.tags.Scope.TheVariants.{Track}
 use Rattle.mkv_info.specs.Tags.{is_counted, tag_count, tracks_named}
 
--- the number that `counts` has for the TrackUID `uid`, or 0
+-- the count of the TrackUID `uid` in `counts`, or 0 if it isn't there
 abbrev pub tags_of_uid : {S : Type 0} → IndexMap ℕ ℕ S → ℕ → ℕ
 tags_of_uid counts uid = unwrap_or (get nat_eq counts uid) 0
 
--- the TrackUIDs that a Tag names, each at its first place
+-- the TrackUIDs that the Tag `tag` names, each once, in the order of their first places
 abbrev pub uids_named : Node → List ℕ
 uids_named tag = insert_all nat_eq [] (tracks_named tag)
 
--- `count`, if `uid` is one of `uids`, or 0
+-- `count` if the TrackUID `uid` is one of `uids`, or else 0
 abbrev pub if_among : List ℕ → ℕ → ℕ → ℕ
 if_among uids count uid = if list_any (nat_eq uid) uids then count else 0
 
--- `new` has `count` more than `old` for each TrackUID of `uids`, and the same for every other.
+-- The counts `new` have `count` more than `old` for each TrackUID in `uids`, and the same number for every other.
 abbrev pub AddsFor : {S : Type 0} → IndexMap ℕ ℕ S → IndexMap ℕ ℕ S → List ℕ → ℕ → Type 0
 AddsFor old new uids count = (uid : ℕ) → tags_of_uid new uid ≡ tags_of_uid old uid + if_among uids count uid
 
--- the number of SimpleTags directly in a Tag, if it names the track with this TrackUID, or 0
+-- the number of SimpleTags directly in the Tag `tag`, if it names the track with the TrackUID `uid`, or else 0
 abbrev pub count_if_named : Node → ℕ → ℕ
 count_if_named tag uid = if is_counted (Track uid) tag then length (part SIMPLE_TAG (children tag)) else 0
 
--- `new` counts the SimpleTags of a Tag beside those of `old`.
+-- The counts `new` are the counts `old` with the SimpleTags of the Tag `tag` added for each TrackUID that it names.
 abbrev pub CountsTag : {S : Type 0} → IndexMap ℕ ℕ S → IndexMap ℕ ℕ S → Node → Type 0
 CountsTag old new tag = (uid : ℕ) → tags_of_uid new uid ≡ tags_of_uid old uid + count_if_named tag uid
 
--- `counts` has the number of tags of each track.
+-- For each TrackUID, `counts` has the number of SimpleTags that the Tags `tags` has for it.
 abbrev pub AreCountsOf : {S : Type 0} → IndexMap ℕ ℕ S → Option Node → Type 0
 AreCountsOf counts tags = (uid : ℕ) → tags_of_uid counts uid ≡ tag_count (Track uid) tags

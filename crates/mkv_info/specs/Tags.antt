@@ -1,4 +1,5 @@
--- The counts of tags of a file, and of each of its tracks: RFC 9559, section 5.1.8 (Tags Element). The keys are this project's.
+-- The counts of tags of a file, and of each of its tracks, in the JSON of `merge -J`: RFC 9559, section 5.1.8 (Tags Element). The keys are this
+-- project's.
 use Rattle.std.specs.Prelude.{ℕ, ◌==◌, Bool, true, not, if◌then◌else◌, List, [], ◌∷◌, filter, flat_map, length, map, Option, Some, None}
 use Rattle.std.specs.List.{list_any}
 use Rattle.serde_json.specs.Data.{Data}
@@ -11,41 +12,41 @@ use Rattle.mkv_info.specs.declared.tags.Scope.{Scope}
 use Rattle.mkv_info.specs.declared.tags.Scope.TheVariants.{Global, Track}
 use Rattle.mkv_info.specs.Json.{array_of, given, numbered, object_of, whole}
 
--- the TrackUIDs that the children of a Targets name; a TagTrackUID of 0 names no track
+-- the TrackUIDs that `ns`, the children of a Targets, name; a TagTrackUID of 0 names no track
 abbrev pub named_among : List Node → List ℕ
 named_among ns = filter (λ uid. not (uid == 0)) (map integer_of (part TAG_TRACK_UID ns))
 
--- the TrackUIDs that a Targets element names
+-- the TrackUIDs that the Targets `targets` names
 abbrev pub named_in : Node → List ℕ
 named_in targets = named_among (children targets)
 
--- the TrackUIDs that a Tag names in all its Targets
+-- the TrackUIDs that the Tag `tag` names in all its Targets
 abbrev pub tracks_named : Node → List ℕ
 tracks_named tag = flat_map named_in (part TARGETS (children tag))
 
--- The Tag is counted: it names no track, or it names the track with this TrackUID.
+-- The Tag is counted in this scope: it names no track, or it names the track with the TrackUID of the scope.
 abbrev pub is_counted : Scope → Node → Bool
 is_counted Global tag = not (list_any (λ own. true) (tracks_named tag))
 is_counted (Track uid) tag = list_any (λ own. own == uid) (tracks_named tag)
 
--- the SimpleTags directly in a Tag that is counted, for all Tags among `ns`, each once
+-- the SimpleTags directly in the Tags of `ns` that are counted in this scope, each once; `ns` has the children of a Tags
 abbrev pub simple_tags : Scope → List Node → List Node
 simple_tags scope ns = flat_map (λ t. part SIMPLE_TAG (children t)) (filter (is_counted scope) (part TAG ns))
 
--- the number of SimpleTags directly in the Tags of this scope, or 0 without Tags
+-- the number of SimpleTags directly in the Tags that are counted in this scope, or 0 if the file has none
 abbrev pub tag_count : Scope → Option Node → ℕ
 tag_count scope None = 0
 tag_count scope (Some tags) = length (simple_tags scope (children tags))
 
--- the value for `count` tags of the track with number `id`
+-- the object for `count` SimpleTags of the track with index `id`, from 0
 abbrev pub counted_tags : ℕ → ℕ → Data
 counted_tags count id = object_of (given "num_entries" (whole count) ∷ given "track_id" (whole id) ∷ [])
 
--- the value with the number of tags of a track, or nothing if it has none
+-- the object for the SimpleTags of the track `t`, which has the index `id`, as a list; empty if it has none
 abbrev pub track_tags : Option Node → ℕ → tracks.Track → List Data
 track_tags tags id t =
     if tag_count (Track t.uid) tags == 0 then [] else counted_tags (tag_count (Track t.uid) tags) id ∷ []
 
--- the values for all tracks, numbered from 0
+-- the value of the key `track_tags`: the counts for all of `tracks` that have SimpleTags, with their index from 0
 abbrev pub track_tags_value : Option Node → List tracks.Track → Data
 track_tags_value tags tracks = array_of (numbered (track_tags tags) 0 tracks)

@@ -1,13 +1,13 @@
--- The texts among the children of a master: RFC 8794, section 7 (EBML Element Types).
+-- Texts of the children of a master: RFC 8794, section 7 (EBML Element Types).
 use Rattle.std.specs.Prelude.{ℕ, List, [], ◌∷◌, Option, Some, None, unwrap_or}
 use Rattle.tree_format.specs.Node.{Node}
 use Rattle.tree_format.specs.Values.{text_in}
 
--- the text with this ID among the children, or an empty text if it is absent
+-- the text of the first child of `tree` with the ID `id`, or no bytes if it is absent
 abbrev pub text_or_empty : ℕ → Node → List ℕ
 text_or_empty id tree = unwrap_or (text_in id tree) []
 
--- the text, unless it is empty
+-- a text, or none if it is empty
 abbrev pub unless_empty : List ℕ → Option (List ℕ)
 unless_empty [] = None
 unless_empty (o ∷ os) = Some (o ∷ os)

@@ -1,4 +1,4 @@
--- The tracks in JSON: RFC 9559, section 5.1.4 (Tracks Element). The keys are this project's.
+-- The tracks in the JSON of `merge -J`: RFC 9559, section 5.1.4 (Tracks Element). The keys are this project's.
 use Rattle.std.specs.Prelude.{ℕ, ◌==◌, not, List, [], ◌∷◌, ◌++◌, Option, codes}
 use Rattle.std.specs.Fmt.{decimal}
 use Rattle.std.specs.Option.{option_map, option_and_then}
@@ -11,23 +11,24 @@ use Rattle.track_records.specs.declared.track.Track.{Track}
 use Rattle.mkv_info.specs.Json.{Member, array_of, given, if_there, numbered, object_of, whole}
 use Rattle.mkv_info.specs.Texts.{text_or_empty, unless_empty}
 
--- a flag of an entry, set unless its value is 0; the table has the value of one that is missing or empty
+-- the flag with the ID `id` in the TrackEntry `entry`, as a JSON boolean, true unless its value is 0. If it is absent or empty, it is the default of
+-- the Matroska table.
 abbrev pub flag : ℕ → Node → Data
 flag id entry = boolean (not (uint_in id entry == 0))
 
--- two numbers, written as a width and a height
+-- two numbers of pixels as `WIDTHxHEIGHT`
 abbrev pub dimensions_text : ℕ → ℕ → List ℕ
 dimensions_text width height = decimal width ++ (codes "x" ++ decimal height)
 
--- PixelWidth and PixelHeight of a Video Element, if both are present
+-- PixelWidth and PixelHeight of the Video `video`, as `WIDTHxHEIGHT`, if both are present
 abbrev pub pixels_in : Node → Option (List ℕ)
 pixels_in video = option_and_then (λ w. option_map (dimensions_text w) (integer_in PIXEL_HEIGHT video)) (integer_in PIXEL_WIDTH video)
 
--- PixelWidth and PixelHeight of an entry's first Video, if both are present
+-- PixelWidth and PixelHeight in the first Video of the TrackEntry `entry`, as `WIDTHxHEIGHT`, if both are present
 abbrev pub dimensions_of : Node → Option (List ℕ)
 dimensions_of entry = option_and_then pixels_in (first_child VIDEO entry)
 
--- the properties of a track: CodecID, DefaultDuration in nanoseconds, flags, language, LanguageBCP47, TrackNumber, pixels, Name and TrackUID.
+-- the properties of the track `t`: CodecID, DefaultDuration in nanoseconds, flags, language, LanguageBCP47, TrackNumber, pixels, Name and TrackUID.
 -- Absent ones and an empty Name are left out; an absent TrackUID is 0.
 abbrev pub properties_of : Track → List Member
 properties_of t =
@@ -44,7 +45,7 @@ properties_of t =
     given "uid" (whole t.uid) ∷
     []
 
--- CodecID, the track's number in the file, its properties, and the name of its TrackType
+-- the object of the track `t`, which has the index `id`, from 0: CodecID, index, properties, and the name of its TrackType
 abbrev pub track_value : ℕ → Track → Data
 track_value id t = object_of (
     given "codec" (string t.codec) ∷
@@ -53,6 +54,6 @@ track_value id t = object_of (
     given "type" (string (type_name t.kind)) ∷
     [])
 
--- the JSON array of the tracks, in the order of the file and numbered from 0
+-- the value of the key `tracks`: a list of the tracks in their order in the file, numbered from 0
 abbrev pub tracks_value : List Track → Data
 tracks_value list = array_of (numbered (λ id t. track_value id t ∷ []) 0 list)

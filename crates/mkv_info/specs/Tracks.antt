@@ -1,4 +1,4 @@
--- The tracks of a file: RFC 9559, section 5.1.4 (Tracks Element).
+-- The tracks of a file, and their lines in the list of `info`: RFC 9559, section 5.1.4 (Tracks Element).
 use Rattle.std.specs.Prelude.{◌≡◌, ℕ, ◌+◌, List, [], ◌∷◌, Option, Some, None, Result, Ok}
 use Rattle.mkv_schema.specs.declared.ids.TheConstants.{TRACKS}
 use Rattle.mkv_io.specs.declared.damage.Damage.{Damage}
@@ -12,24 +12,24 @@ use Rattle.track_records.specs.Track.{tracks_of}
 use Rattle.track_records.specs.declared.track.Track.{Track}
 use Rattle.mkv_lines.specs.Shown.{track_text}
 
--- the tracks of a Tracks, or their refusal; without a Tracks there are none
+-- the tracks in the file's first Tracks, or the damage for which they are refused; none without a Tracks
 abbrev pub tracks_in : Option Node → Result (List Track) Damage
 tracks_in None = Ok []
 tracks_in (Some tracks) = tracks_of tracks
 
--- the tracks of a file with this Segment: the tracks of its first Tracks
+-- the tracks of a file with the content `bytes` and this Segment, or the damage for which they are refused
 abbrev pub file_tracks : List ℕ → Header → Result (List Track) Damage
 file_tracks bytes segment = and_then (first_tree TRACKS bytes segment) tracks_in
 
--- `found` is the tracks of a content that has this outline, or their refusal.
+-- If the content `bytes` has this outline, `found` is the tracks of the file, or the damage for which they are refused.
 abbrev pub AreTracksOf : FileOutline → Result (List Track) Damage → List ℕ → Type 0
 AreTracksOf outline found bytes = outline_in 0 bytes ≡ Ok outline → found ≡ file_tracks bytes outline.segment
 
--- the line of track number `k`, counted from 0
+-- the line of `info` for the track `t`, which has the index `k`, from 0
 abbrev pub shown_track : ℕ → Track → List ℕ
 shown_track k t = track_text k (type_name t.kind) t.codec t.number t.uid t.language
 
--- a line for each track, numbered from `k`
+-- the lines of `info` for the tracks of the list; the first has the index `k`
 abbrev pub track_lines : ℕ → List Track → List (List ℕ)
 track_lines k [] = []
 track_lines k (t ∷ ts) = shown_track k t ∷ track_lines (k + 1) ts

@@ -1,4 +1,4 @@
-//! The attached files: RFC 9559, section 5.1.6 (Attachments Element).
+//! The attached files in the JSON of `merge -J`: RFC 9559, section 5.1.6 (Attachments Element).
 
 ghost use Rattle.std.specs.Prelude.{◌≡◌, All, IfOk, map};
 ghost use Rattle.serde_json.specs.View.{view};
@@ -12,7 +12,7 @@ use output_model::Attachment;
 use serde_json::{Value, json};
 use std::alloc::{AllocError, Global};
 
-/// Makes the list of the attached files, numbered from 1.
+/// Makes the value of the key `attachments`: a list of the attached files in their order in the file, numbered from 1.
 pub(crate) fn attachments_value(
     alloc: Global,
     attachments: &[Attachment],
@@ -27,7 +27,7 @@ pub(crate) fn attachments_value(
     Ok(Value::Array(values))
 }
 
-// Makes the value of the attached file with number `id`.
+// Makes the object of the attached file `attachment` with the number `id`, counted from 1.
 #[tactic(auto, using(crate::proofs::ValueLemmas::known))]
 fn attachment_value(alloc: Global, id: u64, attachment: &Attachment) -> Result<Value, AllocError>
     requires { IsAttached attachment.now }

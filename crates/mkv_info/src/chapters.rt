@@ -1,4 +1,4 @@
-//! Count of the chapters: RFC 9559, section 5.1.7 (Chapters Element).
+//! Count of the chapters in the JSON of `merge -J`: RFC 9559, section 5.1.7 (Chapters Element).
 
 ghost use Rattle.std.specs.Prelude.{◌≡◌, IfOk};
 ghost use Rattle.serde_json.specs.View.{view};
@@ -10,7 +10,8 @@ use mkv_schema::ids::{CHAPTER_ATOM, EDITION_ENTRY};
 use serde_json::{Value, json};
 use std::alloc::{AllocError, Global};
 
-/// Makes a list with one object that has the number of entries, or an empty list for no entries.
+/// Makes the value of the keys `chapters` and `global_tags`: a list with one object that has the number of entries,
+/// `count`. It is empty if `count` is 0.
 pub(crate) fn entries_value(alloc: Global, count: usize) -> Result<Value, AllocError>
     ensures { IfOk result (λ value. view value ≡ entries_value count) }
 {
@@ -20,7 +21,8 @@ pub(crate) fn entries_value(alloc: Global, count: usize) -> Result<Value, AllocE
     json!(in alloc; [{"num_entries": count}])
 }
 
-/// Returns the number of ChapterAtoms directly in an EditionEntry.
+/// Returns the number of ChapterAtoms directly in an EditionEntry of `chapters`, the file's first Chapters; nested ones
+/// don't count. It is 0 without a Chapters.
 pub(crate) fn chapter_count(chapters: &Option<Tree>) -> Result<usize, AllocError>
     ensures { IfOk result (λ count. count ≡ chapter_count chapters.now) }
 {

@@ -1,4 +1,4 @@
-//! Properties of the whole file: RFC 9559, section 5.1.2 (Info Element).
+//! Properties of the whole file in the JSON of `merge -J`: RFC 9559, section 5.1.2 (Info Element).
 
 ghost use Rattle.std.specs.Prelude.{◌≡◌, IfOk, IfSome};
 ghost use Rattle.std.specs.Option.{option_copied};
@@ -14,7 +14,8 @@ use mkv_schema::ids::TITLE;
 use serde_json::{Map, Value, json, put};
 use std::alloc::{AllocError, Global};
 
-/// Makes the value of the container, for a file with this first Info.
+/// Makes the value of the key `container` for a file with the first Info `info`: its properties, and that it is
+/// Matroska.
 pub(crate) fn container_value(alloc: Global, info: &Option<Tree>) -> Result<Value, AllocError>
     requires { IfSome info.now IsGoodInfo }
     ensures { IfOk result (λ value. view value ≡ container_value info.now) }
@@ -28,7 +29,8 @@ pub(crate) fn container_value(alloc: Global, info: &Option<Tree>) -> Result<Valu
     })
 }
 
-// Makes the properties of the whole file: TimestampScale and Title.
+// Makes the properties of the whole file: TimestampScale in nanoseconds per tick, and Title, which is left out if it is
+// empty.
 fn container_properties(alloc: Global, info: &Option<Tree>) -> Result<Value, AllocError>
     requires { IfSome info.now IsGoodInfo }
     ensures { IfOk result (λ value. view value ≡ container_properties info.now) }
@@ -45,7 +47,7 @@ fn container_properties(alloc: Global, info: &Option<Tree>) -> Result<Value, All
     Ok(Value::Object(properties))
 }
 
-// Returns the Title, if it isn't empty.
+// Returns the Title of the Info, or None if it is empty or absent.
 #[tactic(auto, using(crate::proofs::ValueLemmas::known))]
 fn title_of(info: &Option<Tree>) -> Option<&str>
     requires { IfSome info.now IsGoodInfo }

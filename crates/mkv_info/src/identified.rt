@@ -1,4 +1,4 @@
-//! Identification of a file as one line of JSON.
+//! The command `merge -J` for one open file: its identification as one line of JSON.
 
 ghost use Rattle.std.specs.Prelude.{◌≡◌, IfOk};
 ghost use Rattle.mkv_io.specs.Bounds.{ReadsUpTo};
@@ -19,7 +19,8 @@ use mkv_io::{FileId, Reads, Report};
 use mkv_lines::{CommandEnd, Line, Status, refuse, say_text};
 use std::alloc::Global;
 
-/// Prints the identification of a live file and a warning of the damage that ends its outline, or its refusal.
+/// Prints the identification of the open file `file` with the name `name`, and then a warning of the damage that ends
+/// its outline. A file that is refused gets only an error line.
 pub fn identify_file<R: Reads, P: Report>(
     alloc: Global,
     name: &str,
@@ -44,7 +45,7 @@ pub fn identify_file<R: Reads, P: Report>(
     }
 }
 
-/// Prints the identification of a file with the records in `read`.
+/// Prints the identification of the file `name` with the data in `read`, and then a warning of its damage, if any.
 fn tell<P: Report>(
     alloc: Global,
     name: &str,

@@ -1,4 +1,4 @@
-//! Opening, description and closing of a file.
+//! The commands `info` and `merge -J`: a file is opened, described and closed.
 
 ghost use Rattle.std.specs.Prelude.{◌≡◌, [], ◌∷◌, IfOk};
 ghost use Rattle.mkv_io.specs.Asked.{AsksOnly};
@@ -18,16 +18,17 @@ use mkv_lines::{CommandEnd, Line, Status, refuse};
 use sidecar_edit::is_pending;
 use std::alloc::Global;
 
-/// Form of the description of a file.
+/// Form of the description of a file: `info` or `merge -J`.
 #[derive(Clone, Copy, Debug, PartialEq, Eq)]
 pub enum Form {
-    /// A line for each Element and each track.
+    /// A line for each Element at level 1 and each track (`info`).
     Lines,
-    /// One line of JSON.
+    /// One line of JSON (`merge -J`).
     Json,
 }
 
-/// Opens the file `name`, prints its description, and closes it.
+/// Opens the file `name`, prints its description in the form `form`, and closes it, in any case. A missing file, and
+/// one with a pending edit, gets only an error line.
 pub fn info_of<F: Files, P: Report>(
     alloc: Global,
     form: Form,
@@ -52,7 +53,8 @@ pub fn info_of<F: Files, P: Report>(
     ended
 }
 
-/// Prints the description of a live file, unless it has a pending edit.
+/// Prints the description of the open file `file` with the name `name`. If its journal has a pending edit, it prints
+/// only an error, since the file may be half written.
 fn report_unless_pending<F: Files, P: Report>(
     alloc: Global,
     form: Form,

@@ -6,7 +6,7 @@ ghost use Rattle.mkv_info.specs.Put.{PutsMember};
 use serde_json::{Map, Value, put};
 use std::alloc::{AllocError, Global};
 
-/// Puts a member into `object`, unless it has no value.
+/// Puts the member `key` with `value` into `object`, or leaves the object as it is if there is no value.
 pub(crate) fn put_if(
     object: &mut Map<String, Value>,
     alloc: Global,

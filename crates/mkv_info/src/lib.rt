@@ -1,7 +1,7 @@
 #![tactic(auto)]
 
 //! Descriptions of a file: the command `info` lists its Elements and tracks, and `merge -J` identifies it in one line
-//! of JSON.
+//! of JSON. Neither writes a file.
 
 mod attachments;
 mod chapters;

@@ -1,4 +1,4 @@
-//! Identification of a file, as a value and as its text.
+//! The whole identification of a file, as a JSON value and as its line of text.
 
 ghost use Rattle.std.specs.Prelude.{◌≡◌, IfOk};
 ghost use Rattle.serde_json.specs.View.{view};
@@ -16,7 +16,7 @@ use mkv_io::Text;
 use serde_json::{Map, Value, put};
 use std::alloc::{AllocError, Global};
 
-/// Makes the identification of the file `name` with these records, as one line of JSON.
+/// Makes the line of JSON that `merge -J` prints for the file `name` with the records `records`.
 pub fn identify(alloc: Global, name: &str, records: &Records) -> Result<Text, AllocError>
     requires { CanBeTold records.now }
     ensures { IfOk result (λ line. line ≡ identification_line name.now (described_by records.now)) }
@@ -25,7 +25,7 @@ pub fn identify(alloc: Global, name: &str, records: &Records) -> Result<Text, Al
     Ok(Text::from_string(value.to_string(alloc)?))
 }
 
-// Makes the identification of the file `name` with these records, as a value.
+// Makes the JSON object that identifies the file `name` with the records `records`. Its keys are sorted.
 #[tactic(auto, unfolding(crate::specs::Identification::identification))]
 fn identification(alloc: Global, name: &str, records: &Records) -> Result<Value, AllocError>
     requires { CanBeTold records.now }

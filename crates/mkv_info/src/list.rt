@@ -1,4 +1,4 @@
-//! List of a file's Elements, one to a line.
+//! The command `info` for one open file: a list of its Elements and tracks, one to a line.
 
 ghost use Rattle.std.specs.Prelude.{◌≡◌, ◌*◌, IfOk};
 ghost use Rattle.mkv_io.specs.Bounds.{ReadsUpTo};
@@ -17,8 +17,8 @@ use mkv_io::{Damage, FileId, Reads, Report};
 use mkv_lines::{CommandEnd, Line, Status, refuse, say};
 use std::alloc::Global;
 
-/// Lists the Elements and tracks of a live file, and warns of the damage that ends them. A file whose outline or
-/// tracks are refused isn't listed.
+/// Prints a line for each Element and each track of the open file `file`, which has the name `name`. A warning of the
+/// damage that ends the list follows. If its outline or tracks are refused, it prints only an error.
 pub fn list_file<R: Reads, P: Report>(
     alloc: Global,
     name: &str,
@@ -43,7 +43,8 @@ pub fn list_file<R: Reads, P: Report>(
     }
 }
 
-// Lists the Elements and tracks of a file with this outline. A file whose tracks are refused isn't listed.
+// Prints the lines of the open file `file` with the name `name`, whose outline is `outline`. If its tracks are refused,
+// it prints only an error.
 fn list_outline<R: Reads, P: Report>(
     alloc: Global,
     name: &str,
@@ -70,7 +71,7 @@ fn list_outline<R: Reads, P: Report>(
     }
 }
 
-// Prints a line for the EBML header, for the Segment, and for each Element of level 1.
+// Prints a line for the EBML header, for the Segment, and for each Element at level 1 of the open file `file`.
 fn say_elements<R: Reads, P: Report>(
     alloc: Global,
     outline: &Outline,
@@ -93,7 +94,8 @@ fn say_elements<R: Reads, P: Report>(
     say_level_1(alloc, outline, &mut window, src, file, report)
 }
 
-// Prints a line for each Element of level 1, read through a window that holds nothing yet.
+// Prints a line for each Element at level 1 of the open file `file`. The headers are read through `window`, which must
+// be empty.
 fn say_level_1<R: Reads, P: Report>(
     alloc: Global,
     outline: &Outline,
@@ -125,7 +127,8 @@ fn say_level_1<R: Reads, P: Report>(
     }
 }
 
-/// Prints a warning of a damaged place, if there is one.
+/// Prints a warning of the damaged place `damage` in the file `name`, if there is one, and returns the status of the
+/// command.
 pub(crate) fn warn<P: Report>(
     alloc: Global,
     name: &str,

@@ -1,4 +1,4 @@
-//! The data of a file that its identification needs.
+//! Reading of the records that the identification of a file needs.
 
 ghost use Rattle.std.specs.Prelude.{◌≡◌, IfOk};
 ghost use Rattle.mkv_io.specs.Bounds.{ReadsUpTo};
@@ -14,15 +14,15 @@ use meta_records::{Records, read_records};
 use mkv_io::{Damage, FileId, Reads};
 use std::alloc::Global;
 
-/// Data that were read of a file.
+/// Records of a file and its damage, for its identification.
 #[derive(Drop)]
 pub struct FileRead {
     pub records: Records,
-    /// Damage at level 1, in the part of the file that was read.
+    /// First damage at level 1, which ends the part of the file that was read.
     pub damage: Option<Damage>,
 }
 
-/// Reads the outline and then the records of a live file, or returns its first refusal.
+/// Reads the outline and then the records of the open file `file`, or returns the first refusal.
 #[tactic(auto, using(crate::proofs::ReadLemmas::told))]
 pub fn read_file<R: Reads>(alloc: Global, src: &mut R, file: FileId) -> Result<FileRead, OutlineEnd>
     requires { IsLive R.Reads src.old file }

@@ -1,4 +1,4 @@
-//! Numbers of tags of all tracks, by one pass over the tags: RFC 9559, section 5.1.8 (Tags Element).
+//! Counts of the tags of each track, in one pass over the tags: RFC 9559, section 5.1.8 (Tags Element).
 
 ghost use Rattle.std.specs.Prelude.{◌≡◌, ◌∷◌, [], nat_eq, IfOk, IfSome, OnOk};
 ghost use Rattle.std.specs.List.{IsDistinct};
@@ -15,7 +15,8 @@ use indexmap::{IndexMap, IndexSet};
 use mkv_schema::ids::{SIMPLE_TAG, TAG, TAG_TRACK_UID, TARGETS};
 use std::alloc::{AllocError, Global};
 
-/// Returns the number of SimpleTags of each track that tags name, by its TrackUID.
+/// Returns the number of SimpleTags for each TrackUID that the Tags `tags` names. A TrackUID that isn't in the map has
+/// none.
 pub(crate) fn tag_counts(
     alloc: Global,
     tags: &Option<Tree>,
@@ -35,14 +36,14 @@ pub(crate) fn tag_counts(
     Ok(counts)
 }
 
-/// Returns the number that `counts` has for a TrackUID, or 0.
+/// Returns the number of SimpleTags for the TrackUID `uid` in `counts`, or 0 if it isn't there.
 pub(crate) fn tags_of_uid(counts: &IndexMap<u64, usize>, uid: u64) -> usize
     ensures { result ≡ tags_of_uid counts.now uid }
 {
     counts.get(&uid).copied().unwrap_or(0)
 }
 
-// Counts the SimpleTags of a Tag for each track that it names.
+// Adds to `counts` the number of SimpleTags directly in `tag`, a Tag, for each TrackUID that it names.
 fn count_tag(alloc: Global, counts: &mut IndexMap<u64, usize>, tag: &Tree) -> Result<(), AllocError>
     requires { IsSoundOf TAG_ID tag.now }
     ensures { OnOk result (CountsTag counts.old counts.new tag.now) }
@@ -52,7 +53,7 @@ fn count_tag(alloc: Global, counts: &mut IndexMap<u64, usize>, tag: &Tree) -> Re
     add_all(counts, uids.as_slice(), count)
 }
 
-// Adds `count` for each TrackUID of `uids`.
+// Adds `count` to the counts of all TrackUIDs in `uids`.
 fn add_all(counts: &mut IndexMap<u64, usize>, uids: &[u64], count: usize) -> Result<(), AllocError>
     requires { IsDistinct nat_eq uids.now }
     ensures { OnOk result (AddsFor counts.old counts.new uids.now count) }
@@ -63,7 +64,8 @@ fn add_all(counts: &mut IndexMap<u64, usize>, uids: &[u64], count: usize) -> Res
     Ok(())
 }
 
-// Adds `count` for a TrackUID. A sum that is too large fails as out of memory; memory can't hold that number of tags.
+// Adds `count` to the count of the TrackUID `uid`. A sum that is too large fails as out of memory; memory can't hold
+// that number of tags.
 fn add(counts: &mut IndexMap<u64, usize>, uid: u64, count: usize) -> Result<(), AllocError>
     ensures { OnOk result (AddsFor counts.old counts.new (uid ∷ []) count) }
 {
@@ -74,7 +76,7 @@ fn add(counts: &mut IndexMap<u64, usize>, uid: u64, count: usize) -> Result<(), 
     Ok(())
 }
 
-// Returns the TrackUIDs that a Tag names, each once.
+// Returns the TrackUIDs that `tag`, a Tag, names in its Targets, each once.
 fn uids_named(alloc: Global, tag: &Tree) -> Result<IndexSet<u64>, AllocError>
     requires { IsSoundOf TAG_ID tag.now }
     ensures { IfOk result (λ uids. uids.keys ≡ uids_named tag.now) }
@@ -88,7 +90,8 @@ fn uids_named(alloc: Global, tag: &Tree) -> Result<IndexSet<u64>, AllocError>
     Ok(uids)
 }
 
-// Adds the TrackUIDs that a Targets names, unless they are there already; 0 names no track.
+// Adds the TrackUIDs that `targets`, a Targets, names to `uids`, unless they are there already. A TagTrackUID of 0
+// names no track.
 fn add_named(uids: &mut IndexSet<u64>, targets: &Tree) -> Result<(), AllocError>
     requires { IsSoundOf TARGETS_ID targets.now }
     ensures { OnOk result (uids.new.keys ≡ insert_all nat_eq uids.old.keys (named_in targets.now)) }

@@ -1,4 +1,5 @@
-//! Counts of the tags of a file, and of each of its tracks: RFC 9559, section 5.1.8 (Tags Element).
+//! Counts of the tags of a file, and of each of its tracks, in the JSON of `merge -J`: RFC 9559, section 5.1.8 (Tags
+//! Element).
 
 ghost use Rattle.std.specs.Prelude.{◌≡◌, ◌==◌, ◌&&◌, not, IfOk, IfSome};
 ghost use Rattle.std.specs.List.{list_any};
@@ -17,7 +18,7 @@ use serde_json::{Value, json};
 use std::alloc::{AllocError, Global};
 use track_records::Track;
 
-/// Tags that are counted.
+/// Selection of the tags that are counted.
 #[derive(Clone, Copy)]
 pub enum Scope {
     /// Tags that name no track.
@@ -26,7 +27,8 @@ pub enum Scope {
     Track(u64),
 }
 
-/// Makes the list of the tag counts of tracks, by track number from 0. A track without tags is left out.
+/// Makes the value of the key `track_tags`: a list with the number of SimpleTags of each track that has some. A track
+/// is named by its index from 0.
 pub(crate) fn track_tags_value(
     alloc: Global,
     tags: &Option<Tree>,
@@ -46,14 +48,14 @@ pub(crate) fn track_tags_value(
     Ok(Value::Array(values))
 }
 
-// Makes the value for `count` tags of the track with number `id`.
+// Makes the object for `count` SimpleTags of the track with index `id`, from 0.
 fn track_tags(alloc: Global, count: usize, id: usize) -> Result<Value, AllocError>
     ensures { IfOk result (λ value. view value ≡ counted_tags count id) }
 {
     json!(in alloc; {"num_entries": count, "track_id": id})
 }
 
-/// Returns the number of SimpleTags directly in the Tags that are counted.
+/// Returns the number of SimpleTags directly in the Tags that `scope` counts; 0 if the file has no Tags.
 pub(crate) fn tag_count(tags: &Option<Tree>, scope: Scope) -> Result<usize, AllocError>
     requires { IfSome tags.now AreTags }
     ensures { IfOk result (λ count. count ≡ tag_count scope tags.now) }
@@ -70,7 +72,7 @@ pub(crate) fn tag_count(tags: &Option<Tree>, scope: Scope) -> Result<usize, Allo
     Ok(count)
 }
 
-// Checks whether a Tag is counted in this scope, which is the whole file or its tracks.
+// Checks whether `tag`, a Tag, is counted in `scope`: it names no track, or it names the track of the scope.
 fn is_counted(tag: &Tree, scope: Scope) -> bool
     requires { IsSoundOf TAG_ID tag.now }
     ensures { result ≡ is_counted scope tag.now }
@@ -81,7 +83,7 @@ fn is_counted(tag: &Tree, scope: Scope) -> bool
     }
 }
 
-// Checks whether a Tag names the wanted track, or any track if `wanted` is None.
+// Checks whether `tag`, a Tag, names the track with the TrackUID `wanted`, or any track if `wanted` is None.
 fn names(tag: &Tree, wanted: Option<u64>) -> bool
     requires { IsSoundOf TAG_ID tag.now }
     ensures { result ≡ list_any (is_wanted wanted) (tracks_named tag.now) }
@@ -94,7 +96,7 @@ fn names(tag: &Tree, wanted: Option<u64>) -> bool
     false
 }
 
-// Checks whether a Targets names the wanted track, or any track if `wanted` is None.
+// Checks whether `targets`, a Targets, names the track with the TrackUID `wanted`, or any track if `wanted` is None.
 fn names_in(targets: &Tree, wanted: Option<u64>) -> bool
     requires { IsSoundOf TARGETS_ID targets.now }
     ensures { result ≡ list_any (is_wanted wanted) (named_in targets.now) }
@@ -107,7 +109,8 @@ fn names_in(targets: &Tree, wanted: Option<u64>) -> bool
     false
 }
 
-// Checks whether a TagTrackUID names the wanted track, or any track if `wanted` is None; 0 names none.
+// Checks whether a TagTrackUID with the value `uid` names the track with the TrackUID `wanted`, or any track if
+// `wanted` is None. A value of 0 names no track.
 fn is_wanted(uid: u64, wanted: Option<u64>) -> bool
     ensures { result ≡ (not (uid == 0) && is_wanted wanted uid) }
 {

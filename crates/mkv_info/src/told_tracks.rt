@@ -1,4 +1,4 @@
-//! Descriptions of the tracks: RFC 9559, section 5.1.4 (Tracks Element).
+//! The tracks in the JSON of `merge -J`: RFC 9559, section 5.1.4 (Tracks Element).
 
 ghost use Rattle.std.specs.Prelude.{◌≡◌, ◌++◌, All, IfOk, codes};
 ghost use Rattle.std.specs.Option.{option_map};
@@ -22,7 +22,7 @@ use serde_json::{Map, Value, json, put};
 use std::alloc::{AllocError, Global};
 use track_records::Track;
 
-/// Makes the list of the tracks, numbered from 0.
+/// Makes the value of the key `tracks`: a list of the tracks in their order in the file, numbered from 0.
 pub(crate) fn tracks_value(alloc: Global, tracks: &[Track]) -> Result<Value, AllocError>
     requires { All (λ t. IsEntry t.entry) tracks.now }
     ensures { IfOk result (λ value. view value ≡ tracks_value tracks.now) }
@@ -34,7 +34,7 @@ pub(crate) fn tracks_value(alloc: Global, tracks: &[Track]) -> Result<Value, All
     Ok(Value::Array(values))
 }
 
-// Makes the value of the track with number `id`.
+// Makes the object of `track`, which has the index `id`, from 0.
 fn track_value(alloc: Global, id: usize, track: &Track) -> Result<Value, AllocError>
     requires { IsEntry track.now.entry }
     ensures { IfOk result (λ value. view value ≡ track_value id track.now) }
@@ -48,7 +48,7 @@ fn track_value(alloc: Global, id: usize, track: &Track) -> Result<Value, AllocEr
     })
 }
 
-// Makes the properties of a track, as `merge -J` prints them.
+// Makes the object with the properties of `track`. An absent property is left out.
 #[tactic(auto, using(crate::proofs::ValueLemmas::known))]
 fn properties_of(alloc: Global, track: &Track) -> Result<Value, AllocError>
     requires { IsEntry track.now.entry }
@@ -95,7 +95,8 @@ fn properties_of(alloc: Global, track: &Track) -> Result<Value, AllocError>
     Ok(Value::Object(properties))
 }
 
-// Returns a flag of an entry, as a JSON boolean.
+// Returns the flag with the ID `id` in `entry`, a TrackEntry, as a JSON boolean. If it is absent, it is the default of
+// the Matroska table.
 fn flag(entry: &Tree, id: u32) -> Value
     requires entry { IsEntry entry.now }
     requires uint { HasUint (id_of entry.now) id }
@@ -104,7 +105,7 @@ fn flag(entry: &Tree, id: u32) -> Value
     Value::Bool(uint_in(entry, id) != 0)
 }
 
-// Returns the pixel dimensions of an entry's first Video.
+// Returns the pixel dimensions in the first Video of `entry`, a TrackEntry, as `WIDTHxHEIGHT`; None if one is absent.
 fn dimensions_of(alloc: Global, entry: &Tree) -> Result<Option<Value>, AllocError>
     requires { IsEntry entry.now }
     ensures { IfOk result (λ value. option_map view value ≡ option_map string (dimensions_of entry.now)) }
@@ -115,7 +116,7 @@ fn dimensions_of(alloc: Global, entry: &Tree) -> Result<Option<Value>, AllocErro
     }
 }
 
-// Returns PixelWidth and PixelHeight of a Video, if both are present.
+// Returns PixelWidth and PixelHeight of `video`, a Video, as `WIDTHxHEIGHT`, or None if one is absent.
 #[tactic(auto, using(crate::proofs::ValueLemmas::known))]
 fn pixels_in(alloc: Global, video: &Tree) -> Result<Option<Value>, AllocError>
     requires { IsSoundOf VIDEO_ID video.now }

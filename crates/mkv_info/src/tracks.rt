@@ -1,4 +1,4 @@
-//! List of the tracks of a file, one to a line.
+//! The tracks in the list of `info`, one to a line.
 
 ghost use Rattle.std.specs.Prelude.{◌≡◌, IfErr, IfOk, IfSome};
 ghost use Rattle.mkv_schema.specs.declared.ids.TheConstants.{TRACKS as TRACKS_ID};
@@ -20,7 +20,8 @@ use mkv_schema::ids::TRACKS;
 use std::alloc::Global;
 use track_records::{Track, read_tracks};
 
-/// Reads the tracks of a file with this outline, or returns their refusal.
+/// Reads the tracks of the open file `file`, whose outline is `outline`. The inner error is the damage for which its
+/// tracks are refused.
 pub fn tracks_of<R: Reads>(
     alloc: Global,
     outline: &Outline,
@@ -42,7 +43,8 @@ pub fn tracks_of<R: Reads>(
     }
 }
 
-// Reads the tracks of a Tracks, or returns their refusal; without a Tracks there are none.
+// Reads the tracks in `tracks`, the file's first Tracks; there are none without a Tracks. The inner error is the damage
+// for which they are refused.
 fn tracks_in(alloc: Global, tracks: &Option<Tree>) -> Result<Result<List<Track>, Damage>, ReadEnd>
     requires { IfSome tracks.now (IsSoundOf TRACKS_ID) }
     ensures ok { IfOk result (λ found. found ≡ tracks_in tracks.now) }
@@ -58,7 +60,7 @@ fn tracks_in(alloc: Global, tracks: &Option<Tree>) -> Result<Result<List<Track>,
     }
 }
 
-// Returns the parts of the line of track number `index`, counted from 0.
+// Returns the parts of the line for `track`, which has the index `index`, from 0.
 fn shown<'a>(index: usize, track: &'a Track) -> ShownTrack<'a>
     ensures { text_of (line.Track result) ≡ shown_track index track.now }
 {
@@ -72,7 +74,7 @@ fn shown<'a>(index: usize, track: &'a Track) -> ShownTrack<'a>
     }
 }
 
-/// Prints a line for each track, numbered from 0.
+/// Prints a line for each of `tracks`, numbered from 0.
 pub fn say_tracks<P: Report>(
     alloc: Global,
     tracks: &List<Track>,

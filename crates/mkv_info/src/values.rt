@@ -1,4 +1,4 @@
-//! The values among the children of a master: RFC 8794, section 7 (EBML Element Types).
+//! Values of the children of a master, for JSON: RFC 8794, section 7 (EBML Element Types).
 
 ghost use Rattle.std.specs.Prelude.{◌≡◌, ◌+◌, length, IfOk};
 ghost use Rattle.std.specs.Option.{option_copied, option_map};
@@ -15,7 +15,7 @@ use ebml_tree::{Tree, text_in};
 use serde_json::Value;
 use std::alloc::{AllocError, Global};
 
-/// Returns the text with this `id`, or an empty text if it is absent.
+/// Returns the text of the first child of `tree` with the ID `id`, or an empty text if it is absent.
 pub(crate) fn text_or_empty<'a>(tree: &'a Tree, id: u32) -> &'a str
     requires sound { IsSound tree.now }
     requires text { HasText (id_of tree.now) id }
@@ -24,14 +24,14 @@ pub(crate) fn text_or_empty<'a>(tree: &'a Tree, id: u32) -> &'a str
     text_in(tree, id).unwrap_or("")
 }
 
-/// Returns `text`, unless it is empty.
+/// Returns `text`, or None if it is empty.
 pub(crate) fn unless_empty(text: &str) -> Option<&str>
     ensures { option_copied result ≡ unless_empty text.now }
 {
     if text.is_empty() { None } else { Some(text) }
 }
 
-/// Returns the text as a JSON string, if it is present.
+/// Returns `text` as a JSON string, or None if there is none.
 pub(crate) fn string_if(alloc: Global, text: Option<&str>) -> Result<Option<Value>, AllocError>
     ensures { IfOk result (λ value. option_map view value ≡ option_map string (option_copied text.entry)) }
 {
@@ -41,7 +41,7 @@ pub(crate) fn string_if(alloc: Global, text: Option<&str>) -> Result<Option<Valu
     }
 }
 
-/// Returns the number as a JSON number, if it is present.
+/// Returns `number` as a JSON number, or None if there is none.
 pub(crate) fn number_if(number: Option<u64>) -> Option<Value>
     ensures { option_map view result ≡ option_map whole number }
 {
