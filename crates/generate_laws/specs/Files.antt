@@ -1,4 +1,4 @@
--- The files that `generate` makes hold their blocks: RFC 9559, section 5.1 (Segment Element). The number of pictures is this project's limit.
+-- The two files that `generate` writes hold their blocks: RFC 9559, section 5.1 (Segment Element).
 use Rattle.std.specs.Prelude.{◌≡◌, ◌≤◌, ℕ, false, List, All}
 use Rattle.file_format.specs.Entry.{entries_of}
 use Rattle.file_format.specs.FileBlocks.{file_events}
@@ -11,18 +11,18 @@ use Rattle.mkv_generate.specs.declared.blocks.MediaKind.{MediaKind}
 use Rattle.mkv_generate.specs.Files.{file_of, lane_blocks}
 use Rattle.merge_laws.specs.Merge.{HasNoEncodings}
 
--- the limit of `N` in `generate N PREFIX`
+-- the greatest N in `generate N PREFIX`; it is this project's
 abbrev pub most_pictures : ℕ
 most_pictures = 100000
 
--- The output of the document `d` is valid. Read by the format's definition, without a reader's limits, it is that document, undamaged. The frames
--- of its tracks are stored unchanged. Its blocks are `bs`, each once and in order; a tick has a millisecond.
+-- A file with the content `d` is valid. Read by the format's definition, without a reader's limits, it is that content, undamaged. The frames of its
+-- tracks are stored unchanged. Its blocks are `bs`, each once and in order, with ticks of a millisecond.
 pub record HoldsBlocks (d : Document) (bs : List OutputBlock) : Type 0 where
   pub sound : IsSoundDocument d
   pub read : IsReadAs d (layout d)
   pub plain : All HasNoEncodings (entries_of d.front.tracks)
   pub blocks : blocks_read 1000000 (file_events false (layout d) (header_of_segment d)) ≡ bs
 
--- For at most 100,000 pictures both files hold their blocks.
+-- For at most 100,000 pictures both files, of pictures and of sounds, hold their blocks.
 abbrev pub FilesHoldBlocks : Type 0
 FilesHoldBlocks = (medium : MediaKind) (n : ℕ) → n ≤ most_pictures → HoldsBlocks (file_of medium n) (lane_blocks medium n)

@@ -1,4 +1,4 @@
--- `generate` succeeds, and each of its files holds its blocks. The limit of the number of pictures is this project's.
+-- `generate` succeeds, and each of its files holds its blocks.
 use Rattle.std.specs.Prelude.{◌≡◌, ◌≤◌, ℕ, false, List, [], ◌∷◌, ◌++◌, length, map, All, None, Ok, true}
 use Rattle.requests.specs.declared.merge.MergeWords.{MergeWords}
 use Rattle.output_model.specs.OutputBlock.{OutputBlock}
@@ -15,29 +15,29 @@ use Rattle.mkv_generate.specs.Generate.{MergeMade, both_words, comes_to, first_w
 use Rattle.merge_laws.specs.Laws.{name_and_blocks}
 use Rattle.generate_laws.specs.Files.{HoldsBlocks, most_pictures}
 
--- the blocks of both files, merged
+-- the blocks of the merged file for `n` pictures: the blocks of both files, merged by time
 abbrev pub both_blocks : ℕ → List OutputBlock
 both_blocks n = merged (blocks_of Pictures n ∷ blocks_of Sounds n ∷ [])
 
--- the split of the merged file: a cut is before each picture that is a keyframe, at least ten seconds after the start of its section
+-- the split of the merged file: it cuts before the first keyframe picture at least ten seconds after the start of a part
 abbrev pub ten_seconds : Split
 ten_seconds = record { spec = Duration 10000000000; size = None; scale = 1000000; drives = drives_by (true ∷ false ∷ []) }
 
--- The output `o` is valid and holds exactly its blocks.
+-- The output `o` is valid and holds exactly the blocks that it should have.
 abbrev pub HoldsItsBlocks : PlannedOutput → Type 0
 HoldsItsBlocks o = HoldsBlocks o.document o.blocks
 
--- The merge of `files` with the command line `words` isn't refused, and its result is `made`. It gives no warning, no damage is met, and each
--- output holds its blocks.
+-- The merge of `files` with the command line `words` isn't refused, and makes `made`. It gives no warning, meets no damage, and each output holds its
+-- blocks.
 pub record Succeeds (words : MergeWords) (files : List PlannedOutput) (made : MergeMade) : Type 0 where
   pub unrefused : merge_of words files ≡ Ok made
   pub unwarned : made.warned ≡ []
   pub undamaged : made.damaged ≡ false
   pub holds : All HoldsItsBlocks made.outputs
 
--- `generate N PREFIX` succeeds, where `n` is N. Both files hold their blocks. Their merge succeeds with one output, which has the merged list of
--- all blocks. The split of this output succeeds, and its outputs have the blocks of the merged list's parts. The result is the status Done, all
--- outputs in sequence, and exactly one line.
+-- `generate N PREFIX` succeeds, where `n` is N and `prefix` is PREFIX. Both files hold their blocks. Their merge succeeds with one output, which has
+-- the merged list of all blocks. The split of this output succeeds, and its outputs have the blocks of the merged list's parts. The outcome is the
+-- status Done, all outputs in sequence, and exactly one line.
 pub record IsGenerated (n : ℕ) (prefix : List ℕ) : Type 0 where
   pub pictures : HoldsBlocks (file_of Pictures n) (lane_blocks Pictures n)
   pub sounds : HoldsBlocks (file_of Sounds n) (lane_blocks Sounds n)

@@ -1,18 +1,18 @@
 #![tactic(auto)]
 
-//! Laws on the command `generate`: RFC 9559, section 5.1 (Segment Element). No code that reads or writes depends on this
-//! crate.
+//! Laws on the command `generate`: its merges succeed, and its files hold their blocks. See RFC 9559, section 5.1
+//! (Segment Element). They are statements for a reader; no command calls them.
 
 ghost use Rattle.generate_laws.specs.Files.{FilesHoldBlocks};
 ghost use Rattle.generate_laws.specs.Generated.{GenerateSucceeds};
 
-/// Law: both files that `generate` merges are valid and hold their blocks.
+/// States that both files that `generate` writes and merges are valid and hold their blocks.
 pub fn files_hold_blocks()
     ensures { FilesHoldBlocks }
 {}
 
-/// Law: for at most 100,000 pictures both merges of `generate` succeed without a warning, and all files hold their
-/// blocks.
+/// States that for at most 100,000 pictures both merges of `generate` succeed without a warning, and that all files
+/// hold their blocks.
 pub fn generate_succeeds()
     ensures { GenerateSucceeds }
 {}

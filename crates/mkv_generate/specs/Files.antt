@@ -1,4 +1,4 @@
--- The two files that `generate` makes: RFC 9559, section 5.1.4 (Tracks Element). Their contents are this project's.
+-- The two files that `generate` writes itself: RFC 9559, section 5.1.4 (Tracks Element). Their contents are this project's.
 use Rattle.std.specs.Prelude.{◌≡◌, ℕ, List, [], ◌∷◌, codes, false, map, None}
 use Rattle.mkv_schema.specs.declared.ids.TheConstants.{TRACK_ENTRY, TRACK_NUMBER, TRACK_UID, TRACK_TYPE, CODEC_ID}
 use Rattle.tree_format.specs.Node.{Node, leaf, master, nodes_of}
@@ -17,45 +17,45 @@ use Rattle.mkv_generate.specs.declared.blocks.MediaKind.{MediaKind}
 use Rattle.mkv_generate.specs.declared.blocks.MediaKind.TheVariants.{Pictures, Sounds}
 use Rattle.mkv_generate.specs.Blocks.{blocks_of}
 
--- the TrackType of the file's track
+-- the TrackType in the file of this kind: video or audio
 abbrev pub type_of : MediaKind → ℕ
 type_of Pictures = 1
 type_of Sounds = 2
 
--- the CodecID of the file's track
+-- the CodecID in the file of this kind
 abbrev pub codec_of : MediaKind → List ℕ
 codec_of Pictures = codes "V_TEST"
 codec_of Sounds = codes "A_TEST"
 
--- a TrackEntry whose number and identifier are 1
+-- the TrackEntry of the file of this kind; TrackNumber and TrackUID are 1
 abbrev pub track_of : MediaKind → Node
 track_of medium = master TRACK_ENTRY 0 (nodes_of (
     uint_leaf TRACK_NUMBER 1 ∷ uint_leaf TRACK_UID 1 ∷ uint_leaf TRACK_TYPE (type_of medium) ∷ leaf CODEC_ID 0 (codec_of medium) ∷ []))
 
--- the Elements before the Clusters of a file with that track
+-- the Elements before the Clusters of the file of this kind, with 1,000,000 ns per tick
 abbrev pub front_of : MediaKind → Front
 front_of medium = record { webm = false; info = output_info 1000000 []; tracks = output_tracks (track_of medium ∷ []); attachments = [] }
 
--- `f` has the Elements before the Clusters of the file.
+-- The code's `f` has the Elements before the Clusters of the file of this kind.
 pub record IsFrontOf (medium : MediaKind) (f : given.Front) : Type 0 where
   pub webm : f.webm ≡ false
   pub info : f.info ≡ output_info 1000000 []
   pub tracks : f.tracks ≡ output_tracks (track_of medium ∷ [])
   pub attachments : f.attachments ≡ []
 
--- the default limits of a Cluster in a merge
+-- the limits of a Cluster that a merge has by default: 65,535 blocks and 5 s
 abbrev pub default_limits : ClusterLimits
 default_limits = record { blocks = 65535; span = 5000000000; scale = 1000000 }
 
--- the rule for cue points: each keyframe of a picture track has one, and sounds have none
+-- the rule for the cue points of the file of this kind: keyframes of pictures, and no sounds
 abbrev pub rule_of : MediaKind → CueRule
 rule_of Pictures = Key
 rule_of Sounds = Never
 
--- the blocks on the first track of an output
+-- the blocks of the file of this kind for `n` pictures, on output track 1
 abbrev pub lane_blocks : MediaKind → ℕ → List OutputBlock
 lane_blocks medium n = map (in_lane 1) (blocks_of medium n)
 
--- the file of the kind `medium` for `n` pictures
+-- the whole file of the kind `medium` for `n` pictures, as its Elements
 abbrev pub file_of : MediaKind → ℕ → Document
 file_of medium n = document_of default_limits (rule_of medium ∷ []) (front_of medium) None None (lane_blocks medium n)

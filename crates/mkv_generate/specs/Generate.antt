@@ -1,4 +1,4 @@
--- The result of `generate`: its files, and its line. All of it is this project's.
+-- The outcome of `generate`: its status, its files, and its line. All of it is this project's.
 use Rattle.std.specs.Prelude.{ℕ, ◌++◌, ◌||◌, Bool, List, [], ◌∷◌, codes, length, map, flat_map, Some, None, Result, Ok, Err}
 use Rattle.std.specs.List.{enumerate_from}
 use Rattle.output_model.specs.Document.{layout}
@@ -33,7 +33,7 @@ use Rattle.mkv_generate.specs.Files.{file_of}
 
 -- ---- names
 
--- the names of the outputs that `generate` writes, all with the prefix that the command line gives
+-- the names of the files that `generate` writes, for the prefix `prefix` on the command line
 abbrev pub names_of : List ℕ → Names
 names_of prefix = record {
   pictures = prefix ++ codes "-a.mkv";
@@ -44,31 +44,31 @@ names_of prefix = record {
 
 -- ---- the two files
 
--- the output `name` of pictures or of sounds, for `n` pictures
+-- the output `name` of pictures or of sounds, by its kind, for `n` pictures
 abbrev pub made_file : MediaKind → ℕ → List ℕ → PlannedOutput
 made_file medium n name = record { name = name; blocks = blocks_of medium n; document = file_of medium n }
 
--- the two files that are merged, of `n` pictures and of their sounds, two for each picture
+-- the two files that are merged, for `n` pictures: the pictures, and two sounds for each
 abbrev pub two_files : ℕ → Names → List PlannedOutput
 two_files n names = made_file Pictures n names.pictures ∷ made_file Sounds n names.sounds ∷ []
 
 -- ---- files that are made from them
 
--- the command line that merges both files
+-- the command line of the first merge, of both files
 abbrev pub both_words : Names → MergeWords
 both_words names = plain_words names.both None (plain_file names.pictures ∷ plain_file names.sounds ∷ [])
 
--- the command line that splits the merged file into parts of ten seconds
+-- the command line of the second merge, which splits the merged file into parts of ten seconds
 abbrev pub parts_words : Names → MergeWords
 parts_words names = plain_words names.parts (Some (Duration 10000000000)) (plain_file names.both ∷ [])
 
--- A merge: its outputs, the warnings about the files that it reads, and whether one of them is damaged.
+-- The result of a merge of `generate`: its outputs, the warnings about the files that it reads, and whether one of them is damaged.
 pub record MergeMade : Type 0 where
   pub outputs : List PlannedOutput
   pub warned : List (List ℕ)
   pub damaged : Bool
 
--- the result of a merge of `sources`
+-- the result of the merge of `sources` with the command line `words`
 abbrev pub made_of : MergeWords → List Source → MergeMade
 made_of words sources = record {
   outputs = outputs_of words sources;
@@ -76,55 +76,58 @@ made_of words sources = record {
   damaged = has_damage words sources;
 }
 
--- the merge of the documents `files`, or its refusal; no journal is looked at
+-- the result of the merge of the files `files` with the command line `words`, or its refusal; no journal is looked at
 abbrev pub merge_of : MergeWords → List PlannedOutput → Result MergeMade Refusal
 merge_of words files = and_then (sources_apart words (map (λ (o : PlannedOutput). layout o.document) files)) (λ sources. Ok (made_of words sources))
 
--- the outputs of the merge, or none if it is refused
+-- the outputs of a merge, or none if it is refused
 abbrev pub made_outputs : Result MergeMade Refusal → List PlannedOutput
 made_outputs (Ok made) = made.outputs
 made_outputs (Err why) = []
 
 -- ---- result
 
--- the facts about the first of some outputs, which is the merged file: a merge that isn't split writes one file
+-- the counts of the first output, which is the merged file; a merge that isn't split writes one file
 abbrev pub first_written : List Written → Written
 first_written [] = record { name = []; blocks = 0; clusters = 0; cues = 0 }
 first_written (file ∷ more) = file
 
--- the line that `generate` prints about the merged file `both`, made of files for `n` pictures, and its number of parts
+-- the line that `generate` prints for `n` pictures: the counts of the merged file `both`, and the number of parts
 abbrev pub line_for : ℕ → Written → ℕ → List ℕ
 line_for n both parts = generated_line n both.blocks both.clusters both.cues parts
 
--- the result with these files, written in sequence, and these lines
+-- the outcome with this status, the files `files`, written in sequence, and the lines `lines`
 abbrev pub comes_to : Status → List PlannedOutput → List (List ℕ) → Verdict
 comes_to status files lines = record { status = status; lines = lines; before = []; outputs = in_turn (drafts_of files) }
 
--- the result with the parts, or without them if they are refused; warnings follow the line
+-- the outcome for `n` pictures, once `files` and the merged file are written, by the split that makes the parts or is refused. Warnings follow the
+-- line.
 abbrev pub with_parts : ℕ → Names → List PlannedOutput → MergeMade → Result MergeMade Refusal → Verdict
 with_parts n names files both (Ok parts) =
     comes_to (warned_if (both.damaged || parts.damaged)) (files ++ both.outputs ++ parts.outputs)
     (line_for n (first_written (map written_of both.outputs)) (length parts.outputs) ∷ both.warned ++ parts.warned)
 with_parts n names files both (Err why) = comes_to Refused (files ++ both.outputs) (line_of (parts_words names) why ∷ [])
 
--- the result with the merged file and the parts, or without them if the merge is refused
+-- the outcome for `n` pictures, once `files` are written, by the merge that makes the merged file or is refused
 abbrev pub with_both : ℕ → Names → List PlannedOutput → Result MergeMade Refusal → Verdict
 with_both n names files (Ok both) = with_parts n names files both (merge_of (parts_words names) both.outputs)
 with_both n names files (Err why) = comes_to Refused files (line_of (both_words names) why ∷ [])
 
--- the result of `generate` for `n` pictures, with the files `names`
+-- the outcome of `generate` for `n` pictures and the names `names`
 abbrev pub verdict_of : ℕ → Names → Verdict
 verdict_of n names = with_both n names (two_files n names) (merge_of (both_words names) (two_files n names))
 
--- the result of `generate N PREFIX`, with any files present
+-- the outcome of `generate N PREFIX`, where `n` is N, with any other files present
 abbrev pub generate_verdict : ℕ → List ℕ → Verdict
 generate_verdict n prefix = verdict_of n (names_of prefix)
 
--- If the names are visible to the proof, the making of the files ends with its result, or was stopped on the way.
+-- The call has the outcome of `generate` for `n` pictures and the names `names`, or failed on the way. `files` and `files'` are the states of the
+-- files before and after, `report` and `report'` of the report. It is promised if the contents are visible to the proof.
 abbrev pub MakesNamed : {F P : Type 0} → ReadsGhosts F → FilesGhosts F → ReportGhosts P → F → F → P → P → Result Status CommandEnd → ℕ → Names → Type 0
 MakesNamed r f p files files' report report' result n names =
     IfVisible (f.names files) (λ world. Fulfils r f p files files' report report' result (verdict_of n names))
 
--- If the names are visible to the proof, `generate N PREFIX` ends with its result, or was stopped on the way.
+-- The call has the outcome of `generate N PREFIX`, where `n` is N, or failed on the way. `files` and `files'` are the states of the files before and
+-- after, `report` and `report'` of the report. It is promised if the contents are visible to the proof.
 abbrev pub Generates : {F P : Type 0} → ReadsGhosts F → FilesGhosts F → ReportGhosts P → F → F → P → P → Result Status CommandEnd → ℕ → List ℕ → Type 0
 Generates r f p files files' report report' result n prefix = MakesNamed r f p files files' report report' result n (names_of prefix)

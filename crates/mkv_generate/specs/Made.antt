@@ -1,4 +1,4 @@
--- A generated block, as it is passed by reference.
+-- A generated block of the code, as a block of the definitions.
 use Rattle.std.specs.Prelude.{◌≡◌, ℕ, Bool, false, List, [], None}
 use Rattle.lacing.specs.declared.kind.Lace.{Lace}
 use Rattle.output_model.specs.declared.heads.OutHead.{OutHead}
@@ -6,7 +6,7 @@ use Rattle.output_model.specs.OutputBlock.{IsLent, Lent, OutputBlock, lent_block
 use Rattle.cluster_writer.specs.Lent.{lent}
 use Rattle.mkv_generate.specs.declared.blocks.Made.{Made}
 
--- the head of a SimpleBlock at `time` milliseconds
+-- the head of a SimpleBlock at `time` milliseconds, a keyframe if `key` is true, with this lacing
 abbrev pub simple_head : ℕ → Bool → Lace → OutHead
 simple_head time key kind = record {
   tick = time;
@@ -19,17 +19,17 @@ simple_head time key kind = record {
   lace = kind;
 }
 
--- The block has the head `own` and the bytes `all`, in frames of the sizes `parts`.
+-- The code's block `m` has the head `own` and the bytes `all`, in frames of the sizes `parts`.
 pub record HasParts (own : OutHead) (all parts : List ℕ) (m : Made) : Type 0 where
   pub head : m.head ≡ own
   pub octets : m.octets.items ≡ all
   pub sizes : m.sizes.items ≡ parts
 
--- a generated block, as a block that an output track hands out
+-- the code's block `m`, as a block that a Cluster takes by reference
 abbrev pub lent_made : Made → Lent
 lent_made m = lent m.head [] m.octets.items m.sizes.items [] []
 
--- `m` is the block `b`, within the limits of a borrowed block.
+-- The code's block `m` is the block `b`, within the limits of a block that a Cluster takes.
 pub record IsMade (b : OutputBlock) (m : Made) : Type 0 where
   pub is : lent_block (lent_made m) ≡ b
   pub can : IsLent (lent_made m)

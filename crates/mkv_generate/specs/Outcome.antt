@@ -1,4 +1,4 @@
--- The files that `generate` has made, and the lines that report them.
+-- The files that the code of `generate` has made, and the lines that report them.
 use Rattle.std.specs.Prelude.{◌≡◌, ◌≢◌, ℕ, ◌||◌, List, [], ◌∷◌, ◌++◌, length, map, Option, Some, Result, Ok, Err}
 use Rattle.mkv_io.specs.Names.{Names}
 use Rattle.mkv_outputs.specs.Outputs.{with_outputs}
@@ -21,52 +21,54 @@ use Rattle.mkv_generate.specs.Generate.{MergeMade, both_words, first_written, li
 
 -- ---- lines
 
--- the warnings about the files that a merge read
+-- the warnings about the files that the completed merge `d` read
 abbrev pub warned_of : Done → List (List ℕ)
 warned_of d = warnings_from d.summary 0 d.words.files
 
--- the lines that `generate` prints for an outcome with `n` pictures
+-- the lines that `generate` prints for `n` pictures and this outcome: one line and the warnings, or the error line of a refusal
 abbrev pub lines_of : ℕ → Outcome → List (List ℕ)
 lines_of n (Refused words why) = line_of words why ∷ []
 lines_of n (Made both parts) = line_for n (first_written both.summary.outputs) (length parts.summary.outputs) ∷ warned_of both ++ warned_of parts
 
--- the status of `generate` by its outcome
+-- the status of `generate` for this outcome
 abbrev pub status_for : Outcome → Status
 status_for (Refused words why) = status.Refused
 status_for (Made both parts) = warned_if (is_some_of both.summary.damages || is_some_of parts.summary.damages)
 
 -- ---- files
 
--- The summary of the completed merge `d` equals the defined merge `m`.
+-- The summary of the code's completed merge `d` is what the definitions give as `m`.
 pub record IsDone (m : MergeMade) (d : Done) : Type 0 where
   pub outputs : d.summary.outputs ≡ map written_of m.outputs
   pub warned : warned_of d ≡ m.warned
   pub damaged : is_some_of d.summary.damages ≡ m.damaged
 
--- The merge has one output, with the name `name`.
+-- The merge `m` has one output, with the name `name`.
 pub record IsOneFile (name : List ℕ) (m : MergeMade) : Type 0 where
   pub file : PlannedOutput
   pub alone : m.outputs ≡ file ∷ []
   pub named : file.name ≡ name
 
--- All outputs of the result are complete, and the outcome has its status and lines.
+-- The names `old` have become `new`: all outputs of `v`, the defined outcome for `n` pictures, are complete. The code's `outcome` has its status and
+-- lines.
 pub record HasMade (old new : Names) (n : ℕ) (outcome : Outcome) (v : Verdict) : Type 0 where
   pub whole : new ≡ with_outputs old (list_of v.outputs)
   pub lines : v.lines ≡ lines_of n outcome
   pub status : v.status ≡ status_for outcome
 
--- The files are made as defined. After a stop some first outputs are complete, and the next one is a draft.
+-- The names `old` have become `new`: the files of `generate` for `n` pictures are made as defined. After a failure some first ones are complete, and
+-- the next one is a draft.
 abbrev pub Makes : Names → Names → ℕ → own.Names → Result Outcome CommandEnd → Type 0
 Makes old new n names (Ok outcome) = HasMade old new n outcome (verdict_of n names)
 Makes old new n names (Err why) = Leaves old new (verdict_of n names).outputs
 
--- `Makes` holds if the two files and the merged file `both` are complete.
+-- `Makes` holds, from the names `old` to `new`, if the two files and the merged file, made by `both`, are complete in `old`.
 abbrev pub MakesParts : Names → Names → own.Names → Done → Result Outcome CommandEnd → Type 0
 MakesParts old new names both result =
     (n : ℕ) (before : Names) (world : List ℕ → Option (List ℕ)) (made : MergeMade) → before ≡ Some world → merge_of (both_words names) (two_files n names) ≡ Ok made → IsDone made both → IsOneFile names.both made
     → WritesAll before old (two_files n names ++ made.outputs) → Makes before new n names result
 
--- `Makes` holds if the two files are complete.
+-- `Makes` holds, from the names `old` to `new`, if the two files are complete in `old`.
 abbrev pub MakesBoth : Names → Names → own.Names → Result Outcome CommandEnd → Type 0
 MakesBoth old new names result =
     (n : ℕ) (before : Names) (world : List ℕ → Option (List ℕ)) → before ≡ Some world → names.pictures ≢ names.sounds → WritesAll before old (two_files n names) → Makes before new n names result

@@ -1,4 +1,4 @@
-//! Blocks of the two generated files.
+//! Blocks of the two files that `generate` makes: pictures and sounds with bytes that follow a rule.
 
 ghost use Rattle.std.specs.Prelude.{◌≡◌, ◌==◌, ◌+◌, ◌*◌, ◌%◌, ◌<◌, ◌≤◌, ◌^◌, ◌∷◌, [], true};
 ghost use Rattle.lacing.specs.declared.kind.Lace.TheVariants as lace_kind;
@@ -14,7 +14,7 @@ use cluster_writer::BlockRef;
 use lacing::Lace;
 use output_model::OutHead;
 
-/// Generated block: its head, the bytes of its frames, and their sizes.
+/// Generated block: its head, the bytes of its frames, and their sizes in bytes.
 #[derive(Drop)]
 pub(crate) struct Made {
     head: OutHead,
@@ -23,7 +23,7 @@ pub(crate) struct Made {
 }
 
 impl Made {
-    /// Returns the block by reference for a Cluster, on output track 1.
+    /// Returns the block by reference, as the Clusters take blocks, on output track 1.
     pub(crate) fn lent(&self) -> BlockRef<'_>
         requires { IsLent (lent_made self.now) }
         ensures block { block_put result ≡ in_lane 1 (lent_block (lent_made self.now)) }
@@ -41,7 +41,7 @@ impl Made {
         }
     }
 
-    /// Checks whether the block is a keyframe.
+    /// Checks whether the block is a keyframe, which decides whether it gets a cue point.
     pub(crate) fn is_key(&self) -> bool
         ensures { result ≡ self.now.head.key }
     {
@@ -49,7 +49,7 @@ impl Made {
     }
 }
 
-// Returns the head of a SimpleBlock at `time` milliseconds.
+// Returns the head of a SimpleBlock at `time` milliseconds from the start; a tick of the files is a millisecond.
 fn simple_head(time: u32, key: bool, lace: Lace) -> OutHead
     ensures { result ≡ simple_head time key lace }
 {
@@ -66,7 +66,7 @@ fn simple_head(time: u32, key: bool, lace: Lace) -> OutHead
     }
 }
 
-// Returns a block with the header `head` and one frame, the first `size` of `octets`.
+// Returns a block with the head `head` and one frame: the first `size` bytes of `octets`.
 fn single(head: OutHead, octets: ArrayVec<u8, MAX_COUNTING>, size: u32) -> Made
     ensures { HasParts head octets.items (size ∷ []) result }
 {
@@ -79,7 +79,8 @@ fn single(head: OutHead, octets: ArrayVec<u8, MAX_COUNTING>, size: u32) -> Made
     }
 }
 
-// Returns a block with the header `head` and two frames of the sizes `first` and `second`, in sequence in `octets`.
+// Returns a block with the head `head` and a lace of two frames of `first` and `second` bytes, which follow each other
+// in `octets`.
 fn laced(head: OutHead, octets: ArrayVec<u8, MAX_COUNTING>, first: u32, second: u32) -> Made
     ensures { HasParts head octets.items (first ∷ second ∷ []) result }
 {
@@ -93,7 +94,8 @@ fn laced(head: OutHead, octets: ArrayVec<u8, MAX_COUNTING>, first: u32, second: 
     }
 }
 
-/// Returns the picture number `i`, from 0. Pictures follow each other by 40 ms, and every 25th is a keyframe.
+/// Returns the block of picture `i`, counted from 0: 8 to 108 bytes. Pictures follow each other by 40 ms, and every
+/// 25th is a keyframe.
 pub(crate) fn picture(i: u32) -> Made
     requires { i < 2 ^ 20 }
     ensures { IsMade (picture i) result }
@@ -103,7 +105,8 @@ pub(crate) fn picture(i: u32) -> Made
     single(head, counting(i, size), size)
 }
 
-/// Returns the sound number `i`, from 0. Sounds follow each other by 20 ms, and every third is a lace of two frames.
+/// Returns the block of sound `i`, counted from 0: frames of 4 to 6 bytes. Sounds follow each other by 20 ms, and every
+/// third is a lace of two frames.
 pub(crate) fn sound(i: u32) -> Made
     requires { i < 2 ^ 20 }
     ensures { IsMade (sound i) result }
@@ -120,7 +123,7 @@ pub(crate) fn sound(i: u32) -> Made
     }
 }
 
-/// Kind of the blocks in a generated file.
+/// Kind of the blocks in a generated file: `PREFIX-a.mkv` has pictures, `PREFIX-b.mkv` sounds.
 #[derive(Clone, Copy, Debug, PartialEq, Eq)]
 pub enum MediaKind {
     Pictures,
@@ -128,7 +131,7 @@ pub enum MediaKind {
 }
 
 impl MediaKind {
-    /// Returns the number of blocks in the file for `n` pictures. There are two sounds for each picture.
+    /// Returns the number of blocks in the file of this kind for `n` pictures. There are two sounds for each picture.
     pub(crate) fn count(self, n: u32) -> u32
         requires { n < 2 ^ 20 }
         ensures { result ≡ count_of self n }
@@ -139,7 +142,7 @@ impl MediaKind {
         }
     }
 
-    /// Returns the block number `i`, from 0.
+    /// Returns the block number `i`, counted from 0, of the file of this kind.
     pub(crate) fn block(self, i: u32) -> Made
         requires { i < 2 ^ 20 }
         ensures { IsMade (block_of self i) result }

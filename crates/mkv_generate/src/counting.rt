@@ -1,14 +1,14 @@
-//! Bytes that count up.
+//! The bytes of generated frames, which count up.
 
 ghost use Rattle.std.specs.Prelude.{◌≡◌, ◌+◌, ◌<◌, ◌≤◌, ◌^◌};
 ghost use Rattle.mkv_generate.specs.Blocks.{counting};
 
 use arrayvec::ArrayVec;
 
-/// Maximum number of bytes in a generated block.
+/// Greatest number of bytes in a generated block.
 pub(crate) const MAX_COUNTING: usize = 108;
 
-/// Returns `count` bytes that count up from `first`; 0 follows 255.
+/// Returns `count` bytes that count up from `first` modulo 256; 0 follows 255.
 pub(crate) fn counting(first: u32, count: u32) -> ArrayVec<u8, MAX_COUNTING>
     requires few { count ≤ MAX_COUNTING }
     requires small { first + count < 2 ^ 32 }

@@ -1,4 +1,4 @@
-//! A generated file with one track.
+//! Writing of one generated file, which has one track.
 
 ghost use Rattle.std.specs.Prelude.{◌≡◌, ◌≤◌, ◌<◌, ◌^◌, [], ◌∷◌, OnOk};
 ghost use Rattle.mkv_io.specs.Ends.{HasRemuxCause};
@@ -17,7 +17,7 @@ use output_model::{ClusterLimits, CueRule};
 use remuxer::{add_block, add_rest};
 use std::alloc::Global;
 
-// Returns the default limits of a Cluster in a merge.
+// Returns the limits of a Cluster that a merge has by default: 65,535 blocks and 5 s.
 fn default_limits() -> ClusterLimits
     ensures { result ≡ default_limits }
 {
@@ -28,7 +28,7 @@ fn default_limits() -> ClusterLimits
     }
 }
 
-// Returns the rule that decides which blocks of the file get a cue point.
+// Returns the rule for the cue points of the file of this kind: keyframes of pictures, and no sounds.
 fn rule_of(medium: MediaKind) -> CueRule
     ensures { result ≡ rule_of medium }
 {
@@ -38,8 +38,8 @@ fn rule_of(medium: MediaKind) -> CueRule
     }
 }
 
-// Adds the block number `i` of the file to the Cluster in `buffer`, and writes this Cluster first if the block can't
-// join it.
+// Adds the block number `i`, from 0, of the file of the kind `medium` to the Cluster in `buffer`. If the block can't
+// join it, the Cluster is written to `out` first.
 fn add_one<F: Files>(
     files: &mut F,
     out: &mut OutFile,
@@ -61,7 +61,7 @@ fn add_one<F: Files>(
     Ok(())
 }
 
-// Adds all blocks of the file for `n` pictures.
+// Adds all blocks of the file of the kind `medium` for `n` pictures, and writes their Clusters to `out`.
 fn add_all<F: Files>(
     files: &mut F,
     out: &mut OutFile,
@@ -84,7 +84,8 @@ fn add_all<F: Files>(
     add_rest(files, out, buffer)
 }
 
-/// Writes the file of the kind `medium` for `n` pictures. The file is closed in any case.
+/// Creates or replaces the file `name`, of the kind `medium` for `n` pictures, and writes it whole. The file is closed
+/// in any case; after a failure it is incomplete.
 pub(crate) fn write_file<F: Files>(
     alloc: Global,
     files: &mut F,

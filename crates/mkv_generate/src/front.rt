@@ -1,4 +1,4 @@
-//! Elements before the Clusters of the two generated files: RFC 9559, section 5.1.4 (Tracks Element).
+//! The Elements before the Clusters of a generated file: RFC 9559, section 5.1.4 (Tracks Element).
 
 ghost use Rattle.std.specs.Prelude.{◌≡◌, IfOk};
 ghost use Rattle.track_records.specs.Entry.{IsWholeEntry};
@@ -12,10 +12,10 @@ use output_model::Front;
 use output_records::{info_of, tracks_of};
 use std::alloc::{AllocError, Global};
 
-/// Nanoseconds per tick.
+/// Nanoseconds per tick of the generated files: a millisecond.
 pub(crate) const SCALE: u64 = 1_000_000;
 
-// Returns the TrackType of the file of pictures or of sounds.
+// Returns the TrackType of the file of this kind: 1 for video, 2 for audio.
 fn type_of(medium: MediaKind) -> u64
     ensures { result ≡ type_of medium }
 {
@@ -25,7 +25,7 @@ fn type_of(medium: MediaKind) -> u64
     }
 }
 
-// Returns the CodecID of the file of pictures or of sounds.
+// Returns the CodecID of the file of this kind, which no player knows.
 fn codec_of(medium: MediaKind) -> &'static str
     ensures { result.now ≡ codec_of medium }
 {
@@ -35,7 +35,7 @@ fn codec_of(medium: MediaKind) -> &'static str
     }
 }
 
-// Returns a TrackEntry whose number and identifier are 1.
+// Returns the TrackEntry of the file of this kind. TrackNumber and TrackUID are 1.
 fn track_of(alloc: Global, medium: MediaKind) -> Result<Tree, AllocError>
     ensures exact { IfOk result (λ entry. entry ≡ track_of medium) }
     ensures whole { IfOk result IsWholeEntry }
@@ -48,7 +48,7 @@ fn track_of(alloc: Global, medium: MediaKind) -> Result<Tree, AllocError>
     Ok(entry)
 }
 
-/// Returns the Elements before the Clusters of a file with one track.
+/// Returns the Elements before the Clusters of the file of this kind: Info and a Tracks with one TrackEntry.
 pub(crate) fn front_of(alloc: Global, medium: MediaKind) -> Result<Front, AllocError>
     ensures { IfOk result (IsFrontOf medium) }
 {

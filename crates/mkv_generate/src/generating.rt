@@ -1,4 +1,4 @@
-//! The command `generate`.
+//! The command `generate`: its files are made, and reported.
 
 ghost use Rattle.std.specs.Prelude.{◌≡◌, ◌≢◌, ◌≤◌, IfOk};
 ghost use Rattle.mkv_lines.specs.Command.{HasEnded};
@@ -19,7 +19,8 @@ use mkv_merge::{refuse, warn};
 use remux_plan::Written;
 use std::alloc::{AllocError, Global};
 
-// Returns the line about the files: the contents of the merged file, and the number of parts.
+// Returns the line of `generate` for `n` pictures: the contents of the merged file, the first of `outputs`, and the
+// number of parts.
 fn line_of(n: u32, outputs: &[Written], parts: usize) -> Line<'static>
     ensures { text_of result ≡ line_for n (first_written outputs.now) parts }
 {
@@ -36,7 +37,8 @@ fn line_of(n: u32, outputs: &[Written], parts: usize) -> Line<'static>
     }
 }
 
-// Prints the line about the files, and warns of damage in the files that were read.
+// Prints the line of `generate` for `n` pictures, and warnings of damage in the files that its two merges, `both` and
+// `parts`, read.
 fn say_all<P: Report>(
     alloc: Global,
     n: u32,
@@ -57,7 +59,8 @@ fn say_all<P: Report>(
     warn(alloc, &parts.words, &parts.summary, report)
 }
 
-// Prints the line about all files and the warnings of both merges. Returns the status: a warning if a merge met
+// Prints the line of `generate` for `n` pictures and the warnings of its two merges, `both` and `parts`. Returns the
+// status: a warning if a merge met damage.
 // damage.
 fn tell_all<P: Report>(
     alloc: Global,
@@ -79,7 +82,8 @@ fn tell_all<P: Report>(
     }
 }
 
-// Prints the result: the lines about the files, or the refusal of a merge.
+// Prints the outcome of `generate` for `n` pictures: the line about the files, or the refusal of a merge. Returns the
+// status.
 fn tell<P: Report>(
     alloc: Global,
     n: u32,
@@ -97,7 +101,8 @@ fn tell<P: Report>(
     }
 }
 
-// Generates the files with the names `names` and prints the result.
+// Makes the files with the names `names` for `n` pictures, and prints the outcome. It is `generate` once its names are
+// known.
 fn generate<F: Files, P: Report>(
     alloc: Global,
     n: u32,
@@ -118,8 +123,8 @@ fn generate<F: Files, P: Report>(
     }
 }
 
-/// Runs `generate`: makes two files for `n` pictures, whose names begin with `prefix`, merges them into one, and
-/// splits that file into parts. Looks at no journal.
+/// Runs `generate`: makes two files for `n` pictures, whose names begin with `prefix`, merges them into one, and splits
+/// that file into parts. It replaces files with these names, and looks at no journal.
 ///
 /// After a refusal the files that were written remain. After an I/O failure some first files remain, and the next one
 /// may be incomplete.

@@ -1,7 +1,7 @@
 #![tactic(auto)]
 
-//! The command `generate`, which makes two files, merges them into one, and splits the merged file. Its output is the
-//! same on every system.
+//! The command `generate`: it makes two files, merges them into one, and splits the merged file, for tests of the
+//! program on any system. The files are the same everywhere.
 
 mod blocks;
 mod counting;

@@ -1,4 +1,4 @@
-//! Making of the files.
+//! The steps of `generate`: two files are written, merged, and split.
 
 ghost use Rattle.std.specs.Prelude.{◌≡◌, ◌≢◌, ◌<◌, ◌≤◌, ◌^◌};
 ghost use Rattle.mkv_io.specs.Ends.{HasRemuxCause};
@@ -23,23 +23,24 @@ use remux_plan::Summary;
 use requests::MergeWords;
 use std::alloc::{AllocError, Global};
 
-/// A completed merge: its command line and its summary.
+/// Completed merge of `generate`: its command line, and its summary.
 #[derive(Drop)]
 pub struct Done {
     pub words: MergeWords,
     pub summary: Summary,
 }
 
-/// Result of making the files.
+/// Outcome of making the files.
 #[derive(Drop)]
 pub enum Outcome {
-    /// The merge with the command line `words` is refused. It reads files that were written before.
+    /// The merge with the command line `words` is refused, for the reason `why`; it reads files that `generate` has
+    /// written.
     Refused { words: MergeWords, why: Refusal },
-    /// All files are complete.
+    /// All files are complete: `both` is the merge of the two files, `parts` the split.
     Made { both: Done, parts: Done },
 }
 
-// Writes the two files that are merged later, of `n` pictures and of their sounds, two for each picture.
+// Writes the two files that are merged later: `n` pictures, and two sounds for each picture. It is the first step.
 fn write_files<F: Files>(
     alloc: Global,
     n: u32,
@@ -63,7 +64,7 @@ fn write_files<F: Files>(
     write_file(alloc, files, names.sounds.as_str(), MediaKind::Sounds, n)
 }
 
-// Splits the merged file with the command line `words`.
+// Splits the merged file with the command line `words`. `both` is the merge before, which the outcome reports too.
 fn merge_parts<F: Files>(
     alloc: Global,
     names: &Names,
@@ -89,7 +90,8 @@ fn merge_parts<F: Files>(
     }
 }
 
-// Merges the merged file again, split into parts. `both` is the result of the first merge.
+// Splits the merged file into parts of ten seconds: the third step. `both` is the merge before, which the outcome
+// reports too.
 fn make_parts<F: Files>(
     alloc: Global,
     names: &Names,
@@ -108,7 +110,7 @@ fn make_parts<F: Files>(
     }
 }
 
-// Merges the two files with the command line `words`, and splits the merged file.
+// Merges the two files with the command line `words`, and then splits the merged file.
 fn merge_both<F: Files>(
     alloc: Global,
     names: &Names,
@@ -129,7 +131,7 @@ fn merge_both<F: Files>(
     }
 }
 
-// Merges the two files, and splits the merged file.
+// Merges the two files with the names `names`, and then splits the merged file: the second and third step.
 fn make_both<F: Files>(alloc: Global, names: &Names, files: &mut F) -> Result<Outcome, CommandEnd>
     ensures makes { MakesBoth (F.names files.old) (F.names files.new) names.now result }
     ensures octets { ReadsBoth (F.names files.old) names.now (F.octets_read files.old) (F.octets_read files.new) }
@@ -143,7 +145,8 @@ fn make_both<F: Files>(alloc: Global, names: &Names, files: &mut F) -> Result<Ou
     }
 }
 
-/// Makes the two files for `n` pictures, merges them, and splits the merged file.
+/// Makes all files of `generate` for `n` pictures: writes the two files, merges them, and splits the merged file. Each
+/// step reads files that the previous one has written.
 pub(crate) fn make<F: Files>(
     alloc: Global,
     n: u32,

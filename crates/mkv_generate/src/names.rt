@@ -1,4 +1,4 @@
-//! Names of the generated files.
+//! Names of the files that `generate` makes.
 
 ghost use Rattle.std.specs.Prelude.{◌≡◌, ◌++◌, IfOk};
 ghost use Rattle.mkv_generate.specs.Generate.{names_of};
@@ -6,7 +6,7 @@ ghost use Rattle.mkv_generate.specs.Generate.{names_of};
 use mkv_io::Text;
 use std::alloc::{AllocError, Global};
 
-/// Names of the two files and of the merged file, and the name from which the names of its parts are formed.
+/// Names of the two files, of the merged file, and the name that the split makes the names of its parts from.
 #[derive(Drop)]
 pub struct Names {
     pub pictures: Text,
@@ -15,7 +15,7 @@ pub struct Names {
     pub parts: Text,
 }
 
-// Returns the name that consists of `prefix` and `end`.
+// Returns the name `prefix` followed by `end`.
 fn name_of(alloc: Global, prefix: &str, end: &str) -> Result<Text, AllocError>
     ensures { IfOk result (λ name. name ≡ prefix.now ++ end.now) }
 {
@@ -26,7 +26,7 @@ fn name_of(alloc: Global, prefix: &str, end: &str) -> Result<Text, AllocError>
 }
 
 impl Names {
-    /// Returns the names that begin with `prefix`.
+    /// Returns the names for the prefix `prefix` on the command line: `PREFIX-a.mkv` and so on.
     pub(crate) fn new(alloc: Global, prefix: &str) -> Result<Names, AllocError>
         ensures { IfOk result (λ names. names ≡ names_of prefix.now) }
     {

@@ -1,4 +1,4 @@
-//! Command lines of the two merges.
+//! The command lines of the two merges that `generate` runs.
 
 ghost use Rattle.std.specs.Prelude.{◌≡◌, IfOk};
 ghost use Rattle.mkv_generate.specs.Generate.{both_words, parts_words};
@@ -10,10 +10,10 @@ use mkv_io::{List, Text};
 use requests::{FileWords, FlagWords, MergeWords, Select, SplitWords};
 use std::alloc::{AllocError, Global};
 
-/// Duration of a part, in nanoseconds.
+/// Duration of a part of the split, in nanoseconds: 10 s.
 const PART: u64 = 10_000_000_000;
 
-// Returns no flag of any track.
+// Returns the flag options of an input: none.
 fn no_flags(alloc: Global) -> FlagWords
     ensures { result ≡ no_flags }
 {
@@ -27,7 +27,7 @@ fn no_flags(alloc: Global) -> FlagWords
     }
 }
 
-// Returns the input `name` of a merge, without options.
+// Returns the input `name` of a merge, with no options.
 fn plain_file(alloc: Global, name: &Text) -> Result<FileWords, AllocError>
     ensures { IfOk result (λ file. file ≡ plain_file name.now) }
 {
@@ -55,7 +55,7 @@ fn plain_file(alloc: Global, name: &Text) -> Result<FileWords, AllocError>
     })
 }
 
-// Returns the command line `merge -o OUTPUT FILE ..`, or with a split `merge -o OUTPUT --split SPLIT FILE ..`.
+// Returns the command line `merge -o OUTPUT FILE ..`, or `merge -o OUTPUT --split SPLIT FILE ..` if `split` is given.
 fn plain_words(
     alloc: Global,
     output: &Text,
@@ -80,7 +80,7 @@ fn plain_words(
     })
 }
 
-/// Returns the command line that merges both files.
+/// Returns the command line of the second step: it merges the files of pictures and of sounds.
 pub(crate) fn both_words(alloc: Global, names: &Names) -> Result<MergeWords, AllocError>
     ensures { IfOk result (λ words. words ≡ both_words names.now) }
 {
@@ -90,7 +90,7 @@ pub(crate) fn both_words(alloc: Global, names: &Names) -> Result<MergeWords, All
     plain_words(alloc, &names.both, None, files)
 }
 
-/// Returns the command line that splits the merged file into parts of ten seconds.
+/// Returns the command line of the third step: it splits the merged file into parts of ten seconds.
 pub(crate) fn parts_words(alloc: Global, names: &Names) -> Result<MergeWords, AllocError>
     ensures { IfOk result (λ words. words ≡ parts_words names.now) }
 {

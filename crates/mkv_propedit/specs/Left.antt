@@ -1,4 +1,4 @@
--- The effect of an edit in place on the disk, whatever it writes. It is this project's.
+-- The effect of an edit in place on a file and its journal, at its end and at any moment. It is this project's.
 use Rattle.std.specs.Prelude.{◌≡◌, ◌≢◌, ◌⊎◌, ◌≤◌, ◌+◌, ℕ, List, [], ◌∷◌, length, Some, Result, Ok, Err}
 use Rattle.mkv_io.specs.declared.reads.Reads as reads
 use Rattle.mkv_disk.specs.Calls.{AnyMoment, OfReads}
@@ -25,20 +25,22 @@ use Rattle.mkv_disk.specs.declared.disk.TheConstants.{MEDIA}
 
 -- ---- the writes
 
--- the writes of `edits` to a file with the content `M`, or their refusal
+-- the writes of `edits` to a file with the content `M`, or the refusal
 abbrev pub writes_of_edits : List Edit → List ℕ → Result (List Write) Refusal
 writes_of_edits edits M = plan_of M edits
 
 -- ---- after the end
 
--- No edit was pending. `found` gives the writes for the file, and the file is `M` with these writes, beside a journal with a closed gate.
+-- The file with the content `M` and the journal with the content `S`, without a pending edit, have become `p`. The file has the writes that `found`
+-- gives for it, and the journal is reset.
 pub record IsEdited (found : List ℕ → Result (List Write) Refusal) (M S : List ℕ) (p : Pair) : Type 0 where
   pub quiet : state S ≡ Quiet
   pub writes : List Write
   pub made : found M ≡ Ok writes
   pub pair : p ≡ both (applied M writes) (0 ∷ [])
 
--- If the command is done, the file is edited. After a refusal, or out of memory, nothing has changed.
+-- An edit that ended with this status has made `p` of the file `M` and the journal `S`. If it is done, the file is edited by the writes that `found`
+-- gives. After a refusal, or out of memory, nothing has changed. After a failed call nothing is promised here.
 abbrev pub LeavesEdited : Status → (List ℕ → Result (List Write) Refusal) → List ℕ → List ℕ → Pair → Type 0
 LeavesEdited status.Done found M S p = IsEdited found M S p
 LeavesEdited status.Outside found M S p = Unit {0}
@@ -46,8 +48,9 @@ LeavesEdited s found M S p = p ≡ both M S
 
 -- ---- at any moment
 
--- No edit was pending, and `found` gives the writes for the file. The two files determine the file as it was or with the writes, and can be
--- recovered. The journal has no pending edit, or holds exactly their record. The file isn't shorter than it was.
+-- The contents `m` and `s` are a crash image of an edit of the file `M` beside the journal `S`, which had no pending edit. The edit makes the writes
+-- that `found` gives. A recovery gives the file as it was or with the writes, and the pair can be recovered. The journal has no pending edit, or
+-- holds exactly the record of the writes. The file isn't shorter than it was.
 pub record IsUnderway (found : List ℕ → Result (List Write) Refusal) (M S m s : List ℕ) : Type 0 where
   pub quiet : state S ≡ Quiet
   pub writes : List Write
@@ -57,12 +60,13 @@ pub record IsUnderway (found : List ℕ → Result (List Write) Refusal) (M S m 
   pub sidecar : IsQuiet s ⊎ (s ≡ OPEN ∷ body_of (recorded M writes))
   pub no_shorter : length M ≤ length m
 
--- A crash image of an edit of file `M` beside journal `S`: both as they were, or an edit that is underway.
+-- The contents `m` and `s` are a crash image of an edit of the file `M` beside the journal `S`. They are as they were, or an image of the edit that
+-- is underway. The edit makes the writes that `found` gives.
 abbrev pub IsBeingEdited : (List ℕ → Result (List Write) Refusal) → List ℕ → List ℕ → List ℕ → List ℕ → Type 0
 IsBeingEdited found M S m s = ((m ≡ M) × (s ≡ S)) ⊎ IsUnderway found M S m s
 
--- A crash image of an edit of file `M` beside journal `S` that ended with status `e`: both as they were if it was refused or ran out of memory,
--- else an image of an edit.
+-- The contents `m` and `s` are a crash image of an edit of the file `M` beside the journal `S` that ended with this status. Both are as they were if
+-- it was refused or ran out of memory, or else an image of the edit. It makes the writes that `found` gives.
 abbrev pub LeftByEdit : Status → (List ℕ → Result (List Write) Refusal) → List ℕ → List ℕ → List ℕ → List ℕ → Type 0
 LeftByEdit status.Refused found M S m s = (m ≡ M) × (s ≡ S)
 LeftByEdit status.NoMemory found M S m s = (m ≡ M) × (s ≡ S)
@@ -70,46 +74,52 @@ LeftByEdit e found M S m s = IsBeingEdited found M S m s
 
 -- ---- after the end and at any moment
 
--- The effect of an edit on the two files after its end, and the crash images at any moment.
+-- An edit that ended with the status `s` took the disk from `old` to `new`. It has the file and journal at the end, and their crash images at any
+-- moment. It makes the writes that `found` gives.
 pub record IsEdit {D : Type 0} (d : Ghosts D) (found : List ℕ → Result (List Write) Refusal) (old new : D) (s : Status) : Type 0 where
   pub pair : OfReads d old (λ M S. LeavesEdited s found M S (d.pair new))
   pub any_moment : AnyMoment d old new (LeftByEdit s found)
 
--- An edit of the file `name` has left the two files as `IsEdit` describes, and they are open under this name or couldn't be opened.
+-- An edit of the file `name` that ended with the status `s` took the disk from `old` to `new`, as `IsEdit` describes. The file and its journal are
+-- open under this name, or couldn't be opened.
 pub record IsEditOf {D : Type 0} (r : reads.Ghosts D) (d : Ghosts D) (name : List ℕ) (found : List ℕ → Result (List Write) Refusal) (old new : D) (s : Status) : Type 0 where
   pub leaves : IsEdit d found old new s
   pub opened : (d.opened new ≡ Some name) ⊎ IsUnopened r d name old new s
 
--- The pair stays open under its name, and at most `most` bytes are read.
+-- From the state `old` to `new`, the file and its journal stay open under their name, and at most `most` bytes are read.
 pub record StaysOpen {D : Type 0} (r : reads.Ghosts D) (d : Ghosts D) (old new : D) (most : ℕ) : Type 0 where
   pub opened : d.opened new ≡ d.opened old
   pub octets : r.octets_read new ≤ r.octets_read old + most
 
--- The pair stays open under its name, and the bytes that are read are bounded by `most` of the length that the file had.
+-- From the state `old` to `new`, the file and its journal stay open under their name. The bytes that are read are bounded by `most` of the file's
+-- length in `old`.
 abbrev pub StaysOpenOf : {D : Type 0} → reads.Ghosts D → Ghosts D → D → D → (ℕ → ℕ) → Type 0
 StaysOpenOf r d old new most = StaysOpen r d old new (most (file_size r old MEDIA))
 
 -- ---- the execution of a plan
 
--- The plan is one of this file, and the journal has no pending edit.
+-- The plan was made for a file with the content `M`, and its journal, with the content `S`, has no pending edit.
 pub record IsPlannedFor (plan : Planned) (M S : List ℕ) : Type 0 where
   pub sound : IsPlan plan
   pub made : IsMadeFor plan.head M
   pub quiet : IsQuiet S
 
--- If the command is done, the writes of the plan are made, and the journal has a closed gate. Out of memory, nothing has changed.
+-- The execution of `plan` that ended with this status has made `p` of the file `M` and the journal `S`. If it is done, the writes of the plan are
+-- made, and the journal is reset. Out of memory, nothing has changed. After a failed call nothing is promised here.
 abbrev pub LeavesPlanned : Status → Planned → List ℕ → List ℕ → Pair → Type 0
 LeavesPlanned status.Done plan M S p = p ≡ both (applied M (writes_of plan)) (0 ∷ [])
 LeavesPlanned status.Outside plan M S p = Unit {0}
 LeavesPlanned s plan M S p = p ≡ both M S
 
--- A crash image of the execution of `plan` for file `M` beside journal `S` that ended with status `e`: both as they were if it ran out of memory.
+-- The contents `m` and `s` are a crash image of the execution of `plan` for the file `M` beside the journal `S`. They are as they were if it ended
+-- out of memory.
 abbrev pub LeftByPlan : Status → Planned → List ℕ → List ℕ → List ℕ → List ℕ → Type 0
 LeftByPlan status.Refused plan M S m s = (m ≡ M) × (s ≡ S)
 LeftByPlan status.NoMemory plan M S m s = (m ≡ M) × (s ≡ S)
 LeftByPlan e plan M S m s = IsEditing plan M m s
 
--- Printing the result is stopped by the disk if the disk failed; if not, memory for the message exists.
+-- A call printed the outcome of a change, which gave the result in the first argument. If the change failed, the call fails with the disk and prints
+-- nothing. If not, it can fail only to print, and not for memory. `before` and `now` count the failed prints.
 abbrev pub HasMadeCause : {A E T : Type 0} → Result A E → ℕ → ℕ → Result T CommandEnd → Type 0
 HasMadeCause (Ok _) before now result = HasSayCause before now result × (result ≢ Err stop.Memory)
 HasMadeCause (Err _) before now result = (result ≡ Err stop.Disk) × (now ≡ before)

@@ -1,4 +1,4 @@
--- The result of `reindex`: its status and its lines. All of it is this project's.
+-- The outcome of `reindex`: its status and its lines. All of it is this project's.
 use Rattle.std.specs.Prelude.{ℕ, ◌+◌, ◌*◌, Bool, List, [], ◌∷◌, length, Result, Ok, Err}
 use Rattle.mkv_lines.specs.Line.{reindexed_line}
 use Rattle.mkv_lines.specs.Verdict.{Verdict, done, refused}
@@ -17,33 +17,35 @@ use Rattle.mkv_propedit.specs.Command.{SaysOfDisk}
 
 -- ---- the result
 
--- the writes of a new index to a file with the content `M`, or their refusal
+-- the writes of a new index to a file with the content `M`, or the refusal
 abbrev pub writes_of_index : List ℕ → Result (List Write) Refusal
 writes_of_index M = and_then (index_of M) (λ x. Ok x.writes)
 
--- the result for a file, by its new index or its refusal
+-- the outcome for the file `name`, given its new index or the refusal
 abbrev pub indexed_told : List ℕ → Result Index Refusal → Verdict
 indexed_told name (Ok x) = done (reindexed_line name (length x.points) ∷ [])
 indexed_told name (Err why) = refused (refusal_text name why)
 
--- the result of `reindex` for a file with the content `media` and a journal with the content `sidecar`
+-- the outcome of `reindex` for the file `name` with the content `media` and a journal with the content `sidecar`; `is_there` is whether the file
+-- exists
 abbrev pub reindex_verdict : Bool → List ℕ → List ℕ → List ℕ → Verdict
 reindex_verdict is_there name media sidecar = file_verdict is_there name sidecar (indexed_told name (index_of media))
 
--- The new index of the file `name` prints its result, if the disk is visible to the proof.
+-- The call prints the outcome of `reindex` for the file `name`. `disk` is the state of the disk before, `report` and `report'` are the states of the
+-- report before and after. It is promised if the disk is visible to the proof.
 abbrev pub SaysOfReindex : {D P : Type 0} → Ghosts D → ReportGhosts P → D → P → P → Result Status CommandEnd → List ℕ → Type 0
 SaysOfReindex d p disk report report' result name = SaysOfDisk d p disk report report' result (reindex_verdict (d.is_there disk name) name)
 
--- the result over a disk with the content `world`
+-- the outcome of `reindex` for the file `name` on a disk with the content `world`
 abbrev pub reindex_on : DiskWorld → List ℕ → Verdict
 reindex_on world name = reindex_verdict (world.is_there name) name world.media world.sidecar
 
 -- ---- the bytes that are read
 
--- the limits for planning a new index of a file of `octets` bytes, and for writing it in place
+-- the limit in bytes for planning a new index of a file of `octets` bytes. It is 26 times the file, and its first KEPT bytes, which the journal has.
 abbrev pub most_to_index : ℕ → ℕ
 most_to_index octets = 26 * octets + KEPT
 
--- the limit on the bytes that are read for writing a new index into a file of `octets` bytes
+-- the limit in bytes for writing a new index into a file of `octets` bytes: that for planning, and the head of its journal
 abbrev pub most_to_reindex : ℕ → ℕ
 most_to_reindex octets = HEAD + most_to_index octets

@@ -1,4 +1,4 @@
-//! Execution of planned edits.
+//! Execution of a planned edit: journal first, then the file.
 
 ghost use Rattle.std.specs.Prelude.{◌≤◌, true, [], ◌∷◌, length, IfOk};
 ghost use Rattle.mkv_io.specs.Faults.{HasCause};
@@ -23,8 +23,8 @@ use mkv_lines::{CommandEnd, Line, Status};
 use sidecar_edit::{DiskFault, Plan, commit, settle};
 use std::alloc::Global;
 
-/// Makes the edits of `plan` beside a journal without a pending edit, and prints `line`. All memory is taken before
-/// anything is written.
+/// Makes the edits of `plan` in the open file, whose journal has no pending edit, and prints `line`. All memory is
+/// taken before anything is written, so that only a failed call can stop it.
 pub fn edit_planned<D: Disk, R: Report>(
     alloc: Global,
     line: &Line,
@@ -50,7 +50,8 @@ pub fn edit_planned<D: Disk, R: Report>(
     tell(&edited, made, report)
 }
 
-/// Closes the gate of a journal without a pending edit, and makes the edits of `plan`.
+/// Makes the edits of `plan`. It resets the journal, which has no pending edit, and writes the plan there and the new
+/// bytes to the file. Then it resets the journal again.
 fn carry_out<D: Disk>(plan: &Plan, disk: &mut D) -> Result<(), DiskFault>
     requires ready { IsReady D.Reads D.Disk.own disk.old }
     requires some { 1 ≤ length plan.now.head.places }

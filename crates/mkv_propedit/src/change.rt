@@ -1,4 +1,4 @@
-//! Changes of a file in place, and their plans.
+//! The two changes of a file in place, `propedit` and `reindex`, and their plans.
 
 ghost use Rattle.std.specs.Prelude.{◌≡◌, ◌≤◌, length, IfOk};
 ghost use Rattle.mkv_io.specs.Faults.{HasCause};
@@ -19,21 +19,21 @@ use requests::Edit;
 use sidecar_edit::Plan;
 use std::alloc::Global;
 
-/// Change of a file in place: the edits of the command line, or a new index.
+/// Change of a file in place: the edits of `propedit`, or the new index of `reindex`.
 #[derive(Drop)]
 pub enum FileChange<'a> {
     Edits(&'a List<Edit>),
     Index,
 }
 
-/// Writes of a change, and its message.
+/// Planned change: its record for the journal, and the line that reports it.
 #[derive(Drop)]
 pub struct ChangePlan<'a> {
     pub plan: Plan,
     pub line: Line<'a>,
 }
 
-/// Plans a change of the file on `disk`, or returns its first refusal. Nothing is written.
+/// Plans `change` of the file on `disk`, which has the name `name`, or returns the first refusal. Nothing is written.
 pub fn plan_change<'a, D: Disk>(
     alloc: Global,
     name: &'a str,

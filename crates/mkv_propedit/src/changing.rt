@@ -1,4 +1,4 @@
-//! Opening of a file and its journal, and the change of the file.
+//! The commands `propedit` and `reindex` on one file: it is opened with its journal, checked, and changed.
 
 ghost use Rattle.std.specs.Prelude.{◌≡◌, IfOk};
 ghost use Rattle.mkv_disk.specs.Calls.{AtRest, IsReady, OfReads};
@@ -21,8 +21,8 @@ use mkv_lines::{CommandEnd, Line, Status, refuse};
 use sidecar_edit::{Gate, state};
 use std::alloc::Global;
 
-/// Changes the file `name` in place, wholly or not at all, and prints the result. A stop at any moment leaves a file
-/// and a journal that can be recovered.
+/// Makes `change` in the file `name`, wholly or not at all, and prints the outcome. It opens the file and its journal
+/// on `disk`. A stop at any moment leaves both so that `recover` completes or drops the change.
 pub fn change_file<D: Disk, R: Report>(
     alloc: Global,
     name: &str,
@@ -46,7 +46,8 @@ pub fn change_file<D: Disk, R: Report>(
     }
 }
 
-/// Changes the file of an open pair, unless an edit is pending or the journal is invalid.
+/// Makes `change` in the file `name`, which is open with its journal. It prints only an error if the journal has a
+/// pending edit or is invalid.
 fn change_open<D: Disk, R: Report>(
     alloc: Global,
     name: &str,
@@ -70,7 +71,8 @@ fn change_open<D: Disk, R: Report>(
     }
 }
 
-/// Changes the file of an open pair without a pending edit.
+/// Makes `change` in the file `name`, which is open with a journal without a pending edit: it plans the change and then
+/// makes it. A refusal is printed, and nothing is written.
 fn change_quiet<D: Disk, R: Report>(
     alloc: Global,
     name: &str,

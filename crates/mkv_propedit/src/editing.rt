@@ -1,4 +1,4 @@
-//! Edits of a file's properties in place.
+//! The command `propedit`.
 
 ghost use Rattle.std.specs.Prelude.{IfOk};
 ghost use Rattle.mkv_disk.specs.Calls.{AtRest};
@@ -19,8 +19,8 @@ use mkv_lines::{CommandEnd, Status};
 use requests::Edit;
 use std::alloc::Global;
 
-/// Makes the edits of the file `name`, all of them or none, and prints the result. A stop at any moment leaves a file
-/// and a journal that can be recovered.
+/// Makes `edits` in the file `name`, all of them or none, and prints the outcome. A stop at any moment leaves the file
+/// and its journal so that `recover` completes or drops the edits.
 pub fn propedit_of<D: Disk, R: Report>(
     alloc: Global,
     name: &str,

@@ -1,7 +1,7 @@
 #![tactic(auto)]
 
-//! The commands `propedit`, which changes properties of a file in place, and `reindex`, which rewrites its index in
-//! place. The command `recover` completes such a change after an interruption.
+//! The commands that change a file in place: `propedit` sets properties, `reindex` rewrites the index, and `recover`
+//! completes such a change after an interruption.
 
 mod carrying;
 mod change;

@@ -1,4 +1,4 @@
-//! Opening of a file and its journal, and their recovery.
+//! The command `recover`: a file is opened with its journal, and recovered.
 
 ghost use Rattle.std.specs.Prelude.{IfOk};
 ghost use Rattle.mkv_io.specs.Bounds.{ReadsUpTo};
@@ -18,7 +18,8 @@ use mkv_lines::{CommandEnd, Line, Status, refuse};
 use sidecar_edit::recover;
 use std::alloc::Global;
 
-/// Completes an interrupted edit of the file `name`, and prints the result.
+/// Completes an interrupted edit of the file `name`, as its journal has it, and prints the outcome. It opens the file
+/// and its journal on `disk`.
 pub fn recover_of<D: Disk, R: Report>(
     alloc: Global,
     name: &str,
@@ -41,7 +42,8 @@ pub fn recover_of<D: Disk, R: Report>(
     }
 }
 
-/// Recovers an open pair. All memory is taken before anything is written.
+/// Recovers the file `name`, which is open with its journal, and prints the outcome. All memory is taken before
+/// anything is written.
 fn recover_open<D: Disk, R: Report>(
     alloc: Global,
     name: &str,

@@ -1,4 +1,4 @@
-//! Rewriting of a file's index in place.
+//! The command `reindex`.
 
 ghost use Rattle.std.specs.Prelude.{IfOk};
 ghost use Rattle.mkv_disk.specs.Calls.{AtRest};
@@ -17,8 +17,8 @@ use mkv_io::Report;
 use mkv_lines::{CommandEnd, Status};
 use std::alloc::Global;
 
-/// Rewrites the index of the file `name`, its Cues and SeekHead, and prints the result. A stop at any moment leaves a
-/// file and a journal that can be recovered.
+/// Rewrites the index of the file `name`, its Cues and SeekHead, and prints the outcome. A stop at any moment leaves
+/// the file and its journal so that `recover` completes or drops the change.
 pub fn reindex_of<D: Disk, R: Report>(
     alloc: Global,
     name: &str,

@@ -1,4 +1,4 @@
-//! Messages of edits.
+//! Messages of `propedit` and `reindex`.
 
 ghost use Rattle.std.specs.Prelude.{◌≡◌, [], ◌∷◌, IfOk};
 ghost use Rattle.std.specs.String.{string_bytes};
@@ -15,14 +15,16 @@ use mkv_lines::{CommandEnd, Line, Status, say_text};
 use sidecar_edit::DiskFault;
 use std::alloc::{AllocError, Global};
 
-/// Returns the text of a message that is printed when nothing can fail any more.
+/// Returns the text of `line`. It is made before the change, and printed after it, when no memory may be needed any
+/// more.
 pub fn line_text(alloc: Global, line: &Line) -> Result<String, AllocError>
     ensures { IfOk result (λ text. string_bytes text ≡ text_of line.now) }
 {
     format!(in alloc; "{line}")
 }
 
-/// Prints the message of completed edits, unless the disk failed. It takes no memory.
+/// Prints `edited`, the line that reports a completed change, unless the disk failed, and returns the status. It takes
+/// no memory. `made` is the result of the change.
 pub fn tell<R: Report>(
     edited: &str,
     made: Result<(), DiskFault>,
@@ -42,7 +44,7 @@ pub fn tell<R: Report>(
     }
 }
 
-/// Returns the message that reports why an edit or a new index of the file `name` is refused.
+/// Returns the error line for a refused edit or new index of the file `name`.
 pub fn refusal_line(name: &str, refusal: Refusal) -> Line<'_>
     ensures { text_of result ≡ spec.refusal_text name.now refusal }
 {
@@ -67,7 +69,7 @@ pub fn refusal_line(name: &str, refusal: Refusal) -> Line<'_>
     }
 }
 
-// Returns the name of the reason why an edit is refused, as a message prints it.
+// Returns the name of the reason `why` in an error line, such as `NoSuchTrack`.
 fn why_name(why: EditRefusal) -> &'static str
     ensures { result.now ≡ spec.why_name why }
 {
@@ -81,7 +83,7 @@ fn why_name(why: EditRefusal) -> &'static str
     }
 }
 
-// Returns the name of the kind of room that is missing, as a message prints it.
+// Returns the name of the kind of missing room in an error line, such as `SeekHead`.
 fn room_name(room: Room) -> &'static str
     ensures { result.now ≡ spec.room_name room }
 {
