@@ -1,4 +1,4 @@
--- The names that a run opens and makes, by what its command line asks for. The rule is this project's.
+-- The names that a run may open and create, by its command line. The rule is this project's.
 use Rattle.std.specs.Prelude.{◌≡◌, ⊤, ℕ, List, [], Result, Ok, Err}
 use Rattle.std.specs.declared.alloc.Global.{Global}
 use Rattle.std.specs.declared.string.String.{String}
@@ -18,8 +18,8 @@ use Rattle.mkv_merge.specs.Asked.{IsBesidesMerge, opened_by}
 use Rattle.mkv_generate.specs.Asked.{IsBesidesGenerate}
 use Rattle.mkv_generate.specs.Generate.{names_of}
 
--- A command doesn't ask for `asked`: to open a name that it may not open, or to make one that it may not make. An edit in place opens its file on
--- the disk, and asks for nothing here; nor do help and the version.
+-- The command doesn't ask for `asked`, a call that opens or creates a name. An edit in place opens its file on the disk, and asks for nothing here.
+-- Nor do help and the version.
 abbrev pub IsNotRequested : Command → Asked → Type 0
 IsNotRequested (Info file) asked = IsNotAmong (with_sidecar file) [] asked
 IsNotRequested (Identify file) asked = IsNotAmong (with_sidecar file) [] asked
@@ -28,20 +28,20 @@ IsNotRequested (Merge words) asked = IsBesidesMerge (opened_by words) words aske
 IsNotRequested (Generate n prefix) asked = IsBesidesGenerate (names_of prefix) asked
 IsNotRequested _ asked = ⊤
 
--- A command line, as read, doesn't ask for `asked`; a refused one opens and makes nothing.
+-- A command line, as parsed, doesn't ask for `asked`, a call that opens or creates a name. A refused command line asks for none.
 abbrev pub IsBesidesAfter : Result Command Usage → Asked → Type 0
 IsBesidesAfter (Ok command) asked = IsNotRequested command asked
 IsBesidesAfter (Err usage) asked = ⊤
 
--- From `files` to `files'`, no name is opened or made that the command doesn't ask for.
+-- From the state `files` to `files'`, no name is opened or created that `command` doesn't ask for.
 abbrev pub AsksToObey : {F : Type 0} → FilesGhosts F → F → F → Command → Type 0
 AsksToObey f files files' command = AsksNone (IsNotRequested command) (f.asked files) (f.asked files')
 
--- From `files` to `files'`, no name is opened or made that the command line `words` doesn't ask for.
+-- From the state `files` to `files'`, no name is opened or created that the command line `words` doesn't ask for.
 abbrev pub AsksByWords : {F : Type 0} → FilesGhosts F → F → F → List (String Global) → Type 0
 AsksByWords f files files' words = AsksNone (IsBesidesAfter (command (texts words))) (f.asked files) (f.asked files')
 
--- From `files` to `files'`, the same files are open, and no name is opened or made that `words` don't ask for.
+-- From the state `files` to `files'`, the same files are open. No name is opened or created that the command line `words` doesn't ask for.
 pub record LeavesFiles {F : Type 0} (r : ReadsGhosts F) (f : FilesGhosts F) (files files' : F) (words : List (String Global)) : Type 0 where
   pub live : (file : ℕ) → (live_files r files').live file ≡ (live_files r files).live file
   pub asks : AsksByWords f files files' words

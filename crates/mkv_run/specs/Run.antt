@@ -1,4 +1,4 @@
--- The result of each command line. The commands are this project's; the content of their outputs follows RFC 9559.
+-- The outcome of each command line: status, lines and outputs. The commands are this project's; the content of their outputs follows RFC 9559.
 use Rattle.std.specs.Prelude.{◌≡◌, ◌≤◌, ⊤, IfOk, ℕ, ◌+◌, List, [], ◌∷◌, length, Option, Some, option_map, Result, Ok, Err}
 use Rattle.mkv_io.specs.Names.{Names}
 use Rattle.mkv_io.specs.Told.{IfVisible}
@@ -29,12 +29,12 @@ use Rattle.mkv_merge.specs.Bound.{most_read}
 use Rattle.mkv_merge.specs.Merge.{merge_verdict, sources_of}
 use Rattle.mkv_merge.specs.Records.{EndsReadable}
 
--- the message that names the first wrong word and the reason
+-- the error line that names the first wrong word of a command line and the reason
 abbrev pub usage_line : Usage → List ℕ
 usage_line usage = word_line usage.word (why_name usage.why)
 
--- The result of a command. It is a function of the contents of all names, or for an edit in place of the disk. These must be visible to the
--- proof. A command without a file needs neither.
+-- The outcome of a command. It is a function of the contents of all names, or for an edit in place of the disk. These must be visible to the proof. A
+-- command without a file needs neither.
 abbrev pub verdict_of : Names → Option DiskWorld → Command → Option Verdict
 verdict_of names disk (Help about) = Some (done (usage_lines about))
 verdict_of names disk Version = Some (done (version_line ∷ []))
@@ -48,19 +48,20 @@ verdict_of names disk (Extract file job) = option_map (λ world. extract_verdict
 verdict_of names disk (Propedit file edits) = option_map (λ world. propedit_on world file edits) disk
 verdict_of names disk (Merge words) = option_map (λ world. merge_verdict world words) names
 
--- the result of a command line, as read: a refused one has the same result whatever files there are
+-- the outcome of a command line, as parsed. A refused one has the same outcome whatever files there are.
 abbrev pub verdict_after : Names → Option DiskWorld → Result Command Usage → Option Verdict
 verdict_after names disk (Ok command) = verdict_of names disk command
 verdict_after names disk (Err usage) = Some (refused (usage_line usage))
 
--- the result of the command line `words` for the files `names` and the disk `disk`, if they are visible to the proof
+-- the outcome of the command line `words` for the files `names` and the disk `disk`, if they are visible to the proof
 abbrev pub verdict_in : Names → Option DiskWorld → List (List ℕ) → Option Verdict
 verdict_in names disk words = verdict_after names disk (command words)
 
--- ---- numbers of bytes read
+-- ---- limits on the bytes that are read
 
--- The number of bytes read grows from `before` to `now` by at most the bound of the command. The files, or for an edit in place the disk, must be
--- visible to the proof. A recovery reads at most the largest size of a record, however large the file is. Help and the version read nothing.
+-- The number of bytes read grows from `before` to `now` by at most the limit of the command. It needs that the files, or for an edit in place the
+-- disk, are visible to the proof. A recovery reads at most the largest size of a record, however large the file is. Help and the version read
+-- nothing.
 abbrev pub ReadsWithin : Names → Option DiskWorld → Command → ℕ → ℕ → Type 0
 ReadsWithin names disk (Help about) before now = now ≡ before
 ReadsWithin names disk Version before now = now ≡ before
@@ -74,28 +75,29 @@ ReadsWithin names disk (Extract file job) before now = IfVisible names (λ world
 ReadsWithin names disk (Propedit file edits) before now = IfVisible disk (λ world. now ≤ before + most_to_edit (length world.media))
 ReadsWithin names disk (Merge words) before now = IfVisible names (λ world. now ≤ before + most_read world words)
 
--- The number of bytes read is within the bound of a command line, as read; a refused one reads nothing.
+-- The number of bytes read grows from `before` to `now` by at most the limit of a command line, as parsed. A refused one reads nothing.
 abbrev pub ReadsWithinAfter : Names → Option DiskWorld → Result Command Usage → ℕ → ℕ → Type 0
 ReadsWithinAfter names disk (Ok command) before now = ReadsWithin names disk command before now
 ReadsWithinAfter names disk (Err usage) before now = now ≡ before
 
--- The number of bytes read, from `before` to `now`, is within the bound of the command line `words`; a refused one reads nothing.
+-- The number of bytes read grows from `before` to `now` by at most the limit of the command line `words`. A refused one reads nothing.
 abbrev pub ReadsWithinIn : Names → Option DiskWorld → List (List ℕ) → ℕ → ℕ → Type 0
 ReadsWithinIn names disk words before now = ReadsWithinAfter names disk (command words) before now
 
 -- ---- the output of a merge
 
--- The output of a merge that ended by itself can be read again, if the names are visible to the proof.
+-- If the command merges and ended by itself with the result `r`, its output can be read again. It is promised if `names` is visible to the proof.
 abbrev pub MergesReadable : Names → Command → Result Status CommandEnd → Type 0
 MergesReadable names (Merge words) r = IfVisible names (λ world. EndsReadable words (sources_of world words) r)
 MergesReadable names _ r = ⊤
 
--- The output of a command line `words` that merges and ended by itself can be read again, if the names are visible to the proof.
+-- If the command line `words` merges and ended by itself with the result `r`, its output can be read again. It is promised if `names` is visible to
+-- the proof.
 abbrev pub MergesReadableIn : Names → List (List ℕ) → Result Status CommandEnd → Type 0
 MergesReadableIn names words r = IfOk (command words) (λ (c : Command). MergesReadable names c r)
 
--- The output of a command line `words` that merges can be read again after a run with this status, unless memory ran out or a call of the system
--- failed.
+-- If the command line `words` merges, its output can be read again after a run with this status. It isn't promised if memory ran out or a call of the
+-- system failed.
 abbrev pub LeavesReadable : Names → List (List ℕ) → Status → Type 0
 LeavesReadable names words status.NoMemory = ⊤
 LeavesReadable names words status.Outside = ⊤

@@ -1,4 +1,4 @@
--- The objects that a run changes, and how. The rules are this project's.
+-- The objects that a run may change, by its command. The rules are this project's.
 use Rattle.std.specs.Prelude.{◌≡◌, ⊤, List, ℕ, Result, Ok, Err}
 use Rattle.mkv_io.specs.declared.reads.Reads as reads
 use Rattle.mkv_disk.specs.declared.disk.Disk as disks
@@ -13,7 +13,8 @@ use Rattle.mkv_propedit.specs.Reindex.{writes_of_index}
 use Rattle.mkv_lines.specs.Code.{status_of}
 use Rattle.mkv_lines.specs.declared.status.CommandEnd.{CommandEnd}
 
--- The objects that a command works on. Help and refused words work on none. A file in place is recovered, edited or indexed.
+-- The objects that a command works on. Help and refused words work on none. A file in place is recovered, edited or indexed; its name and edits are
+-- given.
 pub data Reach : Type 0 where
   nothing : Reach
   files : Reach
@@ -21,7 +22,7 @@ pub data Reach : Type 0 where
   edited : List ℕ → List Edit → Reach
   indexed : List ℕ → Reach
 
--- the objects that a command works on
+-- the objects that a command works on: nothing, files, or a file in place
 abbrev pub reach_of : Command → Reach
 reach_of (Help about) = nothing
 reach_of Version = nothing
@@ -35,7 +36,7 @@ reach_of (Extract file job) = files
 reach_of (Propedit file edits) = edited file edits
 reach_of (Merge words) = files
 
--- the objects that a command line works on, as read
+-- the objects that a command line works on, as parsed; a refused one works on nothing
 abbrev pub reach_in : Result Command Usage → Reach
 reach_in (Ok command) = reach_of command
 reach_in (Err usage) = nothing
@@ -48,8 +49,9 @@ IsInPlace (recovered file) = ⊤
 IsInPlace (edited file edits) = ⊤
 IsInPlace (indexed file) = ⊤
 
--- Objects that a command doesn't work on are unchanged. An edit in place leaves the files, any other command the disk, and help or refused words
--- both. A file in place is left as its recovery, edit or new index allows.
+-- A run with the status `s` changes only what its command works on. `old` and `new` are the states of the files before and after, `disk` and
+-- `disk_now` of the disk. An edit in place leaves the files, any other command the disk, and help or refused words both. A file in place is left as
+-- its recovery, edit or new index allows.
 abbrev pub Touches : {F D : Type 0} → reads.Ghosts D → disks.Ghosts D → Reach → F → F → D → D → Status → Type 0
 Touches r d nothing old new disk disk_now s = (new ≡ old) × (disk_now ≡ disk)
 Touches r d files old new disk disk_now s = disk_now ≡ disk
@@ -57,11 +59,12 @@ Touches r d (recovered file) old new disk disk_now s = (new ≡ old) × IsRecove
 Touches r d (edited file edits) old new disk disk_now s = (new ≡ old) × IsEditOf r d file (writes_of_edits edits) disk disk_now s
 Touches r d (indexed file) old new disk disk_now s = (new ≡ old) × IsEditOf r d file writes_of_index disk disk_now s
 
--- A command that ended with `result` leaves the objects that it doesn't work on as they were, by the status of the run.
+-- A command that ended with `result` changes only what it works on. `old` and `new` are the states of the files before and after, `disk` and
+-- `disk_now` of the disk.
 abbrev pub Touched : {F D : Type 0} → reads.Ghosts D → disks.Ghosts D → Reach → F → F → D → D → Result Status CommandEnd → Type 0
 Touched r d reach old new disk disk_now result = Touches r d reach old new disk disk_now (status_of result)
 
--- A crash at any moment of the command may leave `m` and `s` of a film `M` with the journal `S`.
+-- A file was `M` with the journal `S`. A crash at any moment of a command with the status `e` may leave the contents `m` and `s` of the two.
 abbrev pub LeftOnTheWay : Reach → Status → List ℕ → List ℕ → List ℕ → List ℕ → Type 0
 LeftOnTheWay nothing e M S m s = (m ≡ M) × (s ≡ S)
 LeftOnTheWay files e M S m s = (m ≡ M) × (s ≡ S)

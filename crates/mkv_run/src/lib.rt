@@ -1,6 +1,7 @@
 #![tactic(auto)]
 
-//! A run, from its command line to its status, over any files, any disk and any report.
+//! The run of a command line. It is parsed, its command is executed over any files, any disk and any report, and the
+//! status is returned.
 
 mod help;
 mod running;

@@ -1,4 +1,4 @@
-//! A run, from its command line to its status.
+//! The run of a command line: parsing, execution, and the message of a failure.
 
 ghost use Rattle.std.specs.Prelude.{IfOk};
 ghost use Rattle.mkv_io.specs.Told.{IfVisible};
@@ -29,8 +29,9 @@ use mkv_merge::merge_of;
 use mkv_propedit::{propedit_of, recover_of, reindex_of};
 use std::alloc::Global;
 
-/// Does what `words` ask for, and prints its messages; after a failure of the files or the disk, prints the message of
-/// the failure, too. Requires that nothing on the disk is left to sync if the command edits or recovers a file in place.
+/// Does what `words`, the command line without the program's name, ask for, prints the messages, and returns the
+/// status. If a call on the files or the disk failed, it prints the line of that failure, too. Requires that nothing on
+/// the disk is left to sync if the command edits or recovers a file in place.
 pub fn run_command_line<F: Files, D: Disk, R: Report>(
     alloc: Global,
     words: &Vec<String>,
@@ -82,7 +83,8 @@ pub fn run_command_line<F: Files, D: Disk, R: Report>(
     }
 }
 
-// Does what `words` ask for, up to a failure of the system or of memory.
+// Parses `words` and executes their command, up to the first failed call or missing memory. Words that are refused get
+// only an error line.
 fn carry_out<F: Files, D: Disk, R: Report>(
     alloc: Global,
     words: &Vec<String>,
@@ -107,7 +109,8 @@ fn carry_out<F: Files, D: Disk, R: Report>(
     }
 }
 
-// Carries out a command whose arguments are parsed, over the files and the disk, and prints to the report.
+// Executes `command`, whose arguments are parsed, over the files and the disk, and prints its messages to the report.
+// Each command has its own crate.
 fn execute<F: Files, D: Disk, R: Report>(
     alloc: Global,
     command: &Command,
@@ -145,7 +148,8 @@ fn execute<F: Files, D: Disk, R: Report>(
     }
 }
 
-// Prints the reason `why` for which word number `word` of the command line is refused.
+// Prints the error line for the first wrong word of the command line, with its number `word` and the reason `why`.
+// Returns the status of a refusal.
 fn refuse<R: Report>(
     alloc: Global,
     word: usize,

@@ -1,5 +1,4 @@
--- An output that is merged by itself gets its own records: RFC 9559, sections 5.1.7 (Chapters Element) and 5.1.8 (Tags Element). This is this
--- project's promise.
+-- The Tags of an output that is merged by itself: RFC 9559, section 5.1.8 (Tags Element). This is this project's promise.
 use Rattle.std.specs.Prelude.{◌≡◌, List, [], ◌∷◌, map, None}
 use Rattle.record_changes.specs.Atoms.{chapter_uids, edition_uids}
 use Rattle.record_laws.specs.Tags.{keep_all}
@@ -12,7 +11,8 @@ use Rattle.merge_plan.specs.Records.{tags_of}
 use Rattle.remerge_laws.specs.Alike.{MayBeAlike}
 use Rattle.remerge_laws.specs.Placed.{MayStandAs}
 
--- The input `again`, which isn't appended and keeps all Tags, has the identifiers that a merge of the inputs `reads` gave.
+-- The input `again` has the tracks, editions, chapters and attached files with the identifiers that a merge of the inputs `reads` gave. It isn't
+-- appended and keeps all Tags.
 pub record HasIdentifiersOf (reads : List InputRead) (again : InputRead) : Type 0 where
   pub tracks : map (λ (t : TakenTrack). t.track.uid) again.taken ≡ (identifiers_of reads).tracks
   pub editions : uids_in edition_uids again.chapters ≡ (identifiers_of reads).editions
@@ -21,7 +21,7 @@ pub record HasIdentifiersOf (reads : List InputRead) (again : InputRead) : Type 
   pub alone : again.shift ≡ None
   pub keep : again.keep ≡ keep_all
 
--- An input with the Tags of that merge, as they were written, gets these Tags if it is merged by itself.
+-- An input `again` that has the Tags and identifiers that a merge of `reads` wrote gets these Tags again if it is merged by itself.
 abbrev pub TagsAreAlikeAgain : Type 0
 TagsAreAlikeAgain =
     (reads : List InputRead) (again : InputRead) → Have64Bits (identifiers_of reads) → HasIdentifiersOf reads again → MayStandAs (tags_of reads) again.tags

@@ -1,4 +1,4 @@
--- The Chapters of an output are merged again as they were: RFC 9559, section 5.1.7 (Chapters Element). This is this project's promise.
+-- The Chapters of an output that is merged by itself: RFC 9559, section 5.1.7 (Chapters Element). This is this project's promise.
 use Rattle.std.specs.Prelude.{◌≡◌, List, [], ◌∷◌, None, IfSome}
 use Rattle.mkv_schema.specs.declared.ids.TheConstants.{CHAPTERS}
 use Rattle.output_model.specs.Sound.{IsRecord}
@@ -10,15 +10,15 @@ use Rattle.merge_plan.specs.Records.{chapters_of}
 use Rattle.remerge_laws.specs.Alike.{MayBeAlike}
 use Rattle.remerge_laws.specs.Placed.{MayStandAs}
 
--- The input `again`, which isn't appended, has the Chapters of a merge as they were written, if any. They can be read, and the identifiers have
--- 64 bits.
+-- The input `again`, which isn't appended, has the Chapters that a merge of `reads` wrote, if any. They can be read, and the identifiers have 64
+-- bits.
 pub record HasChaptersOf (reads : List InputRead) (again : InputRead) : Type 0 where
   pub short : Have64Bits (identifiers_of reads)
   pub records : IfSome (chapters_of reads) (IsRecord CHAPTERS)
   pub stand : MayStandAs (chapters_of reads) again.chapters
   pub alone : again.shift ≡ None
 
--- The input has the identifiers of that merge, and gets these Chapters if it is merged by itself.
+-- An input `again` with the Chapters that a merge of `reads` wrote has their identifiers. It gets the same Chapters if it is merged by itself.
 pub record ChaptersAreAlikeAgain : Type 0 where
   pub editions : (reads : List InputRead) (again : InputRead) → HasChaptersOf reads again → uids_in edition_uids again.chapters ≡ (identifiers_of reads).editions
   pub chapters : (reads : List InputRead) (again : InputRead) → HasChaptersOf reads again → uids_in chapter_uids again.chapters ≡ (identifiers_of reads).chapters

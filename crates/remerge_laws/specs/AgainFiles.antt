@@ -1,5 +1,4 @@
--- The attached files that are read from an output are merged again as they were: RFC 9559, section 5.1.6 (Attachments Element). This is this
--- project's promise.
+-- The attached files of an output that is merged by itself: RFC 9559, section 5.1.6 (Attachments Element). This is this project's promise.
 use Rattle.std.specs.Prelude.{◌≡◌, ◌<◌, ◌^◌, List, [], ◌∷◌, map, All}
 use Rattle.std.specs.List.{AllZip}
 use Rattle.mkv_schema.specs.declared.ids.TheConstants.{FILE_UID}
@@ -18,8 +17,8 @@ pub record HaveFiles (sources : List Source) : Type 0 where
   pub filled : All IsFilled (attachments_of sources)
   pub small : All (λ n. n < 2 ^ 64) (file_uids (reads_of sources))
 
--- Each attached file of a merge has one FileUID, which a further merge keeps. Files that are read from an output are written as they were if it
--- is merged by itself.
+-- Each attached file of a merge of `sources` has one FileUID, which a further merge keeps. Files that `again` has read from the output are written as
+-- they were if it is merged by itself.
 pub record AttachedFilesStay : Type 0 where
   pub numbered : (sources : List Source) → HaveFiles sources → All IsNumbered (attachments_of sources)
   pub uids : (sources : List Source) → HaveFiles sources → map (uint_in FILE_UID) (attachments_of sources) ≡ file_uids (reads_of sources)

@@ -1,4 +1,4 @@
--- The Info of an output is written again as it was: RFC 9559, section 5.1.2 (Info Element). This is this project's promise.
+-- The Info of an output that is merged by itself: RFC 9559, section 5.1.2 (Info Element). This is this project's promise.
 use Rattle.std.specs.Prelude.{◌≡◌, List, ℕ, [], ◌∷◌, Option, Some}
 use Rattle.tree_format.specs.Node.{Node}
 use Rattle.tree_format.specs.Text.{HasNoZero}
@@ -9,7 +9,8 @@ use Rattle.merge_plan.specs.Records.{info_of, title_of}
 use Rattle.remerge_laws.specs.Placed.{MayStandAs}
 use Rattle.remerge_laws.specs.Plain.{plain_merge}
 
--- An input with the title of a merge's Info, without a zero byte, gets this Info if both have the same scale.
+-- An input `again` with the title of the Info that a merge of `reads` wrote gets this Info if it is merged by itself. The title has no zero byte, and
+-- both merges have the default scale.
 abbrev pub InfoIsWrittenAgain : Type 0
 InfoIsWrittenAgain =
     (words : MergeWords) (reads : List InputRead) (out name : List ℕ) (info : Option Node) (again : InputRead) → words.scale ≡ 1000000

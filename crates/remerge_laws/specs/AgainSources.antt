@@ -18,15 +18,15 @@ use Rattle.mkv_merge.specs.Read.{first_written, pending_of}
 use Rattle.remerge_laws.specs.Plain.{plain_merge}
 use Rattle.remerge_laws.specs.Repeat.{source_again}
 
--- Nothing refuses a merge of one file without options before the file is read. The output has another name than the files that are read, the file
--- exists with the content `bytes`, and no edit is pending.
+-- A merge `words` of one file with the content `bytes` isn't refused before it reads the file; `world` has the content of each name. The output has
+-- another name than the files that are read, the file exists, and its journal has no pending edit.
 pub record CanBegin (world : List ℕ → Option (List ℕ)) (words : MergeWords) (bytes : List ℕ) : Type 0 where
   pub apart : first_written words ≡ None
   pub there : map world (file_names words.files) ≡ Some bytes ∷ []
   pub settled : pending_of world words ≡ None
 
--- A merge of an output without options has the output as its one source, with the outline and the records that are read from it. Premises:
--- nothing refuses the merge before reading, its tracks can be used, and the plan isn't refused.
+-- A merge of the file `name`, an output with the document `d`, without options and to `out`, has it as its one source. `r` are the records that are
+-- read from it. The merge must not be refused before reading or by its plan, and its tracks must be usable.
 abbrev pub OutputsAreSources : Type 0
 OutputsAreSources =
     (world : List ℕ → Option (List ℕ)) (out name : List ℕ) (d : Document) (r : FileRecords) → CanBegin world (plain_merge out name) (layout d)
@@ -34,7 +34,7 @@ OutputsAreSources =
     → first_unusable (taken_from (plain_file name) 0 r.tracks) ≡ None → plan_refusal (plain_merge out name) (reads_of (source_again name d r ∷ [])) ≡ None
     → sources_of world (plain_merge out name) ≡ Ok (source_again name d r ∷ [])
 
--- A merge without options of one source without damage ends without a warning.
+-- A merge without options of one source without damage ends with the status Done.
 abbrev pub MergeIsDone : Type 0
 MergeIsDone =
     (world : List ℕ → Option (List ℕ)) (out name : List ℕ) (source : Source) → sources_of world (plain_merge out name) ≡ Ok (source ∷ [])

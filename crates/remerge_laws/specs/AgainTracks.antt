@@ -1,4 +1,4 @@
--- The tracks of an output are selected and merged again as they were: RFC 9559, section 5.1.4 (Tracks Element). This is this project's promise.
+-- The tracks of an output that is merged by itself: RFC 9559, section 5.1.4 (Tracks Element). This is this project's promise.
 use Rattle.std.specs.Prelude.{◌≡◌, ◌<◌, ◌^◌, ℕ, true, List, length, map, All, None}
 use Rattle.mkv_schema.specs.declared.ids.TheConstants.{CONTENT_ENCODINGS, TRACKS}
 use Rattle.tree_format.specs.Node.{Node, master, nodes_of}
@@ -17,14 +17,15 @@ use Rattle.remerge_laws.specs.AgainLanes.{IsTakenPlain}
 use Rattle.requests.specs.Plain.{plain_file}
 use Rattle.remerge_laws.specs.Records.{AreTracksOf}
 
--- The Tracks Element `tracks` has plain entries. Their TrackNumbers count from 1, a merge can select their types, and none has ContentEncodings.
+-- The entries of the Tracks Element `tracks` are plain. Their TrackNumbers count from 1, a merge can select their types, and none has
+-- ContentEncodings.
 pub record ArePlainTracks (tracks : Node) : Type 0 where
   pub numbers : CountFrom 1 (map number_of (entries_of tracks))
   pub types : All (λ (entry : Node). is_taken_type (type_of entry) ≡ true) (entries_of tracks)
   pub plain : All (λ (entry : Node). first_child CONTENT_ENCODINGS entry ≡ None) (entries_of tracks)
 
--- The selected tracks `taken` belong to the entries of `tracks`, one to each. They are plain, with the numbers and identifiers of the entries,
--- and their types decide on cue points.
+-- The selected tracks `taken` belong to the entries of the Tracks Element `tracks`, one to each, in order. They are plain, with the numbers and
+-- identifiers of the entries, and their types decide on cue points.
 pub record AreTakenOf (tracks : Node) (taken : List TakenTrack) : Type 0 where
   pub many : length taken ≡ length (entries_of tracks)
   pub numbers : CountFrom 1 (map (λ (t : TakenTrack). t.track.number) taken)
@@ -32,13 +33,14 @@ pub record AreTakenOf (tracks : Node) (taken : List TakenTrack) : Type 0 where
   pub plain : All IsTakenPlain taken
   pub rules : map rule_of taken ≡ map (λ (entry : Node). default_rule (type_of entry)) (entries_of tracks)
 
--- All tracks that are read from such a Tracks Element are selected without options.
+-- All tracks `read` from a plain Tracks Element `tracks` are selected by a merge without options.
 abbrev pub TracksAreTakenAgain : Type 0
 TracksAreTakenAgain =
     (name : List ℕ) (tracks : Node) (read : List Track) → ArePlainTracks tracks → AreTracksOf tracks read
     → AreTakenOf tracks (taken_from (plain_file name) 0 read)
 
--- The entries of a merge's tracks are written as they were, if their identifiers have 64 bits.
+-- A merge of the selected tracks `taken` wrote TrackEntries. If they have identifiers of 64 bits, they are written as they were when they are merged
+-- again.
 abbrev pub EntriesAreWrittenAgain : Type 0
 EntriesAreWrittenAgain =
     (name : List ℕ) (taken : List TakenTrack) (read : List Track) → All IsTaken taken → All (λ n. n < 2 ^ 64) (uids_of taken)

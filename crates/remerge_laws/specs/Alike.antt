@@ -5,20 +5,20 @@ use Rattle.tree_format.specs.Node.{Node, id_of}
 use Rattle.tree_format.specs.NormalForm.{is_filler, octets}
 use Rattle.output_model.specs.Document.{Document, layout}
 
--- The trees `m` and `n` have the same ID, which is written, and are written alike.
+-- The masters or leaves `m` and `n` have the same ID, and the same bytes when written. They are written at all, unlike a Void.
 pub record AreAlike (m n : Node) : Type 0 where
   pub id : id_of m ≡ id_of n
   pub some : is_filler (id_of m) ≡ false
   pub same : octets m ≡ octets n
 
--- Both trees are absent, or they are written alike.
+-- Both records are absent, or both exist and are written alike.
 abbrev pub MayBeAlike : Option Node → Option Node → Type 0
 MayBeAlike None None = ⊤
 MayBeAlike None (Some n) = ⊥
 MayBeAlike (Some m) None = ⊥
 MayBeAlike (Some m) (Some n) = AreAlike m n
 
--- The documents `d` and `e` have records that are written alike, and the same Clusters and cue points.
+-- The documents `d` and `e` have records with the same bytes, and the same Clusters and cue points.
 pub record AreAlikeDocuments (d e : Document) : Type 0 where
   pub webm : d.front.webm ≡ e.front.webm
   pub info : AreAlike d.front.info e.front.info
@@ -29,6 +29,6 @@ pub record AreAlikeDocuments (d e : Document) : Type 0 where
   pub chapters : MayBeAlike d.chapters e.chapters
   pub tags : MayBeAlike d.tags e.tags
 
--- Documents whose parts are written alike have the same bytes.
+-- Documents whose records are written alike, with the same Clusters and cue points, have the same bytes.
 abbrev pub AlikeDocumentsAreOne : Type 0
 AlikeDocumentsAreOne = (d e : Document) → AreAlikeDocuments d e → layout d ≡ layout e

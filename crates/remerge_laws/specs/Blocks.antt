@@ -19,30 +19,31 @@ use Rattle.remerge_laws.specs.Outline.{KeepsReaderLimits}
 abbrev pub is_block : ℕ → Bool
 is_block id = id == SIMPLE_BLOCK || id == BLOCK_GROUP
 
--- A child of a Cluster has at most 32 MiB if it is a block.
+-- The child of a Cluster with the header `h` has at most 32 MiB if it is a block.
 abbrev pub IsShortBlock : Header → Type 0
 IsShortBlock h = is_block h.id ≡ true → known h.size ≤ MAX_BLOCK_LEN
 
--- Each block in the Clusters of a Segment is short.
+-- Each block in the Clusters of the Segment `segment` in the content `bytes` has at most 32 MiB.
 abbrev pub AreShortBlocks : List ℕ → Header → Type 0
 AreShortBlocks bytes segment =
     All (λ (c : Header). (c.id == CLUSTER) ≡ true → All IsShortBlock (cluster_run bytes (segment_bound bytes segment) c).list)
     (segment_run bytes segment).list
 
--- The timestamp, the duration and the references of the block `b` aren't too large for a reader, and it has at most 64 references.
+-- A reader with limits can read the block `b`: its timestamp, duration and references aren't too large, and it has at most 64 references.
 pub record IsReadable (b : Block) : Type 0 where
   pub times : has_too_large_time b ≡ false
   pub few : length b.references ≤ MAX_REFERENCES
 
--- Limits change nothing if a file is read without limits and without damage, its blocks are short, and a reader can read each.
+-- A reader with limits finds the same blocks as one without, in a file that one without limits reads without damage. The blocks must be short, and
+-- each must be readable.
 abbrev pub LimitsLeaveBlocks : Type 0
 LimitsLeaveBlocks =
     (scale : ℕ) (bytes : List ℕ) (segment : Header) → damages_of (events_of (without_limits scale) bytes segment) ≡ []
     → AreShortBlocks bytes segment → All IsReadable (blocks_of (events_of (without_limits scale) bytes segment))
     → events_of (with_limits scale) bytes segment ≡ events_of (without_limits scale) bytes segment
 
--- Limits don't change the blocks of an output whose Info keeps a reader's limits. Its blocks must be short, and a reader must be able to read
--- each.
+-- A reader with limits finds the same blocks as one without, in an output whose Info keeps the limits. The blocks must be short, and each must be
+-- readable.
 abbrev pub OutputBlocksAreRead : Type 0
 OutputBlocksAreRead =
     (d : Document) → IsSoundDocument d → KeepsReaderLimits d.front.info → AreShortBlocks (layout d) (header_of_segment d) → All IsReadable (blocks_of_document d)

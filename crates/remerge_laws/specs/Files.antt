@@ -18,27 +18,27 @@ use Rattle.output_laws.specs.Reading.{header_of_segment, level_1_of}
 use Rattle.meta_records.specs.Attached.{AttachedFile, first_attached}
 use Rattle.meta_records.specs.Attachments.{ScannedElement, at_child, attached_in, children_of, limit_passed, met_in, too_many_files}
 
--- the first limit that the scanned Elements of an Attachments Element pass, after `octets` counted bytes and `nodes` nodes; damage is ignored
+-- the first limit that the Elements of an Attachments pass, after `octets` bytes and `nodes` Elements were counted; damaged ones are left out
 abbrev pub passed_from : ℕ → ℕ → List (Result ScannedElement Damage) → Option Damage
 passed_from octets nodes [] = None
 passed_from octets nodes (Err d ∷ rest) = passed_from octets nodes rest
 passed_from octets nodes (Ok m ∷ rest) =
     first_refusal (limit_passed (octets + m.counted) nodes m.header) (passed_from (octets + m.counted) (nodes + 1) rest)
 
--- The Attachments Element `h` of a content keeps a reader's limits.
+-- The Attachments Element with the header `h` in the content `bytes` keeps a reader's limits on its length, its Elements and its files.
 pub record AttachmentsKeepLimits (bytes : List ℕ) (h : Header) : Type 0 where
   pub counted : passed_from 0 1 (met_in (at_child bytes) (children_of bytes h)) ≡ None
   pub files : too_many_files (attached_in bytes h) ≡ None
 
--- The attached file `a` in the content `bytes` is the AttachedFile `n`. It has its ID and its FileUID. With its data and any FileUID, it is
--- written as `n` with that FileUID.
+-- The attached file `a`, read from the content `bytes`, is the AttachedFile `n` that was written. It has its ID and its FileUID. With its data and
+-- any FileUID, it is written as `n` with that FileUID.
 pub record IsFileOf (bytes : List ℕ) (n : Node) (a : AttachedFile) : Type 0 where
   pub id : id_of a.entry ≡ ATTACHED_FILE
   pub uid : a.uid ≡ uint_in FILE_UID n
   pub same : (uid : ℕ)
       → octets (with_data (octets_from bytes a.at a.len) (set_in (uint_leaf FILE_UID uid) a.entry)) ≡ octets (set_in (uint_leaf FILE_UID uid) n)
 
--- A reader finds the attached files of an output whose Attachments Element keeps the limits: each AttachedFile of the document, in order.
+-- A reader with limits finds the attached files of an output with the document `d` whose Attachments keeps the limits: each of them, in order.
 abbrev pub FilesAreRead : Type 0
 FilesAreRead =
     (d : Document) → IsSoundDocument d → IfSome (first_of ATTACHMENTS (level_1_of d)) (AttachmentsKeepLimits (layout d))

@@ -1,5 +1,4 @@
--- Tags of several inputs in one Tags Element keep their targets when they are merged again: RFC 9559, section 5.1.8 (Tags Element). This is this
--- project's promise.
+-- Tags of several inputs in one Tags Element, which are merged again: RFC 9559, section 5.1.8 (Tags Element). This is this project's promise.
 use Rattle.std.specs.Prelude.{◌≡◌, ℕ, List, All, Option}
 use Rattle.mkv_schema.specs.declared.ids.TheConstants.{TAG, TAGS}
 use Rattle.tree_format.specs.Node.{Node, master, nodes_of, id_of}
@@ -8,7 +7,7 @@ use Rattle.tree_format.specs.Standing.{placed}
 use Rattle.record_changes.specs.Tags.{written_tag, written_tags}
 use Rattle.record_laws.specs.Tags.{AreSmall, KeepsTarget, keep_all, targets_of}
 
--- `n` is a Tag that was written from an input, with any numbers of 64 bits.
+-- The Tag `n` was written by a merge from a Tag of an input, with some identifiers of 64 bits in its Targets.
 pub record IsWrittenTag (n : Node) : Type 0 where
   pub numbers : ℕ → ℕ → Option ℕ
   pub small : AreSmall numbers
@@ -16,7 +15,7 @@ pub record IsWrittenTag (n : Node) : Type 0 where
   pub is : id_of tag ≡ TAG
   pub written : n ≡ written_tag numbers tag
 
--- A Tags Element of such Tags is written as it was after reading, if its targets then keep their identifiers.
+-- A Tags Element of Tags that a merge wrote is written as it was after reading, if its Targets keep their identifiers by `again`.
 abbrev pub JoinedTagsStay : Type 0
 JoinedTagsStay =
     (again : ℕ → ℕ → Option ℕ) (tags : List Node) (place : ℕ) → All IsWrittenTag tags

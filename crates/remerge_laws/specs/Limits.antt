@@ -17,21 +17,21 @@ use Rattle.remerge_laws.specs.Files.{AttachmentsKeepLimits}
 use Rattle.remerge_laws.specs.Outline.{KeepsReaderLimits}
 use Rattle.remerge_laws.specs.Records.{OutputKeepsLimits}
 
--- The content `bytes` keeps the limits of a file, of its first Info and of its first Attachments. Its blocks are the same with and without
--- limits.
+-- A file with the content `bytes` keeps a reader's limits on its length, its first Info and its first Attachments. Its blocks are the same with and
+-- without limits.
 pub record IsWithinLimits (bytes : List ℕ) : Type 0 where
   pub short : length bytes ≤ LONGEST_FILE
   pub info : (o : Outlined) → outline_without_limits bytes ≡ Ok o → IfSome (first_of INFO o.list) (λ (h : Header). known h.size ≤ MAX_MASTER_LEN)
   pub attachments : (o : Outlined) → outline_without_limits bytes ≡ Ok o → IfSome (first_of ATTACHMENTS o.list) (AttachmentsKeepLimits bytes)
   pub blocks : (o : Outlined) → outline_without_limits bytes ≡ Ok o → file_events true bytes o.segment ≡ file_events false bytes o.segment
 
--- The records of the document `d` are small: its Info has at most 65,536 Elements; its Tracks, Chapters and Tags keep a reader's limits.
+-- The records of the document `d` are small: its Info has at most 65,536 Elements, and its Tracks, Chapters and Tags keep a reader's limits.
 pub record RecordsAreSmall (d : Document) : Type 0 where
   pub info : kept d.front.info ≤ MAX_NODES
   pub tracks : KeepsReaderLimits d.front.tracks
   pub chapters : IfSome d.chapters KeepsReaderLimits
   pub tags : IfSome d.tags KeepsReaderLimits
 
--- If the records of a document are small, its output keeps a reader's limits if its bytes do.
+-- An output whose records are small keeps a reader's limits if its bytes do.
 abbrev pub OctetsKeepLimits : Type 0
 OctetsKeepLimits = (d : Document) → IsSoundDocument d → RecordsAreSmall d → IsWithinLimits (layout d) → OutputKeepsLimits d

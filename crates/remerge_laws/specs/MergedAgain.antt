@@ -1,5 +1,5 @@
--- The output of a merge, merged again by itself and without options: RFC 9559, section 5.1 (Segment Element). It is written as it was, which is
--- this project's promise.
+-- The output of a merge, merged again by itself and without options, is written as it was: RFC 9559, section 5.1 (Segment Element). This is this
+-- project's promise.
 use Rattle.std.specs.Prelude.{◌≡◌, ⊤, ℕ, List, [], ◌∷◌, All, Option, Some, Ok, map}
 use Rattle.std.specs.Str.{IsUtf8}
 use Rattle.mkv_io.specs.Names.{Names, with_content}
@@ -21,8 +21,8 @@ use Rattle.remerge_laws.specs.Limits.{IsWithinLimits}
 use Rattle.remerge_laws.specs.Plain.{plain_merge}
 use Rattle.remerge_laws.specs.Repeat.{IsDefault}
 
--- The content `bytes` is the output of a merge. A command line with default options asked for the merge, and the contents of all files were
--- bytes. Nothing refused it, the records of its sources can be read again, and it had this one output.
+-- The content `bytes` is the output of a merge. A command line with default options asked for the merge, and the contents of all files were bytes.
+-- Nothing refused it, the records of its sources can be read again, and it had this one output.
 pub record IsMergeOutput (bytes : List ℕ) : Type 0 where
   pub world : List ℕ → Option (List ℕ)
   pub octets : HoldsOctets world
@@ -36,23 +36,23 @@ pub record IsMergeOutput (bytes : List ℕ) : Type 0 where
   pub records : HaveRecords sources
   pub written : map (λ (o : PlannedOutput). layout o.document) (outputs_of words sources) ≡ bytes ∷ []
 
--- A merge of the file `name` with this content, by itself and without options, isn't refused and has no warning. Its one output has the same
--- content.
+-- A merge of the file `name`, which has the content `bytes`, by itself, without options and to `out`, isn't refused and has no warning. Its one
+-- output has the same content. `world` has the content of each name.
 pub record IsWrittenAgain (world : List ℕ → Option (List ℕ)) (out name bytes : List ℕ) : Type 0 where
   pub sources : List Source
   pub taken : sources_of world (plain_merge out name) ≡ Ok sources
   pub outputs : map laid_out (outputs_of (plain_merge out name) sources) ≡ record { name = out; content = bytes } ∷ []
   pub done : (merge_verdict world (plain_merge out name)).status ≡ Done
 
--- `bytes` is the output of a merge with default options and keeps a reader's limits. A merge of the file `name` that has this content, without
--- options and to `out`, writes it again byte for byte. Nothing may refuse this merge before it reads the file.
+-- The content `bytes` is the output of a merge with default options and keeps a reader's limits. A merge of the file `name` that has this content,
+-- without options and to `out`, writes it again byte for byte. Nothing may refuse this merge before it reads the file.
 abbrev pub OutputsAreWrittenAgain : Type 0
 OutputsAreWrittenAgain =
     (world : List ℕ → Option (List ℕ)) (out name bytes : List ℕ) → CanBegin world (plain_merge out name) bytes → IsMergeOutput bytes → IsWithinLimits bytes
     → IsWrittenAgain world out name bytes
 
--- The output of a merge with default options, as it is after the merge, is the output of a merge: `after` are the contents that the merge
--- `words` of the command line `line` has left of the contents `world`.
+-- The content that a merge with default options left under its output's name is the output of a merge. `world` has the contents before it, `after`
+-- the contents after it, and `line` is the command line that asks for `words`.
 abbrev pub MergedFilesAreOutputs : Type 0
 MergedFilesAreOutputs =
     (world after : List ℕ → Option (List ℕ)) (line : List (List ℕ)) (words : MergeWords) (bytes : List ℕ)
@@ -61,15 +61,15 @@ MergedFilesAreOutputs =
 
 -- ---- a run
 
--- The statement `Stands` holds for a run that merges, without other files and options, a file that is the output of a merge. This file keeps a
--- reader's limits, and nothing refuses the merge before reading. The names are visible to the proof, and all contents are bytes.
+-- The statement `Stands` holds for a run of the command line `line` that merges the output of a merge by itself and without options. This file keeps
+-- a reader's limits, and nothing refuses the merge before reading. The names `old` are visible to the proof, and all contents are bytes.
 abbrev pub WhereMergedAgain : Names → List (List ℕ) → ((List ℕ → Option (List ℕ)) → List ℕ → List ℕ → Type 0) → Type 0
 WhereMergedAgain old line Stands =
     IfVisible old (λ world. HoldsOctets world → (out name bytes : List ℕ) → command line ≡ Ok (Merge (plain_merge out name)) → CanBegin world (plain_merge out name) bytes
     → IsMergeOutput bytes → IsWithinLimits bytes → Stands world out bytes)
 
--- A run that merges the output of a merge by itself isn't refused and has no warning. If it ends by itself, its output has the content of the
--- file, byte for byte, and no other name has changed.
+-- A run of the command line `line` that merges the output of a merge by itself isn't refused and has no warning. If it ends by itself, its output has
+-- the content of the file, byte for byte. No other name has changed from `old` to `new`.
 abbrev pub MergesAgain : Names → List (List ℕ) → Names → Status → Type 0
 MergesAgain old line new Done = WhereMergedAgain old line (λ world out bytes. new ≡ with_content (Some world) out bytes)
 MergesAgain old line new Warned = WhereMergedAgain old line (λ world out bytes. ⊥)

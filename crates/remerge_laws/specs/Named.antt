@@ -1,4 +1,4 @@
--- The Elements that targets of Tags name in an output: RFC 9559, section 5.1.8.1.1 (Targets Element). Their numbers are this project's.
+-- The Elements of an output that the Targets of its Tags name: RFC 9559, section 5.1.8.1.1 (Targets Element). Their numbers are this project's.
 use Rattle.std.specs.Prelude.{ℕ, ◌==◌, if◌then◌else◌, List, [], All, Contains}
 use Rattle.mkv_schema.specs.declared.ids.TheConstants.{TAG_TRACK_UID, TAG_EDITION_UID, TAG_CHAPTER_UID, TAG_ATTACHMENT_UID}
 use Rattle.tree_format.specs.Node.{Node, id_of}
@@ -11,7 +11,7 @@ use Rattle.merge_plan.specs.Identifiers.{Have64Bits, Identifiers, identifiers_of
 use Rattle.merge_plan.specs.Records.{records_of}
 use Rattle.remerge_laws.specs.Joined.{IsWrittenTag}
 
--- the identifiers of an output that targets with the ID `id` name
+-- the identifiers in `ids` of the kind that a child of Targets with the ID `id` names: tracks, editions, chapters or attached files
 abbrev pub named_by : Identifiers → ℕ → List ℕ
 named_by ids id =
     if id == TAG_TRACK_UID then ids.tracks else
@@ -19,15 +19,16 @@ named_by ids id =
     (if id == TAG_CHAPTER_UID then ids.chapters else
     (if id == TAG_ATTACHMENT_UID then ids.files else [])))
 
--- The target names one of the identifiers.
+-- The child `target` of a Targets names one of the identifiers `ids`.
 abbrev pub NamesOneOf : Identifiers → Node → Type 0
 NamesOneOf ids target = Contains (named_by ids (id_of target)) (integer_of target)
 
--- the Tags of a merge of inputs, in one Tags Element
+-- the Tags that a merge of the inputs `reads` writes, in one Tags Element
 abbrev pub tags_joined : List InputRead → Node
 tags_joined reads = joined_tags (numbers_of (records_of reads)) (records_of reads)
 
--- Each Tag was written from an input. Its targets name tracks, editions, chapters and attached files that the output has, also after reading.
+-- Each Tag that a merge of `reads` writes was written from an input. Its Targets name tracks, editions, chapters and attached files that the output
+-- has, also after it is read.
 pub record JoinedTagsNameTheOutput : Type 0 where
   pub written : (reads : List InputRead) → Have64Bits (identifiers_of reads) → All IsWrittenTag (tags_from (numbers_of (records_of reads)) (records_of reads))
   pub named : (reads : List InputRead) (place : ℕ) → Have64Bits (identifiers_of reads)

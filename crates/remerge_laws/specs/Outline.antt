@@ -23,7 +23,7 @@ pub record RecordsKeepLimits (d : Document) : Type 0 where
   pub chapters : IfSome d.chapters KeepsReaderLimits
   pub tags : IfSome d.tags KeepsReaderLimits
 
--- A reader with limits finds the outline of an output whose records keep them.
+-- A reader with limits finds the outline of an output whose records keep the limits, by its document `d`.
 abbrev pub OutlinesAreRead : Type 0
 OutlinesAreRead =
     (d : Document) → IsSoundDocument d → RecordsKeepLimits d → outline_of 0 (layout d) ≡ Ok (outline_of_document d (length (layout d)))

@@ -1,4 +1,4 @@
--- The Chapters of an output are written as they were: RFC 9559, section 5.1.7 (Chapters Element). This is this project's promise.
+-- Chapters of an output that are read and written again: RFC 9559, section 5.1.7 (Chapters Element). This is this project's promise.
 use Rattle.std.specs.Prelude.{◌≡◌}
 use Rattle.mkv_schema.specs.declared.ids.TheConstants.{CHAPTERS}
 use Rattle.tree_format.specs.Node.{Node, master, nodes_of, id_of, children}
@@ -7,7 +7,7 @@ use Rattle.record_changes.specs.Atoms.{chapter_uids, edition_uids}
 use Rattle.record_laws.specs.Chapters.{AreChapters, chapter_numbers, edition_numbers, settled}
 use Rattle.remerge_laws.specs.Placed.{StandsAs}
 
--- Chapters with the identifiers of a merge have them after writing and reading, and a merge writes their children as they were.
+-- Chapters that a merge gave identifiers have them after they are written and `read`, and a merge writes their children as they were.
 pub record OwnChaptersStay : Type 0 where
   pub editions : (chapters read : Node) → AreChapters chapters → StandsAs (settled chapters) read → edition_uids read ≡ edition_numbers chapters
   pub chapters : (chapters read : Node) → AreChapters chapters → StandsAs (settled chapters) read → chapter_uids read ≡ chapter_numbers chapters

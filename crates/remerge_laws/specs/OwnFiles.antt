@@ -1,4 +1,4 @@
--- The attached files of an output are written as they were: RFC 9559, section 5.1.6 (Attachments Element). This is this project's promise.
+-- Attached files of an output that are read and written again: RFC 9559, section 5.1.6 (Attachments Element). This is this project's promise.
 use Rattle.std.specs.Prelude.{◌≡◌, ◌<◌, ◌^◌, ℕ, List, [], ◌∷◌, map, All}
 use Rattle.std.specs.List.{AllZip}
 use Rattle.mkv_schema.specs.declared.ids.TheConstants.{FILE_UID}
@@ -13,21 +13,22 @@ use Rattle.record_changes.specs.Identifiers.{AreSettled, renumbered}
 use Rattle.meta_records.specs.Attached.{AttachedFile}
 use Rattle.remerge_laws.specs.Files.{IsFileOf}
 
--- The AttachedFile `n` was given a FileUID of 64 bits, which is its only one.
+-- The AttachedFile `n` has exactly one FileUID, of 64 bits, as a merge writes it.
 pub record IsNumbered (n : Node) : Type 0 where
   pub master : IsMaster n
   pub uid : ℕ
   pub small : uid < 2 ^ 64
   pub one : part FILE_UID (children n) ≡ uint_leaf FILE_UID uid ∷ []
 
--- the written attached files of a content with these FileUIDs, each with its data
+-- the AttachedFiles that are written for attached files of the content `bytes`, with the FileUIDs in the second list, each with its data
 abbrev pub written_files : List ℕ → List ℕ → List AttachedFile → List Node
 written_files bytes [] files = []
 written_files bytes (uid ∷ uids) [] = []
 written_files bytes (uid ∷ uids) (a ∷ files) =
     with_data (octets_from bytes a.at a.len) (set_in (uint_leaf FILE_UID uid) a.entry) ∷ written_files bytes uids files
 
--- AttachedFiles that were numbered and are read from a content keep their FileUIDs, and are written as they were.
+-- The AttachedFiles `ns`, which a merge has numbered, are read from the content `bytes` as `files`. They keep their FileUIDs and are written as they
+-- were.
 abbrev pub OwnFilesStay : Type 0
 OwnFilesStay =
     (bytes : List ℕ) (ns : List Node) (files : List AttachedFile) → AllZip (IsFileOf bytes) ns files → All IsNumbered ns

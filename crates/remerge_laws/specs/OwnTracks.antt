@@ -1,4 +1,4 @@
--- The tracks of an output are written as they were: RFC 9559, section 5.1.4 (Tracks Element). This is this project's promise.
+-- TrackEntries of an output that are read and written again: RFC 9559, section 5.1.4 (Tracks Element). This is this project's promise.
 use Rattle.std.specs.Prelude.{◌≡◌, ◌<◌, ◌^◌, List, map, All}
 use Rattle.mkv_schema.specs.declared.ids.TheConstants.{TRACKS}
 use Rattle.tree_format.specs.Node.{Node, master, nodes_of}
@@ -11,7 +11,7 @@ use Rattle.track_records.specs.Entry.{IsWholeEntry}
 use Rattle.record_laws.specs.Again.{AreNumbered, merged_again, written_entries}
 use Rattle.remerge_laws.specs.Records.{AreTracksOf}
 
--- Tracks that are read from a Tracks Element are written as they were. Its entries were numbered and renumbered and given anything else.
+-- The tracks `read` from the TrackEntries that a merge wrote are written as they were. The entries are `entries` with `changes`, which numbered them.
 abbrev pub OwnTracksStay : Type 0
 OwnTracksStay =
     (changes : List TrackChange) (entries : List Node) (read : List Track) → All IsWholeEntry entries → All (λ c. c.uid < 2 ^ 64) changes

@@ -1,22 +1,23 @@
--- Trees that are read after writing.
+-- Records that are read after they were written: each Element has its place in the file.
 use Rattle.std.specs.Prelude.{◌≡◌, ⊤, ℕ, false, Option, None, Some}
 use Rattle.tree_format.specs.Node.{Node}
 use Rattle.tree_format.specs.NormalForm.{is_filler}
 use Rattle.tree_format.specs.Standing.{placed}
 use Rattle.tree_format.specs.Values.{integer_in, text_in}
 
--- The tree `m` is `n` as it is read after writing at some place: without Elements that are left out, and each Element at its own place.
+-- The record `m` is `n` as it is read after it was written at some place. Elements that are left out are missing, and each other Element has its own
+-- place.
 abbrev pub StandsAs : Node → Node → Type 0
 StandsAs n m = (place : ℕ) × (m ≡ placed place n)
 
--- Both trees are absent, or the second is the first as it is read after writing.
+-- Both records are absent, or the second is the first as it is read after it was written.
 abbrev pub MayStandAs : Option Node → Option Node → Type 0
 MayStandAs None None = ⊤
 MayStandAs None (Some m) = ⊥
 MayStandAs (Some n) None = ⊥
 MayStandAs (Some n) (Some m) = StandsAs n m
 
--- A record has the same integers and texts after writing.
+-- A record has the same integers and texts after it was written and read.
 pub record RecordsSayTheSame : Type 0 where
   pub integers : (id : ℕ) (n m : Node) → is_filler id ≡ false → StandsAs n m → integer_in id m ≡ integer_in id n
   pub texts : (id : ℕ) (n m : Node) → is_filler id ≡ false → StandsAs n m → text_in id m ≡ text_in id n

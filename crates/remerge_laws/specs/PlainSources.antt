@@ -1,5 +1,5 @@
--- The sources of a merge are plain: RFC 9559, section 5.1.4 (Tracks Element), and RFC 8794, section 7.5 (UTF-8 Element). The default options are
--- this project's.
+-- The sources of a merge with default options: RFC 9559, section 5.1.4 (Tracks Element), and RFC 8794, section 7.5 (UTF-8 Element). The default
+-- options are this project's.
 use Rattle.std.specs.Prelude.{◌≡◌, ℕ, List, All, Option, Ok}
 use Rattle.std.specs.Str.{IsUtf8}
 use Rattle.requests.specs.declared.merge.MergeWords.{MergeWords}
@@ -10,7 +10,7 @@ use Rattle.mkv_merge.specs.Merge.{sources_of}
 use Rattle.merge_laws.specs.Sources.{HoldsOctets}
 use Rattle.remerge_laws.specs.Repeat.{ArePlainSources, IsDefault}
 
--- The sources that are read for a command line with default options are plain, if the contents of files are bytes.
+-- The sources that are read for a command line `line` with default options are plain, if the contents of files are bytes.
 abbrev pub SourcesArePlain : Type 0
 SourcesArePlain =
     (world : List ℕ → Option (List ℕ)) (line : List (List ℕ)) (words : MergeWords) (sources : List Source) → HoldsOctets world → All IsUtf8 line

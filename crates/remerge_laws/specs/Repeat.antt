@@ -1,4 +1,4 @@
--- An output that is merged by itself, without options, is written as it was: RFC 9559, section 5.1 (Segment Element). This is this project's
+-- An output that is merged by itself and without options is written as it was: RFC 9559, section 5.1 (Segment Element). This is this project's
 -- promise.
 use Rattle.std.specs.Prelude.{◌≡◌, ℕ, false, List, [], ◌∷◌, length, map, All, None, Ok}
 use Rattle.mkv_schema.specs.Outline.{outline_of}
@@ -26,7 +26,7 @@ use Rattle.remerge_laws.specs.Limits.{IsWithinLimits}
 use Rattle.remerge_laws.specs.Plain.{plain_merge}
 use Rattle.remerge_laws.specs.Whole.{whole_document}
 
--- The command line asks for no WebM, cue points, parts or identifiers, and for the default ticks and Clusters.
+-- The command line `words` asks for no WebM, cue points, parts or identifiers, and for the default ticks and Clusters.
 pub record IsDefault (words : MergeWords) : Type 0 where
   pub webm : words.webm ≡ false
   pub scale : words.scale ≡ 1000000
@@ -36,17 +36,17 @@ pub record IsDefault (words : MergeWords) : Type 0 where
   pub uuids : words.uuids ≡ []
   pub cues : All (λ (f : FileWords). f.cues ≡ []) words.files
 
--- The sources are plain: only their tracks' types decide on cue points, and the title has no zero byte.
+-- The sources of the merge `words` are plain: only the types of their tracks decide on cue points, and the title has no zero byte.
 pub record ArePlainSources (words : MergeWords) (sources : List Source) : Type 0 where
   pub cues : All (λ (t : TakenTrack). t.cues ≡ None) (tracks_taken (reads_of sources))
   pub title : HasNoZero (title_of words (reads_of sources))
 
--- an output as a source of a merge without options; the records `r` were read from it
+-- the output with the document `d` and the name `name`, as the source of a merge without options. `r` are the records that were read from it.
 abbrev pub source_again : List ℕ → Document → FileRecords → Source
 source_again name d r = (layout d, input_with (plain_file name) false (outline_of_document d (length (layout d))) r)
 
--- The outline of the output of `d` is read, with the records `r`, and each track can be used. Merged by itself and without options, the plan
--- isn't refused. It has one output, which is as it was, byte for byte, and no damage is met.
+-- The output with the document `d` is repeated by a merge of the file `name`, without options and to `out`. Its outline and its records `r` are read,
+-- and each track can be used. The plan isn't refused. It has one output, which is as it was, byte for byte, and no damage is met.
 pub record IsRepeated (out name : List ℕ) (d : Document) (r : FileRecords) : Type 0 where
   pub outline : outline_of 0 (layout d) ≡ Ok (outline_of_document d (length (layout d)))
   pub read : file_records (layout d) (header_of_segment d) ≡ Ok r
@@ -55,7 +55,7 @@ pub record IsRepeated (out name : List ℕ) (d : Document) (r : FileRecords) : T
   pub outputs : map laid_out (outputs_of (plain_merge out name) (source_again name d r ∷ [])) ≡ record { name = out; content = layout d } ∷ []
   pub undamaged : has_damage (plain_merge out name) (source_again name d r ∷ []) ≡ false
 
--- The output of a merge with default options and plain sources is repeated, if it keeps a reader's limits.
+-- The output of a merge `words` with default options and plain sources is repeated, if it keeps a reader's limits.
 abbrev pub OutputsAreRepeated : Type 0
 OutputsAreRepeated =
     (words : MergeWords) (sources : List Source) (out name : List ℕ) → IsDefault words → IsSoundMerge words → AreTexts words → AreSources words sources

@@ -1,4 +1,4 @@
--- The tracks that are read after writing: RFC 9559, section 5.1.4 (Tracks Element).
+-- Tracks that are written and read again: RFC 9559, section 5.1.4 (Tracks Element).
 use Rattle.std.specs.Prelude.{◌≡◌, ℕ, map, None, Ok}
 use Rattle.std.specs.List.{AllZip}
 use Rattle.tree_format.specs.Node.{Node}
@@ -9,7 +9,7 @@ use Rattle.track_records.specs.declared.track.Track.{Track}
 use Rattle.track_records.specs.Track.{track_of, tracks_of}
 use Rattle.remerge_laws.specs.Placed.{StandsAs}
 
--- The track `t` has the values of the TrackEntry `entry`, and has this entry as it is read after writing.
+-- The track `t` has the values of the TrackEntry `entry` that was written, and has this entry as it is read.
 pub record IsTrackOf (entry : Node) (t : Track) : Type 0 where
   pub number : t.number ≡ number_of entry
   pub uid : t.uid ≡ uid_of entry
@@ -19,7 +19,7 @@ pub record IsTrackOf (entry : Node) (t : Track) : Type 0 where
   pub duration : t.default_duration ≡ default_duration_of entry
   pub stands : StandsAs entry t.entry
 
--- A Tracks Element that nothing refuses isn't refused after writing, and its tracks belong to its entries.
+-- A Tracks Element that isn't refused isn't refused after it was written and read, and its tracks belong to its entries.
 pub record TracksAreRead : Type 0 where
   pub good : (tracks : Node) (place : ℕ) → refusal_of tracks ≡ None
       → tracks_of (placed place tracks) ≡ Ok (map track_of (entries_of (placed place tracks)))

@@ -1,4 +1,4 @@
--- Trees that are read with a reader's limits: RFC 8794, section 7.7 (Master Element). The limits are this project's.
+-- Masters that a reader with limits reads: RFC 8794, section 7.7 (Master Element). The limits are this project's.
 use Rattle.std.specs.Prelude.{◌≡◌, ◌≤◌, ℕ, List, Ok}
 use Rattle.tree_format.specs.Node.{Node, count, depth, deepest}
 use Rattle.tree_format.specs.NormalForm.{content}
@@ -7,12 +7,12 @@ use Rattle.tree_format.specs.Order.{tree_without_limits}
 use Rattle.tree_format.specs.Standing.{kept}
 use Rattle.output_model.specs.Sound.{IsRecord}
 
--- A tree that is read without limits is the same with limits, if it has at most the allowed number of Elements and isn't too deep.
+-- A master that is read without limits is the same with limits, if it has at most `nodes` Elements and isn't too deep.
 abbrev pub SmallTreesAreRead : Type 0
 SmallTreesAreRead =
     (id offset : ℕ) (body : List ℕ) (base nodes : ℕ) (n : Node) → tree_without_limits id offset body base ≡ Ok n
     → count n ≤ nodes → depth n ≤ deepest → tree_of id offset body base nodes ≡ Ok n
 
--- Two records with the same ID that are written alike have equally many written Elements.
+-- Two records with the same ID that are written alike have equally many Elements.
 abbrev pub AlikeRecordsCountAlike : Type 0
 AlikeRecordsCountAlike = (own : ℕ) (m n : Node) → IsRecord own m → IsRecord own n → content m ≡ content n → kept m ≡ kept n

@@ -1,5 +1,4 @@
--- The one document of a merge that isn't split, with planned records: RFC 9559, section 5.1 (Segment Element). The limits that they keep are this
--- project's.
+-- The one output of a merge that isn't split: RFC 9559, section 5.1 (Segment Element). The limits that its records keep are this project's.
 use Rattle.std.specs.Prelude.{◌≡◌, List, [], ◌∷◌, None}
 use Rattle.output_model.specs.Cued.{document_of}
 use Rattle.output_model.specs.Document.{Document}
@@ -11,7 +10,7 @@ use Rattle.merge_plan.specs.Refusal.{plan_refusal}
 use Rattle.mkv_merge.specs.Merge.{blocks_of, outputs_of}
 use Rattle.remerge_laws.specs.Limits.{RecordsAreSmall}
 
--- the document of sources if the output isn't split and gets no identifier: all blocks, with the unchanged Elements around them
+-- the document of a merge of `sources` that isn't split and whose output gets no identifier: all blocks, with the unchanged Elements around them
 abbrev pub whole_document : MergeWords → List Source → Document
 whole_document words sources =
     document_of (limits_of words) (rules_given (reads_of sources)) (front_of words sources) (chapters_of (reads_of sources)) (tags_of (reads_of sources))
@@ -23,7 +22,7 @@ WholeMergesHaveOneDocument =
     (words : MergeWords) (sources : List Source) → words.split ≡ None → words.uuids ≡ []
     → outputs_of words sources ≡ record { name = words.output; blocks = blocks_of words sources; document = whole_document words sources } ∷ []
 
--- If nothing refused the merge, its records keep the limits that a plan must keep.
+-- If a merge isn't refused, its records keep the limits that a plan must keep.
 abbrev pub WholeMergesHaveSmallRecords : Type 0
 WholeMergesHaveSmallRecords =
     (words : MergeWords) (sources : List Source) → plan_refusal words (reads_of sources) ≡ None → RecordsAreSmall (whole_document words sources)

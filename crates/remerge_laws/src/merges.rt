@@ -1,4 +1,4 @@
-//! Laws on the output of a merge that is merged again: RFC 9559, section 5.1 (Segment Element).
+//! Laws on the output of a merge that is merged again by itself: RFC 9559, section 5.1 (Segment Element).
 
 ghost use Rattle.remerge_laws.specs.Again.{TagsAreAlikeAgain};
 ghost use Rattle.remerge_laws.specs.AgainChapters.{ChaptersAreAlikeAgain};
@@ -18,66 +18,68 @@ use output_laws::lanes_are_read_again;
 use record_laws::{chapters_stay, tags_stay, tracks_stay};
 use word_laws::titles_are_texts;
 
-/// A merge that isn't split, and whose output gets no identifier, has one document.
+/// States that a merge that isn't split, and whose output gets no identifier, has one output with one document.
 pub fn whole_merges_have_one_document()
     ensures { WholeMergesHaveOneDocument }
 {}
 
-/// The records of that document keep a reader's limits if nothing refused the merge.
+/// States that the records of that document keep a reader's limits if the merge wasn't refused.
 pub fn whole_merges_have_small_records()
     ensures { WholeMergesHaveSmallRecords }
 {}
 
-/// The targets of the document's Tags name tracks, editions, chapters and attached files that the output has.
+/// States that the Targets in the Tags of a merge's output name tracks, editions, chapters and attached files that the
+/// output has.
 pub fn joined_tags_name_the_output()
     ensures { JoinedTagsNameTheOutput }
 {}
 
-/// Merged by itself, an output with the identifiers of the merge gets the Tags that it has.
+/// States that an output with the identifiers of its merge gets the same Tags if it is merged by itself.
 pub fn tags_are_alike_again()
     ensures { TagsAreAlikeAgain }
 {
     tags_stay();
 }
 
-/// Merged by itself, an output gets its own attached files.
+/// States that an output gets its own attached files if it is merged by itself.
 pub fn attached_files_stay()
     ensures { AttachedFilesStay }
 {}
 
-/// Merged by itself, an output gets the output tracks that were merged, and no damage is met in it.
+/// States that an output that is merged by itself gives the same blocks on each output track, and that no damage is met
+/// in it.
 pub fn lanes_are_merged_again()
     ensures { LanesAreMergedAgain }
 {
     lanes_are_read_again();
 }
 
-/// If an output is merged by itself, all its tracks are selected, and their options change nothing.
+/// States that all tracks of an output that is merged by itself are selected, and that their options change nothing.
 pub fn tracks_are_taken_again()
     ensures { TracksAreTakenAgain }
 {}
 
-/// If an output is merged by itself, the TrackEntries of its tracks are written as they were.
+/// States that the TrackEntries of an output are written as they were if it is merged by itself.
 pub fn entries_are_written_again()
     ensures { EntriesAreWrittenAgain }
 {
     tracks_stay();
 }
 
-/// Merged by itself, an output gets its own Chapters.
+/// States that an output gets its own Chapters if it is merged by itself.
 pub fn chapters_are_alike_again()
     ensures { ChaptersAreAlikeAgain }
 {
     chapters_stay();
 }
 
-/// Merged by itself, an output gets its own Info.
+/// States that an output gets its own Info if it is merged by itself.
 pub fn info_is_written_again()
     ensures { InfoIsWrittenAgain }
 {}
 
-/// The sources of a merge with default options are plain, if the contents of files are bytes. That is, only the types
-/// of their tracks decide on cue points, and the title has no zero byte.
+/// States that the sources of a merge with default options are plain, if the contents of files are bytes. Plain means
+/// that only the types of their tracks decide on cue points, and that the title has no zero byte.
 pub fn sources_are_plain()
     ensures { SourcesArePlain }
 {
@@ -85,8 +87,8 @@ pub fn sources_are_plain()
     sources_are_read();
 }
 
-/// An output of plain sources that keeps a reader's limits is written as it was, byte for byte, if it is merged by
-/// itself and without options. The plan isn't refused.
+/// States that an output of plain sources that keeps a reader's limits is written as it was, byte for byte. It is
+/// merged by itself and without options, and the plan isn't refused.
 pub fn outputs_are_repeated()
     ensures { OutputsAreRepeated }
 {
@@ -98,24 +100,26 @@ pub fn outputs_are_repeated()
     layouts_hold_outputs();
 }
 
-/// An output that is merged by itself and without options is the one source of that merge, if nothing refuses it.
+/// States that an output that is merged by itself and without options is the one source of that merge, if nothing
+/// refuses it.
 pub fn outputs_are_sources()
     ensures { OutputsAreSources }
 {}
 
-/// A merge without options of one source without damage ends without a warning.
+/// States that a merge without options of one source without damage ends without a warning.
 pub fn merge_is_done()
     ensures { MergeIsDone }
 {}
 
-/// The output of a merge with default options, as a run left it, is the output of a merge.
+/// States that the content that a run of a merge with default options left under its output's name is the output of a
+/// merge.
 pub fn merged_files_are_outputs()
     ensures { MergedFilesAreOutputs }
 {
     whole_merges_have_one_document();
 }
 
-/// Law: the output of a merge with default options is written again byte for byte if it is merged by itself and
+/// States that the output of a merge with default options is written again byte for byte if it is merged by itself and
 /// without options. Its records must keep a reader's limits, and nothing may refuse the second merge before it reads
 /// the file. `run` cites this law.
 pub fn outputs_are_written_again()

@@ -8,36 +8,37 @@ ghost use Rattle.remerge_laws.specs.OwnFiles.{OwnFilesStay};
 
 use record_laws::{chapters_stay, tags_stay};
 
-/// Chapters with other identifiers of 64 bits can be read again, and aren't deeper.
+/// States that Chapters whose identifiers are replaced by others of 64 bits can be read again, and aren't deeper.
 pub fn chapters_stand()
     ensures { ChaptersStand }
 {}
 
-/// Tags that are partly written, with other targets of 64 bits, can be read again, and aren't deeper.
+/// States that Tags that are partly written, with other Targets of 64 bits, can be read again, and aren't deeper.
 pub fn tags_stand()
     ensures { TagsStand }
 {}
 
-/// New Chapters with the same children get the same identifiers, and are written alike.
+/// States that Chapters that are rebuilt of the same children get the same identifiers, and are written alike.
 pub fn children_decide()
     ensures { ChildrenDecide }
 {}
 
-/// Tags of several inputs whose targets keep their identifiers are written as they were, like the Tags of one input.
+/// States that Tags of several inputs, in one Tags Element, are written as they were if their Targets keep their
+/// identifiers.
 pub fn joined_tags_stay()
     ensures { JoinedTagsStay }
 {
     tags_stay();
 }
 
-/// The Chapters that are read from an output keep their identifiers, and are written as they were.
+/// States that the Chapters that are read from an output keep their identifiers, and are written as they were.
 pub fn own_chapters_stay()
     ensures { OwnChaptersStay }
 {
     chapters_stay();
 }
 
-/// The attached files that are read from an output keep their FileUIDs, and are written as they were.
+/// States that the attached files that are read from an output keep their FileUIDs, and are written as they were.
 pub fn own_files_stay()
     ensures { OwnFilesStay }
 {}

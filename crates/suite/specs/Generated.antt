@@ -1,4 +1,4 @@
--- What a run of `generate` promises. It is this project's.
+-- The promise of a run of `generate`. It is this project's.
 use Rattle.std.specs.Prelude.{◌≡◌, ◌⊎◌, ℕ, List, Ok}
 use Rattle.mkv_io.specs.Names.{Names}
 use Rattle.mkv_io.specs.Told.{IfVisible}

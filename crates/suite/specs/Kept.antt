@@ -1,4 +1,4 @@
--- The content of a file that an edit or a new index keeps: RFC 9559, section 5.1 (Segment Element).
+-- The content of a file that `propedit` and `reindex` keep: RFC 9559, section 5.1 (Segment Element).
 use Rattle.std.specs.Prelude.{◌≡◌, ◌≤◌, ℕ, List, All, length, Ok}
 use Rattle.ebml_numbers.specs.Number.{AreOctets}
 use Rattle.mkv_schema.specs.Outline.{segment_run}
@@ -12,8 +12,8 @@ use Rattle.reindex.specs.Index.{indexable}
 use Rattle.reindex.specs.Plan.{Index, index_of}
 use Rattle.edit_laws.specs.IndexLaws.{HoldsIndex}
 
--- The content `old` could be edited, and `new` holds the same, except for the changes of `edits`. The second needs that `old` consists of bytes,
--- at most 2^48 of them, and has neither a Timestamp nor a block at level 1.
+-- The file `new` is the file `old` with `edits` made, and holds the rest of `old`. The second is promised if `old` consists of bytes, at most 2^48 of
+-- them, and has neither a Timestamp nor a block at level 1.
 pub record KeepsRest (edits : List Edit) (old new : List ℕ) : Type 0 where
   pub file : EditableFile
   pub trees : Trees
@@ -21,8 +21,8 @@ pub record KeepsRest (edits : List Edit) (old new : List ℕ) : Type 0 where
   pub changed : edited_trees edits file.trees ≡ Ok trees
   pub holds : AreOctets old → length old ≤ LONGEST_FILE → All IsOutside (segment_run old file.outline.segment).list → HoldsEdited old new file trees
 
--- The content `old` could be indexed, and `new` holds the same, with the points of the new index. The second needs that `old` consists of bytes,
--- at most 2^48 of them, and has neither a Timestamp nor a block at level 1.
+-- The file `new` is the file `old` with a new index, and holds the rest of `old`. The second is promised if `old` consists of bytes, at most 2^48 of
+-- them, and has neither a Timestamp nor a block at level 1.
 pub record HasNewIndex (old new : List ℕ) : Type 0 where
   pub file : EditableFile
   pub index : Index

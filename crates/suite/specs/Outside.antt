@@ -1,4 +1,4 @@
--- What can be seen of the files, the disk and the report before and after a run, as plain values. It is this project's.
+-- The state of the files, the disk and the report before or after a run, as plain values that a reader can compare. It is this project's.
 use Rattle.std.specs.Prelude.{◌+◌, ℕ, Bool, List, Option, Some, None, if◌then◌else◌}
 use Rattle.mkv_io.specs.Names.{Names}
 use Rattle.mkv_io.specs.Sources.{live_files}
@@ -20,38 +20,38 @@ pub record DiskSeen : Type 0 where
   -- the name of the file that was opened last, if one was
   pub opened : Option (List ℕ)
 
--- Numbers of bytes that were read so far.
+-- Counts of the bytes that were read since the program started, from the files and from the disk.
 pub record BytesRead : Type 0 where
   pub files : ℕ
   pub disk : ℕ
 
--- What can be seen of the files, the disk and the report.
+-- The state of the files, the disk and the report, at one moment.
 pub record Outside : Type 1 where
   -- the content under each name, if it is visible to the proof: files in memory are, real files aren't
   pub names : Names
-  -- whether a file number is open
+  -- true for the number of a file that is open
   pub live : ℕ → Bool
-  -- the names that were opened or created so far, in order
+  -- the names that were opened or created since the program started, in order
   pub asked : List Asked
-  -- the lines that were printed so far, if they are visible to the proof
+  -- the lines that were printed since the program started, if they are visible to the proof
   pub lines : ReportLines
-  -- how often the files and the report have failed
+  -- the failure counts of the files and the report
   pub faults : Counts
-  -- how many bytes were read of the files and of the disk
+  -- the counts of the bytes that were read from the files and from the disk
   pub read : BytesRead
-  -- whether the contents of the disk are visible to the proof
+  -- true if the contents of the disk are visible to the proof
   pub tells : Bool
-  -- whether the disk has a file of this name
+  -- true for a name that has a file on the disk
   pub is_there : List ℕ → Bool
   pub disk : DiskSeen
-  -- how often the disk has failed
+  -- the failure counts of the disk
   pub disk_faults : DiskFaults
   -- a number for the present moment, which never decreases
   pub moment : ℕ
-  -- whether a crash at some moment since an earlier one could have left these bytes of the file and of its journal
+  -- A crash at some moment since an earlier one could have left these bytes of the file and of its journal.
   pub left_since : ℕ → List ℕ → List ℕ → Type 0
 
--- what can be seen of these files, this disk and this report
+-- the state of the files `files`, the disk `disk` and the report `report`, as plain values
 abbrev pub outside : {F D R : Type 0} → ReadsGhosts F → FilesGhosts F → ReadsGhosts D → DiskGhosts D → ReportGhosts R → F → D → R → Outside
 outside r f s d p files disk report = record {
   names = f.names files;
@@ -68,17 +68,17 @@ outside r f s d p files disk report = record {
   left_since = d.left_since disk;
 }
 
--- the lines, the names and all counts of failures
+-- the lines, the names and all failure counts of the state `o`
 abbrev pub seen_of : Outside → RunSeen
 seen_of o = record {
   seen = record { counts = o.faults; lines = o.lines; names = o.names };
   disk = o.disk_faults;
 }
 
--- the contents of the disk, if they are visible to the proof
+-- the contents of the disk in the state `o`, if they are visible to the proof
 abbrev pub world_of : Outside → Option DiskWorld
 world_of o = if o.tells then Some record { is_there = o.is_there; media = o.disk.pair.media.reads; sidecar = o.disk.pair.sidecar.reads } else None
 
--- the number of bytes that were read of files and disk together
+-- the number of bytes that were read of files and disk together, up to the state `o`
 abbrev pub bytes_read : Outside → ℕ
 bytes_read o = o.read.files + o.read.disk

@@ -21,8 +21,8 @@ use std::io::ErrorKind;
 use std::process::ExitCode;
 use std::rt::Env;
 
-/// Returns the words of the command line, without the program's name. If a word isn't UTF-8, fails with `Refused`; if
-/// memory runs out, with `NoMemory`.
+/// Returns the words of the command line, in order and without the program's name, for `main`. If a word isn't UTF-8,
+/// fails with `Refused`; if memory runs out, with `NoMemory`.
 pub fn words_of<R: Env + AllocGlobal>(rt: &R) -> Result<Vec<String>, Status>
     ensures { IfErr result (λ status. (status ≡ Status.Refused) ⊎ (status ≡ Status.NoMemory)) }
 {
@@ -34,9 +34,9 @@ pub fn words_of<R: Env + AllocGlobal>(rt: &R) -> Result<Vec<String>, Status>
     args.skip(1).collect(rt.alloc()).or(Err(Status::NoMemory))
 }
 
-/// Does what `words` ask for, and returns the exit status of the program. If the words couldn't be read, does
-/// nothing, and returns the number of the status in their place. Requires that nothing on the disk is left to sync if
-/// the command edits or recovers a file in place.
+/// Does what `words` ask for, and returns the exit status of the program, for `main`. If the words couldn't be read,
+/// does nothing, and returns the number of the status in their place. Requires that nothing on the disk is left to sync
+/// if the command edits or recovers a file in place.
 pub fn program<F: Files, D: Disk, R: Report>(
     alloc: Global,
     words: &Result<Vec<String>, Status>,

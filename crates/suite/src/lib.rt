@@ -1,7 +1,7 @@
 #![tactic(auto)]
 
-//! The program as its users rely on it: a run, from its command line to its exit status, over any files, any disk and
-//! any report.
+//! The whole program, with the contract that its users rely on. It runs from a command line to an exit status, over any
+//! files, any disk for edits in place, and any report for its lines.
 
 mod exit;
 mod running;

@@ -1,4 +1,4 @@
-//! A run with the contract that users rely on.
+//! A run of the program, with the contract that its users rely on.
 
 ghost use Rattle.mkv_disk.specs.Calls.{AtRest};
 ghost use Rattle.word_values.specs.Place.{texts};
@@ -16,8 +16,8 @@ use mkv_run::run_command_line;
 use remerge_laws::outputs_are_written_again;
 use std::alloc::Global;
 
-/// Does what `words` ask for, and prints its messages. Requires that nothing on the disk is left to sync if the
-/// command edits or recovers a file in place.
+/// Does what `words`, the command line without the program's name, ask for, prints the messages, and returns the
+/// status. Requires that nothing on the disk is left to sync if the command edits or recovers a file in place.
 pub fn run<F: Files, D: Disk, R: Report>(
     alloc: Global,
     words: &Vec<String>,

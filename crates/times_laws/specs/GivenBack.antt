@@ -1,4 +1,4 @@
--- The timestamps that were extracted from a track, given back to it in a merge.
+-- The timestamps that `extract` writes for a track, given back to the track in a merge.
 use Rattle.std.specs.Prelude.{◌≡◌, ℕ, zero, suc, ◌==◌, Bool, true, false, not, List, [], ◌∷◌, ◌++◌, filter, map, slice_get, Option, Some, IfSome}
 use Rattle.std.specs.List.{list_any}
 use Rattle.ebml_numbers.specs.Number.{AreOctets}
@@ -19,26 +19,26 @@ use Rattle.mkv_extract.specs.Extract.{extract_verdict}
 use Rattle.mkv_merge.specs.Merge.{merge_verdict}
 use Rattle.mkv_merge.specs.Read.{first_written}
 
--- the contents of files, by their names
+-- the contents of files by their names; a name without a file has none
 abbrev pub World : Type 0
 World = List ℕ → Option (List ℕ)
 
 -- ---- the option
 
--- an input's part of the command line without timestamp files and the tracks that they name
+-- the options of an input without its timestamp files and the tracks that options name
 abbrev pub untold : FileWords → FileWords
 untold file = record file { times = []; named = [] }
 
--- the named tracks except `id`
+-- the tracks in `named`, except the track `id`
 abbrev pub others : ℕ → List ℕ → List ℕ
 others id named = filter (λ k. not (k == id)) named
 
--- one of the timestamp files `times` is for the track `id`
+-- One of the timestamp files `times` is for the track `id`.
 abbrev pub is_timed : ℕ → List (ℕ × List ℕ) → Bool
 is_timed id times = list_any (λ (pair : ℕ × List ℕ). pair.0 == id) times
 
--- `new` is `old` with `--timestamps ID:NAME` added among the options. Both name the same other timestamp files and the same other tracks; no
--- later file is for the same track.
+-- The options `new` of an input are `old` with `--timestamps ID:NAME` added, for the track `id` and the file `name`. Both have the same other
+-- timestamp files and name the same other tracks. No later file is for the same track.
 pub record HasOption (id : ℕ) (name : List ℕ) (new old : FileWords) : Type 0 where
   pub before : List (ℕ × List ℕ)
   pub behind : List (ℕ × List ℕ)
@@ -48,28 +48,28 @@ pub record HasOption (id : ℕ) (name : List ℕ) (new old : FileWords) : Type 0
   pub named : others id new.named ≡ others id old.named
   pub alike : untold new ≡ untold old
 
--- the inputs with `new` as the input with this number
+-- the inputs in the list with `new` in the place of the one with this number, from 0
 abbrev pub set_input : ℕ → FileWords → List FileWords → List FileWords
 set_input number new [] = []
 set_input zero new (file ∷ files) = new ∷ files
 set_input (suc number) new (file ∷ files) = file ∷ set_input number new files
 
--- the command line of a merge with `new` as the input number `number`
+-- the command line `words` of a merge with `new` as the options of the input number `number`, from 0
 abbrev pub with_input : ℕ → FileWords → MergeWords → MergeWords
 with_input number new words = record words { files = set_input number new words.files }
 
 -- ---- the file
 
--- the job of `extract FILE timestamps_v2 ID:OUT`
+-- the job of `extract FILE timestamps_v2 ID:OUT`, for the track `id` and the output `out`
 abbrev pub times_job : ℕ → List ℕ → Job
 times_job id out = Tracks Times (record { id = id; name = out } ∷ [])
 
--- `extract FILE timestamps_v2 ID:OUT`, for the track `id` of the file `file` in `world`, writes `content` to some output.
+-- `extract FILE timestamps_v2 ID:OUT`, for the file `file` in `world` and the track `id`, writes `content` to some output.
 abbrev pub WritesTimes : World → List ℕ → ℕ → List ℕ → Type 0
 WritesTimes world file id content = (out : List ℕ) × ((extract_verdict world file (times_job id out)).outputs ≡ at_once (output out content ∷ []))
 
--- The options `new` of an input give a track the timestamps of a file. That file holds the result of an extraction from the same track. The input
--- consists of bytes and hasn't changed since the extraction.
+-- The options `new` of an input of the merge `words` give a track the timestamps of a file. That file holds what was extracted from the same track in
+-- `before`. In `world` the input consists of bytes and hasn't changed since.
 pub record IsTakenOut (before world : World) (words : MergeWords) (n : TimesName) (new : FileWords) : Type 0 where
   pub input : FileWords
   pub content : List ℕ
@@ -80,26 +80,26 @@ pub record IsTakenOut (before world : World) (words : MergeWords) (n : TimesName
   pub written : WritesTimes before input.name n.id content
   pub holds : world n.name ≡ Some content
 
--- a timestamp file is refused because it is too long, by itself or together with the files before it
+-- The timestamp file is refused because it is too long, by itself or together with the files before it.
 abbrev pub is_too_long : TimesGiven → Bool
 is_too_long Missing = false
 is_too_long (Refused TooLarge) = true
 is_too_long (Refused (Bad line)) = false
 is_too_long (Read times) = false
 
--- the timestamp files that are too long
+-- the timestamp files of the inputs `files` that are too long, in the order of the command line
 abbrev pub too_long : World → List FileWords → List TimesName
 too_long world files = map (λ (f : TimesFile). f.named) (filter (λ (f : TimesFile). is_too_long f.given) (times_files world files))
 
--- The option adds no refusal by a name or a length. The first name of a file that is read which an output could have is the same, and so are the
--- timestamp files that are too long.
+-- The option in `new` adds no refusal by a name or a length to the merge `words`. The first output name that is also the name of a file that is read
+-- is the same. So are the timestamp files that are too long.
 pub record IsAllowed (world : World) (words : MergeWords) (n : TimesName) (new : FileWords) : Type 0 where
   pub name : first_written (with_input n.input new words) ≡ first_written words
   pub length : too_long world (with_input n.input new words).files ≡ too_long world words.files
 
 -- ---- the law
 
--- Timestamps that are given back change neither the status of a merge, nor its lines, nor its outputs.
+-- Timestamps that were extracted from a track and given back to it change neither the status, nor the lines, nor the outputs of a merge.
 abbrev pub TimesGivenBackChangeNothing : Type 0
 TimesGivenBackChangeNothing =
     (before world : World) (words : MergeWords) (n : TimesName) (new : FileWords) → IsTakenOut before world words n new → IsAllowed world words n new
