@@ -1,4 +1,4 @@
--- The chapter file of a merge, and its Chapters. The rule is this project's.
+-- The chapter file of a merge (`--chapters`), and its Chapters. The rule is this project's.
 use Rattle.std.specs.Prelude.{⊤, ℕ, List, length, Option, Some, None, Result, Ok, Err}
 use Rattle.mkv_schema.specs.declared.ids.TheConstants.{CHAPTERS}
 use Rattle.tree_format.specs.Node.{Node}
@@ -9,32 +9,32 @@ use Rattle.input_files.specs.declared.refusal.TextRefusal.{TextRefusal}
 use Rattle.input_files.specs.declared.chapter_file.ChapterFile.{ChapterFile}
 use Rattle.input_files.specs.declared.chapter_file.ChapterFile.TheVariants.{Absent, Missing, Refused, Read}
 
--- the result of a chapter file, given its meaning
+-- the result of reading a chapter file, given its Chapters or the refusal
 abbrev pub given_by : Result Node TextRefusal → ChapterFile
 given_by (Ok chapters) = Read chapters
 given_by (Err why) = Refused why
 
--- the result of a chapter file by its content, if it has one
+-- the result of reading a chapter file with this content; without a content the file is missing
 abbrev pub file_with : Option (List ℕ) → ChapterFile
 file_with None = Missing
 file_with (Some bytes) = given_by (chapter_text bytes)
 
--- the result of the merge's chapter file, if one is named, given the contents of names
+-- the result of reading the chapter file of a merge, if one is named; `world` has the content of each name
 abbrev pub chapter_file : (List ℕ → Option (List ℕ)) → Option (List ℕ) → ChapterFile
 chapter_file world None = Absent
 chapter_file world (Some name) = file_with (world name)
 
--- the number of bytes that are read of the file
+-- the number of bytes that are read of a chapter file with this content: all, or none if it is missing or too long
 abbrev pub octets_with : Option (List ℕ) → ℕ
 octets_with None = 0
 octets_with (Some bytes) = octets_within MAX_CHAPTERS_LEN (length bytes)
 
--- the number of bytes that are read of the chapter file, if the command line names one
+-- the number of bytes that are read of the chapter file of a merge, if one is named; `world` has the content of each name
 abbrev pub chapter_octets : (List ℕ → Option (List ℕ)) → Option (List ℕ) → ℕ
 chapter_octets world None = 0
 chapter_octets world (Some name) = octets_with (world name)
 
--- Chapters that were read can be written.
+-- If the chapter file was read, its Chapters can be written.
 abbrev pub CanBeWritten : ChapterFile → Type 0
 CanBeWritten (Read chapters) = IsRead CHAPTERS chapters
 CanBeWritten _ = ⊤

@@ -1,4 +1,4 @@
--- The input files of a merge, and their opening. The rule is this project's.
+-- The input files of a merge: how they are opened, and which of them is missing or has a pending edit. The rule is this project's.
 use Rattle.std.specs.Prelude.{◌≡◌, ◌≤◌, ⊤, ℕ, Bool, true, false, List, [], map, Option, Some, None, is_none, Result, Ok, Err}
 use Rattle.std.specs.List.{All, position_from}
 use Rattle.mkv_io.specs.declared.outside.FileId.{FileId}
@@ -17,23 +17,24 @@ use Rattle.input_files.specs.declared.inputs_end.InputsEnd.TheVariants as inputs
 use Rattle.mkv_io.specs.Told.{IfVisible}
 use Rattle.mkv_io.specs.Writing.{IfByNames}
 
--- the names of the inputs, in the order of the command line
+-- the names of the inputs `words`, in the order of the command line
 abbrev pub file_names : List FileWords → List (List ℕ)
 file_names words = map (λ (w : FileWords). w.name) words
 
--- the contents of the live files `ids`, as far as they are visible to the proof
+-- the contents of the open files `ids`, as far as `content`, which gives them by number, has them
 abbrev pub contents_of : (ℕ → Option (List ℕ)) → List FileId → List (Option (List ℕ))
 contents_of content ids = map (λ (f : FileId). content f.n) ids
 
 -- ---- files
 
--- The files `ids` are live, have increasing numbers, and were opened with the names `names`.
+-- In the state `files`, the files `ids` are open under the names `names`, in this order, and have increasing numbers.
 pub record AreInputs {S : Type 0} (r : Ghosts S) (f : writing.Ghosts S) (names : List (List ℕ)) (files : S) (ids : List FileId) : Type 0 where
   pub live : AreLive (live_files r files).live ids
   pub rising : AreRising ids
   pub under : holders_of (f.holder files) ids ≡ names
 
--- The files `ids` were opened with the names `names`, and have new numbers. Other files are live as before, and unchanged with their names.
+-- From the state `old` to `new`, the files `ids` were opened under the names `names`, and have new numbers. Other files are open as before, and
+-- unchanged with their names.
 pub record OpensInputs {S : Type 0} (r : Ghosts S) (f : writing.Ghosts S) (names : List (List ℕ)) (old new : S) (ids : List FileId) : Type 0 where
   pub inputs : AreInputs r f names new ids
   pub newer : All (λ (s : FileId). f.given old ≤ s.n) ids
@@ -43,7 +44,7 @@ pub record OpensInputs {S : Type 0} (r : Ghosts S) (f : writing.Ghosts S) (names
   pub others : KeepsFiles (live_files r old) (live_files r new) (λ file. (live_files r old).live file ≡ true)
   pub asks : AsksOnly names [] (f.asked old) (f.asked new)
 
--- No name's content changed, nothing was written, and no byte was read.
+-- From the state `old` to `new`, no name's content changed, nothing was written, and no byte was read.
 pub record LeavesContents {S : Type 0} (r : Ghosts S) (f : writing.Ghosts S) (old new : S) : Type 0 where
   pub names : f.names new ≡ f.names old
   pub writing : f.writing_faults new ≡ f.writing_faults old
@@ -51,37 +52,40 @@ pub record LeavesContents {S : Type 0} (r : Ghosts S) (f : writing.Ghosts S) (ol
 
 -- ---- refusals
 
--- the index of the first name without a content, if any
+-- the index, from 0, of the first of `names` that has no content in `world`, if any
 abbrev pub first_missing : (List ℕ → Option (List ℕ)) → List (List ℕ) → Option ℕ
 first_missing world names = position_from (λ name. is_none (world name)) 0 names
 
--- The result names the first input without a file, if any. A call may fail before it, or memory may run out.
+-- The result of opening files with the names `names` reports the first that has no content in `world`, if any. A call may fail before it, or memory
+-- may run out.
 abbrev pub TellsMissing : (List ℕ → Option (List ℕ)) → List (List ℕ) → Result (List FileId) InputsEnd → Type 0
 TellsMissing world names (Ok ids) = first_missing world names ≡ None
 TellsMissing world names (Err (inputs_end.Missing input)) = first_missing world names ≡ Some input
 TellsMissing world names (Err inputs_end.Failed) = ⊤
 TellsMissing world names (Err inputs_end.Memory) = ⊤
 
--- the failure to open the input `k`, counted from 0
+-- the error for the input with the index `k`, from 0, which couldn't be opened for this reason
 abbrev pub end_of : ℕ → OpenFault → InputsEnd
 end_of k open_fault.Missing = inputs_end.Missing k
 end_of k open_fault.Failed = inputs_end.Failed
 end_of k open_fault.Memory = inputs_end.Memory
 
--- the index of the first name with a pending edit, if any
+-- the index, from 0, of the first of `names` whose journal in `world` has a pending edit, if any
 abbrev pub first_pending : (List ℕ → Option (List ℕ)) → List (List ℕ) → Option ℕ
 first_pending world names = position_from (is_pending world) 0 names
 
--- The result is the first input with a pending edit, if names are visible to the proof.
+-- The result has the index of the first of the inputs `words` with a pending edit, if any. It is promised if the names are visible to the proof in
+-- the state `old`.
 abbrev pub FindsPending : {S E : Type 0} → writing.Ghosts S → List FileWords → S → Result (Option ℕ) E → Type 0
 FindsPending f words old result = IfByNames f old result (λ world first. first ≡ first_pending world (file_names words))
 
--- The failure is a failed system call.
+-- The inputs couldn't be opened because a call of the system failed.
 abbrev pub is_inputs_fault : InputsEnd → Bool
 is_inputs_fault (inputs_end.Missing input) = false
 is_inputs_fault inputs_end.Failed = true
 is_inputs_fault inputs_end.Memory = false
 
--- The files `ids` have the contents of the inputs' names, if names are visible to the proof.
+-- In the state `new`, the open files `ids` have the contents that the inputs' names had in `old`. It is promised if the names are visible to the
+-- proof.
 abbrev pub HaveContents : {S : Type 0} → Ghosts S → writing.Ghosts S → List FileWords → S → S → List FileId → Type 0
 HaveContents r f words old new ids = IfVisible (f.names old) (λ world. contents_of (live_files r new).content ids ≡ map world (file_names words))

@@ -1,4 +1,4 @@
--- Laws about input files, whatever is written to other names.
+-- Laws on the input files of a merge while other files are written.
 use Rattle.std.specs.Prelude.{ℕ, List, ◌++◌}
 use Rattle.std.specs.List.{All}
 use Rattle.mkv_io.specs.declared.outside.FileId.{FileId}
@@ -11,18 +11,19 @@ use Rattle.mkv_io.specs.declared.files.Files as writing
 use Rattle.mkv_outputs.specs.Sinks.{EndsOnly}
 use Rattle.input_files.specs.Inputs.{AreInputs, OpensInputs}
 
--- The input files have the same names after others were written, and each whose name wasn't written is unchanged.
+-- From the state `old` to `new`, files with the names `written` were written. The input files `ids` are still open under `names`, and each whose name
+-- wasn't written is unchanged.
 pub record StandsOver {S : Type 0} (r : Ghosts S) (f : writing.Ghosts S) (names written : List (List ℕ)) (old new : S) (ids : List FileId) : Type 0 where
   pub inputs : AreInputs r f names new ids
   pub same : All (λ (s : FileId). AreOthers (f.holder old s.n) written → IsSameFile (live_files r old) (live_files r new) s.n) ids
 
--- Writes to other names don't affect input files.
+-- Files that are open under `names` are unaffected by writes to other names: they stay open, and each whose name wasn't written is unchanged.
 abbrev pub AreUnaffectedByWrites : {S : Type 0} → Ghosts S → writing.Ghosts S → Type 0
 AreUnaffectedByWrites {S} r f = (names written : List (List ℕ)) (old new : S) (ids : List FileId)
     → AreInputs r f names old ids → KeepsOthers r f written old new → StandsOver r f names written old new ids
 
--- If input files were opened, other names used and written, and the input files closed, only these names and the inputs' were used. Only the
--- written ones changed.
+-- Input files were opened from the state `start` to `opened`, other names used and written until `done`, and the input files closed until `end`. Then
+-- only these names and the inputs' were used, and only the written ones changed.
 abbrev pub EndAsBegun : {S : Type 0} → Ghosts S → writing.Ghosts S → Type 0
 EndAsBegun {S} r f = (names uses written : List (List ℕ)) (start opened done end : S) (ids : List FileId)
     → OpensInputs r f names start opened ids → UsesOnly r f uses written opened done → EndsOnly r f done end ids

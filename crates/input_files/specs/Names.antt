@@ -6,10 +6,10 @@ use Rattle.std.specs.List.{ends_with, starts_with}
 abbrev pub is_srt_name : List ℕ → Bool
 is_srt_name name = ends_with nat_eq name (codes ".srt")
 
--- The file begins with the four bytes of an EBML header's ID.
+-- The content `bytes` begins with the four bytes of an EBML header's ID.
 abbrev pub begins_ebml : List ℕ → Bool
 begins_ebml bytes = starts_with nat_eq bytes (0x1A ∷ 0x45 ∷ 0xDF ∷ 0xA3 ∷ [])
 
--- The file is read as SubRip: its name ends in `.srt`, and it doesn't begin with an EBML header.
+-- The input with this name and this content is read as SubRip. The name ends in `.srt`, and the content doesn't begin with an EBML header.
 abbrev pub is_srt : List ℕ → List ℕ → Bool
 is_srt name bytes = is_srt_name name && not (begins_ebml bytes)

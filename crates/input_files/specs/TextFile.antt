@@ -12,49 +12,50 @@ use Rattle.input_files.specs.declared.refusal.TextFileEnd.TheVariants.{Refused, 
 use Rattle.input_files.specs.declared.refusal.TextRefusal.{TextRefusal}
 use Rattle.input_files.specs.declared.refusal.TextRefusal.TheVariants.{TooLarge, Bad}
 
--- ---- meaning of a file
+-- ---- content of a file
 
--- the result of a grammar, with its first bad line as the refusal
+-- the result of a grammar, with the number of its first bad line, from 1, as the refusal
 abbrev pub unless_bad : {A : Type 0} → Result A ℕ → Result A TextRefusal
 unless_bad (Ok x) = Ok x
 unless_bad (Err line) = Err (Bad line)
 
--- the meaning of a file of at most `most` bytes by a grammar, or its refusal
+-- the value of a text file with the content `bytes` by `grammar`, or the refusal; a file of more than `most` bytes is too large
 abbrev pub text_file : {A : Type 0} → ℕ → (List ℕ → Result A ℕ) → List ℕ → Result A TextRefusal
 text_file most grammar bytes = if nat_lt most (length bytes) then Err TooLarge else unless_bad (grammar bytes)
 
--- the entries of a SubRip file with the content `bytes`, or its refusal
+-- the entries of a SubRip file with the content `bytes`, or the refusal
 abbrev pub srt_text : List ℕ → Result (List Entry) TextRefusal
 srt_text bytes = text_file MAX_SRT_LEN srt bytes
 
--- the Chapters that a file of simple chapters describes, or its refusal
+-- the Chapters of a file of OGM simple chapters with the content `bytes`, or the refusal
 abbrev pub chapter_text : List ℕ → Result Node TextRefusal
 chapter_text bytes = text_file MAX_CHAPTERS_LEN simple_chapters bytes
 
 -- ---- results of a reader
 
--- A reader's result is right for `meant`: the same value or refusal, unless a read failed or memory ran out.
+-- A call that reads a text file has the result `meant`, the value or the refusal by the definitions. Nothing is promised if a read failed or memory
+-- ran out.
 abbrev pub ReadsText : {A : Type 0} → Result A TextRefusal → Result A TextFileEnd → Type 0
 ReadsText meant (Ok x) = meant ≡ Ok x
 ReadsText meant (Err (Refused why)) = meant ≡ Err why
 ReadsText meant (Err ReadFault) = ⊤
 ReadsText meant (Err Memory) = ⊤
 
--- the failure to read a file, from the failure to parse its bytes
+-- the error of reading a text file, given the error of parsing its bytes
 abbrev pub end_of : TextEnd → TextFileEnd
 end_of (text_end.Bad line) = Refused (Bad line)
 end_of text_end.Memory = Memory
 
--- Reading a text file ended with a failed read.
+-- Reading a text file ended because a read failed.
 abbrev pub is_text_fault : TextFileEnd → Bool
 is_text_fault (Refused why) = false
 is_text_fault ReadFault = true
 is_text_fault Memory = false
 
--- the number of bytes that are read of a file of `size` bytes: all, or none if it is too large
+-- the number of bytes that are read of a file of `size` bytes: all, or none if it has more than `most`
 abbrev pub octets_within : ℕ → ℕ → ℕ
 octets_within most size = if nat_lt most size then 0 else size
 
--- the end of reading a text file that is too large
+-- the error of reading a text file that is too large
 abbrev pub too_large : TextFileEnd
 too_large = Refused TooLarge

@@ -1,4 +1,4 @@
--- The text files of a merge other than its inputs: its chapter file and its timestamp files. Their use is this project's.
+-- The text files that the options of a merge name: its chapter file and its timestamp files. Their use is this project's.
 use Rattle.std.specs.Prelude.{ℕ, ◌+◌, List, ◌++◌, Option, ◌≡◌, Result}
 use Rattle.std.specs.Option.{option_to_list}
 use Rattle.requests.specs.declared.merge.FileWords.{FileWords}
@@ -10,22 +10,22 @@ use Rattle.mkv_io.specs.Writing.{IfByNames}
 use Rattle.mkv_io.specs.declared.reads.Reads.{Ghosts}
 use Rattle.mkv_io.specs.declared.files.Files as writing
 
--- the names of the chapter file and of the timestamp files
+-- the names of the chapter file, if any, and of the timestamp files of the inputs `words`
 abbrev pub text_names : Option (List ℕ) → List FileWords → List (List ℕ)
 text_names chapters words = option_to_list chapters ++ times_names (times_named words)
 
--- the results of the text files, given the contents of names
+-- the results of reading the text files of a merge; `world` has the content of each name
 abbrev pub text_files : (List ℕ → Option (List ℕ)) → Option (List ℕ) → List FileWords → TextFiles
 text_files world chapters words = record { chapters = chapter_file world chapters; times = times_files world words }
 
--- the number of bytes that are read of the text files
+-- the number of bytes that are read of the text files of a merge; `world` has the content of each name
 abbrev pub text_octets : (List ℕ → Option (List ℕ)) → Option (List ℕ) → List FileWords → ℕ
 text_octets world chapters words = chapter_octets world chapters + times_octets world words
 
--- The results of the text files are right, if names are visible to the proof.
+-- The result has the text files of a merge as the definitions give them. It is promised if the names are visible to the proof in the state `old`.
 abbrev pub GivesTexts : {S E : Type 0} → writing.Ghosts S → Option (List ℕ) → List FileWords → S → Result TextFiles E → Type 0
 GivesTexts f chapters words old result = IfByNames f old result (λ world texts. texts ≡ text_files world chapters words)
 
--- At most the bytes of the text files were read, if names are visible to the proof.
+-- From the state `old` to `new`, at most the bytes of the text files of a merge were read. It is promised if the names are visible to the proof.
 abbrev pub ReadsTexts : {S : Type 0} → Ghosts S → writing.Ghosts S → Option (List ℕ) → List FileWords → S → S → Type 0
 ReadsTexts r f chapters words old new = ReadsByNames r f old new (λ world. text_octets world chapters words)

@@ -1,4 +1,4 @@
--- The timestamp files of a merge's command line. Their limits are this project's.
+-- The timestamp files of a merge (`--timestamps ID:FILE`). Their limits are this project's.
 use Rattle.std.specs.Prelude.{ℕ, suc, ◌-◌, min, List, [], ◌∷◌, ◌++◌, length, map, sum_by, Option, Some, None, Result, Ok, Err}
 use Rattle.ext_times.specs.Listing.{Listing, listing}
 use Rattle.requests.specs.declared.merge.FileWords.{FileWords}
@@ -12,57 +12,57 @@ use Rattle.input_files.specs.declared.times_file.TimesName.{TimesName}
 
 -- ---- timestamp files
 
--- the timestamp file of a track of the input with the number `input`
+-- the timestamp file that an option names for the input with the index `input`; the pair has the track and the file's name
 abbrev pub named_of : ℕ → ℕ × List ℕ → TimesName
 named_of input pair = record { input = input; id = pair.0; name = pair.1 }
 
--- the timestamp files of inputs, with numbers from `input` on
+-- the timestamp files that inputs name, in their order; the first input has the index `input`
 abbrev pub named_from : ℕ → List FileWords → List TimesName
 named_from input [] = []
 named_from input (w ∷ ws) = map (named_of input) w.times ++ named_from (suc input) ws
 
--- the timestamp files of the command line, input after input
+-- the timestamp files that the inputs `words` name, in the order of the inputs
 abbrev pub times_named : List FileWords → List TimesName
 times_named words = named_from 0 words
 
--- the names of the timestamp files
+-- the names of the timestamp files `times`
 abbrev pub times_names : List TimesName → List (List ℕ)
 times_names times = map (λ (n : TimesName). n.name) times
 
 -- ---- results
 
--- the result of a timestamp file, given its times
+-- the result of reading a timestamp file, given its times or the refusal
 abbrev pub given_by : Result Listing TextRefusal → TimesGiven
 given_by (Ok times) = Read times
 given_by (Err why) = Refused why
 
--- the result of a timestamp file of at most `room` bytes by its content, if it has one
+-- the result of reading a timestamp file of at most `room` bytes with this content; without a content the file is missing
 abbrev pub given_with : ℕ → Option (List ℕ) → TimesGiven
 given_with room None = Missing
 given_with room (Some bytes) = given_by (text_file (min room MAX_TIMES_LEN) listing bytes)
 
--- the number of bytes of a content, or 0 if there is none
+-- the length of a content in bytes, or 0 if there is none
 abbrev pub size_with : Option (List ℕ) → ℕ
 size_with None = 0
 size_with (Some bytes) = length bytes
 
--- the results of timestamp files in sequence, of at most `room` bytes together
+-- the results of reading the listed timestamp files in sequence, of at most `room` bytes together; `world` has the content of each name
 abbrev pub times_from : (List ℕ → Option (List ℕ)) → ℕ → List TimesName → List TimesFile
 times_from world room [] = []
 times_from world room (n ∷ ns) =
     record { named = n; given = given_with room (world n.name) } ∷ times_from world (room - size_with (world n.name)) ns
 
--- the results of the command line's timestamp files, given the contents of names
+-- the results of reading the timestamp files that the inputs `words` name; `world` has the content of each name
 abbrev pub times_files : (List ℕ → Option (List ℕ)) → List FileWords → List TimesFile
 times_files world words = times_from world MAX_ALL_TIMES_LEN (times_named words)
 
 -- ---- bytes that are read
 
--- an upper bound on the bytes that are read of a timestamp file
+-- a limit on the bytes that are read of a timestamp file with this content
 abbrev pub octets_with : Option (List ℕ) → ℕ
 octets_with None = 0
 octets_with (Some bytes) = octets_within MAX_TIMES_LEN (length bytes)
 
--- an upper bound on the bytes that are read of all timestamp files
+-- a limit on the bytes that are read of all timestamp files that the inputs `words` name; `world` has the content of each name
 abbrev pub times_octets : (List ℕ → Option (List ℕ)) → List FileWords → ℕ
 times_octets world words = sum_by (λ (n : TimesName). octets_with (world n.name)) (times_named words)

@@ -1,4 +1,4 @@
-//! Chapter file of a merge, by its name
+//! The chapter file of a merge (`--chapters`)
 
 ghost use Rattle.std.specs.Prelude.{◌≡◌, ◌+◌, ◌≤◌, [], ◌∷◌, IfOk};
 ghost use Rattle.std.specs.Option.{option_to_list};
@@ -21,13 +21,13 @@ pub enum ChapterFile {
     Absent,
     /// No file has its name
     Missing,
-    /// Refused
+    /// The file is refused for its size or its grammar
     Refused(TextRefusal),
-    /// Its Chapters, with identifiers of 0
+    /// Its Chapters; every identifier is 0 until the merge gives one
     Read(Tree),
 }
 
-// Reads the chapter file `name`, unless it is missing or refused.
+// Opens the chapter file `name`, reads it whole and closes it. A missing or refused file is a result, not an error.
 fn read_named<F: Files>(alloc: Global, name: &str, files: &mut F) -> Result<ChapterFile, ReadEnd>
     ensures exact { IfVisible (F.names files.old) (λ world. IfOk result (λ given. given ≡ file_with (world name.now))) }
     ensures written { IfOk result CanBeWritten }
@@ -51,7 +51,8 @@ fn read_named<F: Files>(alloc: Global, name: &str, files: &mut F) -> Result<Chap
     }
 }
 
-/// Reads the chapter file of a merge, if one is named. A file that can't be opened or read is a `ReadFault`.
+/// Reads the chapter file that the command line of a merge names by `--chapters`, if any. It is closed again. A file
+/// that can't be opened or read is a `ReadFault`.
 pub fn read_chapter_file<F: Files>(
     alloc: Global,
     name: &Option<Text>,

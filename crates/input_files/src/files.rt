@@ -1,4 +1,4 @@
-//! Files that are opened in sequence, and closed
+//! Opening and closing of a merge's input files
 
 ghost use Rattle.std.specs.Prelude.{◌≡◌, IfOk, OnErr, []};
 ghost use Rattle.mkv_io.specs.Faults.{HasCause};
@@ -13,7 +13,8 @@ use mkv_io::{FileId, Files, List, OpenFault};
 use requests::FileWords;
 use std::alloc::Global;
 
-/// Opens the files of a merge's inputs, in the order of the command line. If it fails, none of them stays open.
+/// Opens the files of a merge's inputs `words`, in the order of the command line. If one fails, those before it are
+/// closed again.
 pub fn open_all<F: Files>(
     alloc: Global,
     words: &[FileWords],
@@ -41,7 +42,7 @@ pub fn open_all<F: Files>(
     Ok(List::from_vec(ids))
 }
 
-/// Returns the failure for the input `k`, counted from 0.
+/// Returns the error for the input with the index `k`, from 0, which couldn't be opened because of `fault`.
 fn end_of(fault: OpenFault, k: usize) -> InputsEnd
     ensures { result ≡ end_of k fault }
 {
@@ -52,7 +53,7 @@ fn end_of(fault: OpenFault, k: usize) -> InputsEnd
     }
 }
 
-/// Closes live files, whose numbers are increasing.
+/// Closes the open files `ids`, whose numbers are increasing, when a merge ends.
 pub fn close_all<F: Files>(files: &mut F, ids: &[FileId])
     requires live { AreLive (live_files F.Reads files.old).live ids.now }
     requires rising { AreRising ids.now }

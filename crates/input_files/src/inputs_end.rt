@@ -5,10 +5,10 @@ ghost use Rattle.input_files.specs.declared.inputs_end.InputsEnd.TheVariants as 
 
 use std::alloc::AllocError;
 
-/// Failure to open input files
+/// Failure to open the input files of a merge
 #[derive(Clone, Copy, Debug, PartialEq, Eq)]
 pub enum InputsEnd {
-    /// Number of the first input without a file, counted from 0
+    /// Index of the first input without a file, counted from 0
     Missing { input: usize },
     /// Failed system call
     Failed,

@@ -1,16 +1,16 @@
-//! Laws about input files, whatever is written to other files
+//! Laws on the input files of a merge while other files are written
 
 ghost use Rattle.input_files.specs.Laws.{EndAsBegun, AreUnaffectedByWrites};
 
 use mkv_io::Files;
 
-/// Input files stay open with their names and contents while files of other names are written.
+/// States that input files stay open with their names and contents while files of other names are written.
 pub fn inputs_stand_over_writes<F: Files>()
     ensures { AreUnaffectedByWrites F.Reads F.Files.own }
 {}
 
-/// After input files were opened, other files written, and the input files closed, the same files are live as before.
-/// Each file whose name wasn't written is unchanged.
+/// States that a merge leaves the open files as they were. If it opens input files, writes others, and closes the input
+/// files, the same files are open as before. Each file whose name wasn't written is unchanged.
 pub fn inputs_end_as_begun<F: Files>()
     ensures { EndAsBegun F.Reads F.Files.own }
 {}

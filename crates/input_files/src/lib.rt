@@ -1,8 +1,8 @@
 #![tactic(auto)]
 
-//! Input files of a merge, opened all or none, and closed together. It finds the first input with a pending edit. It
-//! reads text files whole: SubRip as a track and entries, simple chapters as Chapters, and timestamp files (RFC 9559,
-//! sections 5.1.4, Tracks, and 5.1.7, Chapters).
+//! The files that a merge reads. Its inputs are opened, all or none, and closed together, and the first with a pending
+//! edit is found. Text files are read whole: SubRip as a track and entries, simple chapters as Chapters, and timestamp
+//! files (RFC 9559, sections 5.1.4, Tracks, and 5.1.7, Chapters).
 
 mod chapter_file;
 mod files;

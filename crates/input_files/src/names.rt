@@ -1,12 +1,12 @@
-//! Files that are read as SubRip
+//! Recognition of the files that are read as SubRip
 
 ghost use Rattle.std.specs.Prelude.{◌≡◌};
 ghost use Rattle.input_files.specs.Names.{begins_ebml, is_srt_name};
 
-/// Element ID at the start of an EBML header (RFC 8794, section 11.2.1, EBML)
+/// First four bytes of an EBML header: its Element ID (RFC 8794, section 11.2.1, EBML)
 const EBML_ID: [u8; 4] = [0x1A, 0x45, 0xDF, 0xA3];
 
-/// Checks whether a name ends in `.srt`. A file with such a name is read as SubRip unless it begins with an EBML
+/// Checks whether the file name `name` ends in `.srt`. Such a file is read as SubRip unless it begins with an EBML
 /// header.
 pub fn is_srt_name(name: &str) -> bool
     ensures { result ≡ is_srt_name name.now }
@@ -14,7 +14,7 @@ pub fn is_srt_name(name: &str) -> bool
     name.as_bytes().ends_with(b".srt")
 }
 
-/// Checks whether a file's first bytes `first` begin with the four bytes of an EBML header's ID.
+/// Checks whether `first`, the first bytes of a file, begin with the ID of an EBML header.
 pub fn begins_ebml(first: &[u8]) -> bool
     ensures { result ≡ begins_ebml first.now }
 {

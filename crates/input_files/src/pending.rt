@@ -1,4 +1,4 @@
-//! Pending edits of inputs
+//! Search for an input of a merge with a pending edit
 
 ghost use Rattle.std.specs.Prelude.{◌*◌, length, map, IfOk};
 ghost use Rattle.mkv_io.specs.Bounds.{ReadsUpTo};
@@ -14,8 +14,8 @@ use requests::FileWords;
 use sidecar_edit::is_pending;
 use std::alloc::Global;
 
-/// Returns the number of the first input with a pending edit, if any, counted from 0 in the order of the command
-/// line.
+/// Returns the index, from 0 in the order of the command line, of the first of the inputs `words` whose journal has a
+/// pending edit. The merge then is refused. It reads only the heads of the journals.
 pub fn first_pending<F: Files>(
     alloc: Global,
     words: &[FileWords],

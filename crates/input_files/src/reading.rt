@@ -18,7 +18,8 @@ use mkv_io::{Bytes, FileId, List, Reads};
 use srt_chapters::{Entry, read_simple, read_srt};
 use std::alloc::Global;
 
-/// Reads all bytes of a file with at most `most` bytes.
+/// Reads the whole content of `file` by one call. A file of more than `most` bytes is refused as too large, and nothing
+/// is read.
 fn read_whole<R: Reads>(
     alloc: Global,
     src: &mut R,
@@ -45,8 +46,8 @@ fn read_whole<R: Reads>(
     Ok(Bytes::from_vec(octets))
 }
 
-/// Reads the entries of a SubRip file, sorted by start, or returns the refusal. It reads the file by one call, unless
-/// it is too large.
+/// Reads the entries of the SubRip file `file`, sorted by start, or returns the refusal. It reads the file by one call,
+/// unless the file is too large.
 pub fn read_entries<R: Reads>(
     alloc: Global,
     src: &mut R,
@@ -67,8 +68,8 @@ pub fn read_entries<R: Reads>(
     Ok(read_srt(alloc, octets.as_slice())?)
 }
 
-/// Reads the Chapters of a simple chapter file, with identifiers of 0, or returns the refusal. It reads the file by
-/// one call, unless it is too large.
+/// Reads the Chapters that `file`, a file of OGM simple chapters, describes, or returns the refusal. Every identifier
+/// is 0. It reads the file by one call, unless the file is too large.
 pub fn read_chapters<R: Reads>(
     alloc: Global,
     src: &mut R,
@@ -88,8 +89,8 @@ pub fn read_chapters<R: Reads>(
     Ok(read_simple(alloc, octets.as_slice())?)
 }
 
-/// Reads the frame times of a timestamp file with at most `most` bytes, or returns the refusal. It reads the file by
-/// one call, unless it is too large.
+/// Reads the frame times in the timestamp file `file`, of at most `most` bytes, or returns the refusal. It reads the
+/// file by one call, unless the file is too large.
 pub fn read_track_times<R: Reads>(
     alloc: Global,
     src: &mut R,

@@ -6,19 +6,19 @@ ghost use Rattle.input_files.specs.declared.refusal.TextFileEnd.TheVariants as f
 use std::alloc::AllocError;
 use text_formats::TextEnd;
 
-/// Refusal of a text file
+/// Reason to refuse a text file
 #[derive(Clone, Copy, Debug, PartialEq, Eq)]
 pub enum TextRefusal {
-    /// Too large for its kind
+    /// The file is longer than its kind may be
     TooLarge,
-    /// First line that breaks the file's grammar, counted from 1
+    /// Number of the first line that breaks the file's grammar, counted from 1
     Bad { line: u64 },
 }
 
 /// Failure to read a text file
 #[derive(Clone, Copy, Debug, PartialEq, Eq)]
 pub enum TextFileEnd {
-    /// Refused file
+    /// The file is refused
     Refused(TextRefusal),
     /// Failed read
     ReadFault,

@@ -1,4 +1,4 @@
-//! Text files of a merge other than its inputs
+//! The text files that the options of a merge name
 
 ghost use Rattle.std.specs.Prelude.{◌+◌, ◌≤◌, IfOk};
 ghost use Rattle.mkv_io.specs.Faults.{HasCause, is_read_fault};
@@ -13,16 +13,16 @@ use mkv_io::{Files, List, ReadEnd, Text};
 use requests::FileWords;
 use std::alloc::Global;
 
-/// Results of reading the text files of a merge other than its inputs
+/// Results of reading the text files that the options of a merge name
 #[derive(Drop)]
 pub struct TextFiles {
     pub chapters: ChapterFile,
-    /// Timestamp files, input after input
+    /// Timestamp files, in the order of the inputs
     pub times: List<TimesFile>,
 }
 
-/// Reads the chapter file of a merge, if one is named, and then its timestamp files. A file that can't be opened or
-/// read is a `ReadFault`.
+/// Reads the chapter file of a merge, if `chapters` names one, and then the timestamp files that its inputs `words`
+/// name. A file that can't be opened or read is a `ReadFault`.
 pub fn read_text_files<F: Files>(
     alloc: Global,
     chapters: &Option<Text>,

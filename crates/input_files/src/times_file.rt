@@ -1,4 +1,4 @@
-//! Timestamp files of a merge's command line, by their names
+//! The timestamp files of a merge (`--timestamps ID:FILE`)
 
 ghost use Rattle.std.specs.Prelude.{◌≡◌, ◌++◌, ◌+◌, ◌≤◌, [], ◌∷◌, map, IfOk, OnOk};
 ghost use Rattle.mkv_io.specs.Faults.{HasCause, is_read_fault};
@@ -16,12 +16,12 @@ use mkv_io::{Files, List, OpenFault, ReadEnd, Text};
 use requests::FileWords;
 use std::alloc::{AllocError, Global};
 
-/// Timestamp file of the command line
+/// Timestamp file that an option of an input names
 #[derive(Debug, Drop)]
 pub struct TimesName {
-    /// Number of its input, counted from 0 in the order of the command line
+    /// Index of its input, counted from 0 in the order of the command line
     pub input: usize,
-    /// Place of its track in Tracks, counted from 0
+    /// Index of its track in Tracks, counted from 0
     pub id: u64,
     pub name: Text,
 }
@@ -33,18 +33,18 @@ pub enum TimesGiven {
     Missing,
     /// Refused
     Refused(TextRefusal),
-    /// Times of frames
+    /// Times of frames, in nanoseconds
     Read(Times),
 }
 
-/// Timestamp file of the command line, with its result
+/// Timestamp file that an option names, and the result of reading it
 #[derive(Debug, Drop)]
 pub struct TimesFile {
     pub named: TimesName,
     pub given: TimesGiven,
 }
 
-// Appends the timestamp files of an input.
+// Appends to `named` the timestamp files of the input with the index `input`: `times` has a track and a name for each.
 fn add_named(
     input: usize,
     times: &[(u64, Text)],
@@ -62,7 +62,7 @@ fn add_named(
     Ok(())
 }
 
-/// Returns the timestamp files of the command line, input after input.
+/// Returns the timestamp files that the inputs `words` name, in the order of the inputs.
 pub fn times_named(alloc: Global, words: &[FileWords]) -> Result<List<TimesName>, AllocError>
     ensures { IfOk result (λ named. named ≡ times_named words.now) }
 {
@@ -73,14 +73,15 @@ pub fn times_named(alloc: Global, words: &[FileWords]) -> Result<List<TimesName>
     Ok(named)
 }
 
-/// Result of reading a timestamp file, and its size in bytes
+/// Result of reading a timestamp file, and the length of the file in bytes
 #[derive(Drop)]
 struct ReadTimes {
     given: TimesGiven,
     size: u64,
 }
 
-// Reads the timestamp file `name`, if it has at most `room` bytes.
+// Opens the timestamp file `name`, reads it whole and closes it, if it has at most `room` bytes. A missing or refused
+// file is a result, not an error.
 fn read_named<F: Files>(
     alloc: Global,
     name: &str,
@@ -114,8 +115,9 @@ fn read_named<F: Files>(
     Ok(ReadTimes { given, size })
 }
 
-/// Reads the timestamp files of the command line, input after input. Each is looked for and read, even if an earlier
-/// one is refused. A file that can't be opened or read is a `ReadFault`.
+/// Reads the timestamp files that the inputs `words` name, in the order of the inputs. Each is looked for and read,
+/// even if an earlier one is refused. Together they may have 64 MiB. A file that can't be opened or read is a
+/// `ReadFault`.
 pub fn read_times_files<F: Files>(
     alloc: Global,
     words: &[FileWords],

@@ -1,4 +1,4 @@
-//! Track of a text
+//! The track that a SubRip file has in a merge
 
 ghost use Rattle.std.specs.Prelude.{◌≡◌, [], ◌∷◌, All, IfOk};
 ghost use Rattle.track_records.specs.Entry.{IsWholeEntry};
@@ -15,7 +15,8 @@ use mkv_schema::track_type::SUBTITLE_TRACK;
 use std::alloc::{AllocError, Global};
 use track_records::{Track, read_tracks};
 
-/// Returns the TrackEntry that a SubRip file gets in an output.
+/// Returns the TrackEntry of a SubRip file: subtitles of unknown language, without lacing, with TrackUID 0 until the
+/// merge gives one.
 fn text_entry(alloc: Global) -> Result<Tree, AllocError>
     ensures exact { IfOk result (λ entry. entry ≡ text_entry) }
     ensures whole { IfOk result IsWholeEntry }
@@ -30,7 +31,7 @@ fn text_entry(alloc: Global) -> Result<Tree, AllocError>
     Ok(entry)
 }
 
-/// Returns the tracks of a text: one subtitle track, whose entry can be written.
+/// Returns the tracks of a SubRip file as a merge selects them: one subtitle track, whose entry can be written.
 pub fn text_tracks(alloc: Global) -> Result<List<Track>, AllocError>
     ensures exact { IfOk result (λ list. list ≡ track_of text_entry ∷ []) }
     ensures whole { IfOk result (All (λ track. IsWholeEntry track.entry)) }

@@ -1,4 +1,4 @@
--- Laws: a canonical command line is read back, and a title that is read is a text.
+-- Laws on command lines: a canonical one is read back, and a title that is read is a text.
 use Rattle.std.specs.Prelude.{◌≡◌, ℕ, List, [], ◌∷◌, codes, Some, None, IfSome, Ok}
 use Rattle.word_values.specs.Values.{text}
 use Rattle.requests.specs.Plain.{plain_file, plain_words}
@@ -11,16 +11,16 @@ use Rattle.word_laws.specs.Names.{IsInputName}
 use Rattle.word_laws.specs.Spelled.{spelled}
 use Rattle.word_laws.specs.Spellable.{IsSpellable}
 
--- A command that keeps its limits and has a canonical command line is read from it.
+-- The canonical command line of the command `c` is read as `c`, if `c` keeps its limits and has such a command line.
 abbrev pub SpelledIsRead : Type 0
 SpelledIsRead = (c : Command) → IsSound c → IsSpellable c → command (spelled c) ≡ Ok c
 
--- A title that the command line gives to a merge is a text without a zero byte.
+-- The title that a command line `line` gives to a merge is a text without a zero byte.
 abbrev pub TitlesAreTexts : Type 0
 TitlesAreTexts =
     (line : List (List ℕ)) (words : MergeWords) → command line ≡ Ok (Merge words) → IfSome words.title (λ (title : List ℕ). text title ≡ Some title)
 
--- `merge -o OUT ..` is read as `merge --output OUT ..`.
+-- `merge -o OUT ..` is read as `merge --output OUT ..`, for the output `output` and any arguments `rest` after it.
 abbrev pub ShortOutputIsRead : Type 0
 ShortOutputIsRead =
     (output : List ℕ) (rest : List (List ℕ))

@@ -1,12 +1,12 @@
--- Names of files that a command line can have.
+-- Names of files that a command line can give.
 use Rattle.std.specs.Prelude.{◌≡◌, ◌≢◌, ℕ, false, List, codes}
 use Rattle.word_values.specs.Place.{is_option}
 
--- `name` can be the name of a file that is read: it doesn't look like an option.
+-- The argument `name` can be the name of a file that is read: it doesn't look like an option.
 abbrev pub IsFileName : List ℕ → Type 0
 IsFileName name = is_option name ≡ false
 
--- `name` can be the file of `merge -J`, or an input of a merge, which isn't `+` either.
+-- The argument `name` can be the file of `merge -J`, or an input of a merge: it doesn't look like an option and isn't `+`.
 pub record IsInputName (name : List ℕ) : Type 0 where
   pub file : IsFileName name
   pub joins : name ≢ codes "+"

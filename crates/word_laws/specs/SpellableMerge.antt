@@ -1,4 +1,4 @@
--- The merges that have a canonical command line: within their limits, values that a command line can have.
+-- The merges that have a canonical command line: their values are ones that a command line can give.
 use Rattle.std.specs.Prelude.{◌≡◌, ◌⊎◌, ◌<◌, IfSome, ⊤, ℕ, ℤ, ◌-◌, ◌%◌, ◌^◌, ◌==◌, ◌||◌, nat_lt, nat_abs, All, length, Bool, true, false, List, [], ◌∷◌, map}
 use Rattle.std.specs.List.{flat_map}
 use Rattle.requests.specs.declared.track.Select.{Select}
@@ -15,11 +15,11 @@ use Rattle.word_laws.specs.Names.{IsInputName}
 use Rattle.mkv_io.specs.Octets.{lacks}
 use Rattle.word_laws.specs.Values.{HasFewDigits, is_in}
 
--- the tracks that an option names
+-- the tracks that an option names, in its order; it has a value for each
 abbrev pub tracks_spoken_of : {X : Type 0} → List (ℕ × X) → List ℕ
 tracks_spoken_of {X} list = map (λ (p : ℕ × X). p.0) list
 
--- the tracks that the options for a file name, in the canonical order, each once
+-- the tracks that the options for the file `f` name, in the order of the canonical command line, each once
 abbrev pub named_tracks : FileWords → List ℕ
 named_tracks f = once (flat_map (λ ids. ids) (
     ids_of_select f.video ∷ ids_of_select f.audio ∷ ids_of_select f.subtitles ∷ tracks_spoken_of f.syncs ∷ tracks_spoken_of f.names ∷ tracks_spoken_of f.languages ∷
@@ -27,41 +27,41 @@ named_tracks f = once (flat_map (λ ids. ids) (
     tracks_spoken_of f.flags.enabled ∷ tracks_spoken_of f.flags.hearing_impaired ∷ tracks_spoken_of f.flags.visual_impaired ∷
     tracks_spoken_of f.flags.text_descriptions ∷ tracks_spoken_of f.flags.original ∷ tracks_spoken_of f.flags.commentary ∷ tracks_spoken_of f.cues ∷ tracks_spoken_of f.times ∷ []))
 
--- `ids` names at least one track, with numbers of at most 18 digits.
+-- The track IDs `ids` can be given as a list with commas: there is at least one, each of at most 18 digits.
 pub record AreIds (ids : List ℕ) : Type 0 where
   pub some : 0 < length ids
   pub short : All HasFewDigits ids
 
--- The choice of tracks can be spelled: all, none, or some that are selected or left out.
+-- The selection of tracks can be given on a command line: all, none, or some that are selected or left out.
 abbrev pub IsSelect : Select → Type 0
 IsSelect select.All = ⊤
 IsSelect (select.These ids) = AreIds ids
 IsSelect (select.AllBut ids) = AreIds ids
 IsSelect select.Off = ⊤
 
--- The option names each track once.
+-- The option can be given for the tracks in `list`. Each has a number of at most 18 digits, occurs once, and has a value that satisfies `Is`.
 pub record AreOfTracks {X : Type 0} (Is : X → Type 0) (list : List (ℕ × X)) : Type 0 where
   pub apart : differ (tracks_spoken_of list) ≡ true
   pub short : All (λ (p : ℕ × X). HasFewDigits p.0) list
   pub each : All (λ (p : ℕ × X). Is p.1) list
 
--- The delay is whole milliseconds.
+-- The delay, in nanoseconds, is a whole number of milliseconds.
 abbrev pub IsDelay : ℤ → Type 0
 IsDelay delay = nat_abs delay % 1000000 ≡ 0
 
--- `text` has no zero byte.
+-- The text has no zero byte.
 abbrev pub IsText : List ℕ → Type 0
 IsText text = lacks 0 text ≡ true
 
--- The language has three lower-case letters.
+-- The language code has three lower-case letters.
 abbrev pub IsLanguage : List ℕ → Type 0
 IsLanguage word = is_language word ≡ true
 
--- The word is a language tag of letters, digits and hyphens.
+-- The language tag has letters, digits and hyphens only.
 abbrev pub IsLanguageTag : List ℕ → Type 0
 IsLanguageTag word = is_language_tag word ≡ true
 
--- The options for the file `f` can be spelled; the tracks that they name are in the canonical order.
+-- The options for the file `f` can be given on a command line; the tracks that they name are in the canonical order.
 pub record IsMergeFile (f : FileWords) : Type 0 where
   pub name : IsInputName f.name
   pub video : IsSelect f.video
@@ -83,11 +83,11 @@ pub record IsMergeFile (f : FileWords) : Type 0 where
   pub times : AreOfTracks (λ name. ⊤) f.times
   pub named : f.named ≡ named_tracks f
 
--- The number of bytes can be spelled: as it is, in a unit, or as the maximum.
+-- The number of bytes `limit` can be given on a command line: as it is, as a multiple of a unit, or as 2^64 - 1.
 abbrev pub is_size : ℕ → Bool
 is_size limit = nat_lt limit (10 ^ 12) || (is_in 1024 limit || (is_in 1048576 limit || (is_in 1073741824 limit || limit == 2 ^ 64 - 1)))
 
--- The split has at least one time, period or chapter, if it needs some.
+-- The split can be given on a command line: it has at least one time, period or chapter, if it needs some.
 abbrev pub IsSplit : SplitWords → Type 0
 IsSplit (split.Duration by) = ⊤
 IsSplit (split.Times at) = 0 < length at
@@ -96,16 +96,17 @@ IsSplit split.AllChapters = ⊤
 IsSplit (split.Chapters numbers) = AreIds numbers
 IsSplit (split.Size limit) = is_size limit ≡ true
 
--- Parts are linked only if they have identifiers.
+-- Parts may be linked, which needs their identifiers `uuids`, or aren't linked.
 abbrev pub IsLinkable : Bool → List ℕ → Type 0
 IsLinkable true uuids = 0 < length uuids
 IsLinkable false uuids = ⊤
 
--- At least one of both values is the default, since their option can be given only once.
+-- The limit of a Cluster can be given on a command line, in blocks or in nanoseconds. One of the two is the default, since the option can be given
+-- only once.
 abbrev pub IsLength : ℕ → ℕ → Type 0
 IsLength blocks span = (blocks ≡ 65535) ⊎ (span ≡ 5000000000)
 
--- The options for the output and the files can be spelled.
+-- The merge `words` has a canonical command line: its options for the output and the files can be given.
 pub record IsSpellableMerge (words : MergeWords) : Type 0 where
   pub title : IfSome words.title IsText
   pub length : IsLength words.blocks words.span

@@ -8,42 +8,42 @@ use Rattle.requests.specs.declared.merge.FileWords.{FileWords}
 use Rattle.requests.specs.declared.merge.MergeWords.{MergeWords}
 use Rattle.word_laws.specs.Values.{with_number, numbers_word, split_word, uuids_word, delay_word, flag_word, cues_word}
 
--- an option without a value, if it is given
+-- the option without a value as arguments, if it is given
 abbrev pub flag : List ℕ → Bool → List (List ℕ)
 flag option true = option ∷ []
 flag option false = []
 
--- an option with its value, if it is given
+-- the option and its value as arguments, if there is a value
 abbrev pub with_value : List ℕ → Option (List ℕ) → List (List ℕ)
 with_value option None = []
 with_value option (Some value) = option ∷ value ∷ []
 
--- the number, unless it is the default
+-- the number `n`, unless it is the default `usual`
 abbrev pub unusual : ℕ → ℕ → Option ℕ
 unusual usual n = if n == usual then None else Some n
 
--- the limit of a Cluster, in blocks or in milliseconds
+-- the value of `--cluster-length`, for a limit of `blocks` blocks and `span` nanoseconds; none if both are the default
 abbrev pub length_word : ℕ → ℕ → Option (List ℕ)
 length_word blocks span =
     if blocks == 65535 then option_map (λ t. decimal (t / 1000000) ++ codes "ms") (unusual 5000000000 span)
     else Some (decimal blocks)
 
--- the arguments that select tracks of one type
+-- the arguments for a selection of tracks of one type. `taken` is the option that names tracks, and `none` the option that excludes all.
 abbrev pub select_words : List ℕ → List ℕ → Select → List (List ℕ)
 select_words taken none select.All = []
 select_words taken none (select.These ids) = taken ∷ numbers_word ids ∷ []
 select_words taken none (select.AllBut ids) = taken ∷ (codes "!" ++ numbers_word ids) ∷ []
 select_words taken none select.Off = none ∷ []
 
--- the arguments of an option that is given for each track in a list
+-- the arguments of `option`, given once for each track in `list`; `word` gives the text of a value
 abbrev pub for_tracks : {X : Type 0} → List ℕ → (X → List ℕ) → List (ℕ × X) → List (List ℕ)
 for_tracks {X} option word list = flat_map (λ (p : ℕ × X). option ∷ with_number p.0 (word p.1) ∷ []) list
 
--- the parts in sequence
+-- the arguments of several options, in sequence
 abbrev pub parts_joined : List (List (List ℕ)) → List (List ℕ)
 parts_joined parts = flat_map (λ part. part) parts
 
--- the options for the whole output
+-- the arguments of each option for the whole output, in canonical order; none for a default
 abbrev pub output_options : MergeWords → List (List (List ℕ))
 output_options words =
     with_value (codes "--output") (Some words.output) ∷
@@ -57,7 +57,7 @@ output_options words =
     flag (codes "--link") words.link ∷
     flag (codes "--append-damaged") words.append_damaged ∷ []
 
--- the options for a file and for its tracks
+-- the arguments of each option for the file `file` and its tracks, in canonical order; none for a default
 abbrev pub file_options : FileWords → List (List (List ℕ))
 file_options file =
     select_words (codes "--video-tracks") (codes "--no-video") file.video ∷
@@ -83,10 +83,10 @@ file_options file =
     for_tracks (codes "--cues") cues_word file.cues ∷
     for_tracks (codes "--timestamps") (λ name. name) file.times ∷ []
 
--- a file, after a `+` if it is appended, and after the options for it
+-- the arguments for one input: `+` if it is appended, the options for it, and its name
 abbrev pub file_words : FileWords → List (List ℕ)
 file_words file = flag (codes "+") file.appended ++ (parts_joined (file_options file) ++ file.name ∷ [])
 
--- the arguments after `merge`
+-- the arguments of the merge `words` after `merge`
 abbrev pub merge_words : MergeWords → List (List ℕ)
 merge_words words = parts_joined (output_options words) ++ flat_map file_words words.files

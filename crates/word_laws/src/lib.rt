@@ -1,26 +1,26 @@
 #![tactic(auto)]
 
-//! Laws on command lines: the canonical command line of a command is read as that command, and a title that is read
-//! is a text. No code that reads or writes depends on this crate.
+//! Laws on command lines: the canonical command line of a command is read as that command, and a title that is read is
+//! a text. They are statements for a reader; no command calls them.
 
 ghost use Rattle.word_laws.specs.Laws.{PlainMergeIsRead, ShortOutputIsRead, SpelledIsRead, TitlesAreTexts};
 
-/// The canonical command line of a command is read as it.
+/// States that the canonical command line of a command, `spelled`, is read as that command.
 pub fn spelled_words_are_read()
     ensures { SpelledIsRead }
 {}
 
-/// A title that the command line gives to a merge has no zero byte.
+/// States that a title that the command line gives to a merge has no zero byte.
 pub fn titles_are_texts()
     ensures { TitlesAreTexts }
 {}
 
-/// `merge -o OUT ..` is read as `merge --output OUT ..`.
+/// States that `merge -o OUT ..` is read as `merge --output OUT ..`.
 pub fn short_output_is_read()
     ensures { ShortOutputIsRead }
 {}
 
-/// `merge -o OUT FILE` is read as a merge without options.
+/// States that `merge -o OUT FILE` is read as a merge of FILE to OUT without options.
 pub fn plain_merge_is_read()
     ensures { PlainMergeIsRead }
 {}

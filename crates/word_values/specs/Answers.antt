@@ -1,4 +1,4 @@
--- Relations of a function's result to the meaning of the command line. Running out of memory is possible at any time.
+-- Results of the code's parser, against the meaning of the command line by the definitions. Memory may run out at any time.
 use Rattle.std.specs.Prelude.{◌≡◌, ℕ, Option, Some, None, Result, Ok, Err}
 use Rattle.word_values.specs.declared.usage.Usage.{Usage}
 use Rattle.word_values.specs.declared.usage.Why.{Why}
@@ -7,33 +7,35 @@ use Rattle.word_values.specs.declared.usage.ArgsEnd.TheVariants as args_end
 use Rattle.word_values.specs.declared.usage.ValueEnd.{ValueEnd}
 use Rattle.word_values.specs.declared.usage.ValueEnd.TheVariants as value_end
 
--- The value is read exactly if the word has its form.
+-- A call read the value that the definitions give as `meant`: it succeeds exactly if the argument has its form. Out of memory, nothing is promised.
 abbrev pub ReadsValue : {X : Type 0} → Result X ValueEnd → Option X → Type 0
 ReadsValue (Ok x) meant = meant ≡ Some x
 ReadsValue (Err value_end.Bad) meant = meant ≡ None
 ReadsValue (Err value_end.Memory) meant = Unit {0}
 
--- The result, seen through `view`, is the meaning of the command line, or its first wrong argument with the reason.
+-- The result of parsing, seen through `view`, has the value that the definitions give as `meant`, or the same first wrong argument with its reason.
+-- Out of memory, nothing is promised.
 abbrev pub TellsOf : {X Y : Type 0} → (X → Y) → Result X ArgsEnd → Result Y Usage → Type 0
 TellsOf view (Ok x) meant = meant ≡ Ok (view x)
 TellsOf view (Err (args_end.Usage usage)) meant = meant ≡ Err usage
 TellsOf view (Err args_end.Memory) meant = Unit {0}
 
--- The result of parsing is the meaning `meant` of the command line, or its first wrong argument with the reason.
+-- The result of parsing has the value that the definitions give as `meant`, or the same first wrong argument with its reason. Out of memory, nothing
+-- is promised.
 abbrev pub Tells : {X : Type 0} → Result X ArgsEnd → Result X Usage → Type 0
 Tells {X} result meant = TellsOf (λ (x : X). x) result meant
 
--- the refusal of argument number `word`, as a meaning
+-- the refusal of the argument with the index `word`, from 0, by the definitions
 abbrev pub wrong : {X : Type 0} → ℕ → Why → Result X Usage
 wrong word why = Err (record { word = word; why = why })
 
--- the refusal of argument number `word`, as a result
+-- the refusal of the argument with the index `word`, from 0, as a result of the code
 abbrev pub refuses : {X : Type 0} → ℕ → Why → Result X ArgsEnd
 refuses word why = Err (args_end.Usage (record { word = word; why = why }))
 
 -- the next step, if nothing was wrong before
 infixl 10 ◌>>=◌
--- the next step `f` on a value, if nothing was wrong before
+-- the next step `f` of parsing with the value, or the refusal of a previous step
 abbrev pub ◌>>=◌ : {A B : Type 0} → Result A Usage → (A → Result B Usage) → Result B Usage
 (Ok x) >>= f = f x
 (Err e) >>= f = Err e

@@ -1,4 +1,4 @@
--- Values with commas between them, in this project's grammar.
+-- Values of options that are lists with commas, in this project's grammar.
 use Rattle.std.specs.Prelude.{ℕ, Bool, ◌&&◌, ◌==◌, nat_le, if◌then◌else◌, List, [], ◌∷◌, length, drop, slice_index, codes, Option, Some, None, option_map}
 use Rattle.std.specs.List.{slice_split}
 use Rattle.std.specs.Str.{bytes_eq}
@@ -14,39 +14,39 @@ use Rattle.word_values.specs.Numbers.{from, size, time, uuid}
 use Rattle.requests.specs.Decimal.{number}
 pub use Rattle.requests.specs.Lists.{ascend, ends_before, follow, differ}
 
--- the parts of an argument between its commas
+-- the items of the argument `word`, which its commas separate
 abbrev pub pieces : List ℕ → List (List ℕ)
 pieces word = slice_split (λ b. b == COMMA) word
 
--- the first value and the others, if all have the form
+-- the value of the first item before the values of the others, if all items have the form
 abbrev pub onto : {X : Type 0} → Option X → Option (List X) → Option (List X)
 onto None xs = None
 onto (Some x) None = None
 onto (Some x) (Some xs) = Some (x ∷ xs)
 
--- the values of all pieces, if all have the form
+-- the values of all items, which `read` reads, if all have the form
 abbrev pub each : {X : Type 0} → (List ℕ → Option X) → List (List ℕ) → Option (List X)
 each read [] = Some []
 each read (p ∷ ps) = onto (read p) (each read ps)
 
--- the value, if it passes the test
+-- the value, if there is one and it passes `test`
 abbrev pub passing : {X : Type 0} → (X → Bool) → Option X → Option X
 passing test None = None
 passing test (Some x) = if test x then Some x else None
 
--- the numbers in an argument, one or more, with commas between them
+-- the numbers in the argument `word`, one or more, with commas between them
 unfoldable pub numbers : List ℕ → Option (List ℕ)
 numbers word = each number (pieces word)
 
--- track IDs, or `!` and the IDs that are excluded
+-- the tracks that the argument `word` selects: track IDs with commas, or `!` and the IDs that are excluded
 unfoldable pub ids : List ℕ → Option Select
 ids word = if slice_index word 0 == char "!" then option_map AllBut (numbers (drop 1 word)) else option_map These (numbers word)
 
--- the times in an argument, each above the previous one
+-- the times in the argument `word`, in nanoseconds, each above the previous one
 unfoldable pub times : List ℕ → Option (List ℕ)
 times word = passing ascend (each time (pieces word))
 
--- the time span whose start and end are the two parts of an argument; an empty end means that there is none
+-- the period whose start and end are the two parts of an argument, both times; an empty end means that there is none
 abbrev pub span_of : List ℕ × List ℕ → Option SpanWords
 span_of (start, []) = option_map (λ s. record { start = s; end = None }) (time start)
 span_of (start, e ∷ es) = do
@@ -54,27 +54,27 @@ span_of (start, e ∷ es) = do
   t ← time (e ∷ es)
   Some (record { start = s; end = Some t })
 
--- the time span that the argument `a-b`, or `a-` without an end, gives
+-- the period that the argument `word` gives: `a-b`, or `a-` without an end
 unfoldable pub span : List ℕ → Option SpanWords
 span word = cut DASH word >>= span_of
 
--- time spans, none with a start before the end of the previous one
+-- the periods in the argument `word`; none begins before the end of the previous one
 unfoldable pub spans : List ℕ → Option (List SpanWords)
 spans word = passing (follow 0) (each span (pieces word))
 
--- the identifiers in an argument, 1 to 1024, all different
+-- the identifiers in the argument `word`, 1 to 1024, all different
 unfoldable pub uuids : List ℕ → Option (List ℕ)
 uuids word = passing (λ us. nat_le (length us) 1024 && differ us) (each uuid (pieces word))
 
--- the split into parts of the duration that an argument gives, above 0
+-- the split into parts of the duration that `word` gives, a time above 0
 unfoldable pub duration : List ℕ → Option SplitWords
 duration word = option_map Duration (from 1 (time word))
 
--- the split at all chapters (`all`), or at the chapters whose numbers an argument gives
+-- the split at all chapters if `word` is `all`, or at the chapters whose numbers it lists
 unfoldable pub chapters : List ℕ → Option SplitWords
 chapters word = if bytes_eq word (codes "all") then Some AllChapters else option_map Chapters (numbers word)
 
--- the split with this kind and the value `rest` after it
+-- the split that `--split` gives with the kind `kind` before the colon and the value `rest` after it
 unfoldable pub split_of : List ℕ → List ℕ → Option SplitWords
 split_of kind rest =
     if bytes_eq kind (codes "duration") then duration rest
@@ -84,6 +84,6 @@ split_of kind rest =
     else if bytes_eq kind (codes "size") then option_map Size (size rest)
     else None
 
--- the split that the value of `--split` gives
+-- the split that the value `word` of `--split` gives
 unfoldable pub split : List ℕ → Option SplitWords
 split word = cut COLON word >>= (λ p. split_of p.0 p.1)

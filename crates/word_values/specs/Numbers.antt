@@ -8,30 +8,30 @@ use Rattle.mkv_io.specs.Octets.{cut}
 use Rattle.mkv_io.specs.Optional.{◌>>=◌}
 pub use Rattle.requests.specs.Decimal.{below, whole, number}
 
--- the number, if it is at least `least`
+-- the number, if there is one and it is at least `least`
 abbrev pub from : ℕ → Option ℕ → Option ℕ
 from least None = None
 from least (Some n) = if nat_le least n then Some n else None
 
--- the size of a delay in nanoseconds, below 2^55, that an argument gives in milliseconds
+-- the size of a delay in nanoseconds, below 2^55, that `word` gives in milliseconds
 unfoldable pub delay_size : List ℕ → Option ℕ
 delay_size word = below (2 ^ 55) (option_map (λ n. n * 1000000) (number word))
 
--- the delay in nanoseconds that an argument gives in milliseconds, with or without `-`
+-- the delay in nanoseconds that `word` gives in milliseconds, with or without `-`
 unfoldable pub delay : List ℕ → Option ℤ
 delay word =
     if slice_index word 0 == DASH then option_map (λ n. neg_ℤ (pos n)) (delay_size (drop 1 word))
     else option_map pos (delay_size word)
 
--- the number of minutes or seconds in two digits, below 60
+-- the minutes or seconds of a time, two digits below 60
 unfoldable pub minutes_or_seconds : List ℕ → Option ℕ
 minutes_or_seconds word = if length word == 2 then below 60 (whole word) else None
 
--- the 1 to 9 digits after a point, in billionths
+-- the digits `word` after the point of a time, 1 to 9, in nanoseconds
 unfoldable pub fraction : List ℕ → Option ℕ
 fraction word = if nat_le (length word) 9 then option_map (λ n. n * 10 ^ (9 - length word)) (whole word) else None
 
--- SS, or SS.n, in nanoseconds
+-- the seconds of a time in nanoseconds. If the argument was split at a point, the pair has the parts before and after it. If not, `word` is SS.
 abbrev pub second_parts : List ℕ → Option (List ℕ × List ℕ) → Option ℕ
 second_parts word None = option_map (λ n. n * 1000000000) (minutes_or_seconds word)
 second_parts word (Some p) = do
@@ -39,11 +39,11 @@ second_parts word (Some p) = do
   f ← fraction p.1
   Some (n * 1000000000 + f)
 
--- the number of nanoseconds that the argument SS, or SS.n, gives
+-- the seconds of a time in nanoseconds: `word` is SS or SS.n
 unfoldable pub seconds : List ℕ → Option ℕ
 seconds word = second_parts word (cut POINT word)
 
--- H:MM:SS, or H:MM:SS.n, in nanoseconds
+-- the time `word`, H:MM:SS or H:MM:SS.n, in nanoseconds
 unfoldable pub clock : List ℕ → Option ℕ
 clock word = do
   h ← cut COLON word
@@ -61,20 +61,20 @@ ends word octet = nat_lt 0 (length word) && slice_index word (length word - 1) =
 abbrev pub front : List ℕ → List ℕ
 front word = take (length word - 1) word
 
--- H:MM:SS with or without a fraction, or digits followed by `s`; below 2^63 ns
+-- the time `word` in nanoseconds, below 2^63: H:MM:SS with or without a fraction, or digits followed by `s`
 unfoldable pub time : List ℕ → Option ℕ
 time word =
     below (2 ^ 63) (if ends word (char "s") then option_map (λ n. n * 1000000000) (whole (front word)) else clock word)
 
--- 1 to 12 digits, at least 1
+-- the number of a size: 1 to 12 digits, at least 1
 unfoldable pub amount : List ℕ → Option ℕ
 amount word = if nat_le (length word) 12 then from 1 (whole word) else None
 
--- the product with `unit`; a product above 2^64 - 1 is 2^64 - 1
+-- the product of the number and `unit`; a product above 2^64 - 1 is 2^64 - 1
 abbrev pub times_unit : ℕ → Option ℕ → Option ℕ
 times_unit unit = option_map (λ n. min (n * unit) (2 ^ 64 - 1))
 
--- an amount, or an amount followed by `k`, `m` or `g` for 1024, its square or its cube
+-- the size `word` in bytes: a number, or a number followed by `k`, `m` or `g` for 1024, its square or its cube
 unfoldable pub size : List ℕ → Option ℕ
 size word =
     if ends word (char "k") then times_unit 1024 (amount (front word))
@@ -82,10 +82,10 @@ size word =
     else if ends word (char "g") then times_unit 1073741824 (amount (front word))
     else amount word
 
--- `b` is a hexadecimal digit.
+-- The byte `b` is a hexadecimal digit.
 abbrev pub is_hex : ℕ → Bool
 is_hex b = is_digit b 16
 
--- the value of 32 hexadecimal digits, the highest first
+-- the identifier `word` as a number: 32 hexadecimal digits, the highest first
 unfoldable pub uuid : List ℕ → Option ℕ
 uuid word = if length word == 32 && list_all is_hex word then Some (digits_value 16 word) else None

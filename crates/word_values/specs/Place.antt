@@ -1,4 +1,4 @@
--- Command-line arguments by number, counted from 0, and the refusal of a missing or surplus one. The rule is this project's.
+-- Arguments of the command line by their index, counted from 0, and the refusal of a missing or surplus one. The rule is this project's.
 use Rattle.std.specs.Prelude.{ℕ, Bool, ◌&&◌, ◌==◌, nat_lt, nat_le, if◌then◌else◌, List, length, map, slice_get, slice_index, Option, Some, None, Result, Ok, ◌≡◌, ◌+◌, ◌∷◌, drop}
 use Rattle.std.specs.String.{string_bytes}
 use Rattle.std.specs.declared.string.String.{String}
@@ -8,33 +8,33 @@ use Rattle.word_values.specs.declared.usage.Why.TheVariants.{MissingValue, Extra
 use Rattle.mkv_io.specs.Characters.{DASH}
 use Rattle.word_values.specs.Answers.{wrong, ◌>>=◌}
 
--- the bytes of each argument
+-- the bytes of each argument of the code's command line
 abbrev pub texts : List (String Global) → List (List ℕ)
 texts words = map string_bytes words
 
--- `word` is the argument with number `at`, and the arguments from there on are `word` and those after it.
+-- The argument with the index `at`, counted from 0, is `word`: the arguments from there on are `word` and the ones after it.
 abbrev pub IsWordAt : List (List ℕ) → ℕ → List ℕ → Type 0
 IsWordAt words at word = drop at words ≡ word ∷ drop (at + 1) words
 
--- the argument, if it is present; if not, the refusal names the number of arguments
+-- the argument, if it is present; if not, the refusal, whose index is `count`, the number of arguments
 abbrev pub due : ℕ → Option (List ℕ) → Result (List ℕ) Usage
 due count None = wrong count MissingValue
 due count (Some word) = Ok word
 
--- the argument with number `at`, which must be present
+-- the argument with the index `at`, counted from 0, or the refusal if it is missing
 abbrev pub due_at : List (List ℕ) → ℕ → Result (List ℕ) Usage
 due_at words at = due (length words) (slice_get words at)
 
--- The argument has two or more characters and begins with `-`.
+-- The argument `word` looks like an option: it has two or more bytes and begins with `-`.
 abbrev pub is_option : List ℕ → Bool
 is_option word = nat_le 2 (length word) && slice_index word 0 == DASH
 
--- the argument with number `at`, the name of a file, which must not look like an option
+-- the argument with the index `at`, the name of a file that is read. It is refused if it is missing or looks like an option.
 abbrev pub file_at : List (List ℕ) → ℕ → Result (List ℕ) Usage
 file_at words at = do
   file ← due_at words at
   if is_option file then wrong at UnknownOption else Ok file
 
--- the refusal of an argument with number `at`, if there is one
+-- the refusal of an argument with the index `at`, after a complete command, if there is one
 abbrev pub end_at : List (List ℕ) → ℕ → Result (Unit {0}) Usage
 end_at words at = if nat_lt at (length words) then wrong at ExtraWord else Ok tt

@@ -1,10 +1,10 @@
--- Limits that every value of an option keeps.
+-- The limits that every value of an option keeps once it was read.
 use Rattle.std.specs.Prelude.{◌<◌, ⊤, ◌^◌, nat_abs}
 use Rattle.word_values.specs.declared.values.Value.{Value}
 use Rattle.word_values.specs.declared.values.Value.TheVariants.{Scale, Blocks, Span, Split, Uuids, TrackDelay}
 pub use Rattle.requests.specs.Sound.{IsWithin, AreTimes, IsSpan, AreSpans, AreUuids, IsSoundSplit}
 
--- A tick, a Cluster's blocks and duration, a delay, a split and the identifiers keep their limits.
+-- The value keeps its limits: nanoseconds per tick, a Cluster's blocks and duration, a delay, a split and identifiers have some.
 abbrev pub IsSoundValue : Value → Type 0
 IsSoundValue (Scale scale) = IsWithin 1000 10000000 scale
 IsSoundValue (Blocks blocks) = IsWithin 1 65535 blocks

@@ -18,13 +18,13 @@ use Rattle.requests.specs.Decimal.{below, number}
 use Rattle.requests.specs.Language.{is_language_tag}
 use Rattle.word_values.specs.Lists.{ids, split, uuids}
 
--- the value of an option that takes no argument; none if its form needs one
+-- the value of an option of this form that takes no argument; none if its form needs one
 abbrev pub flag_of : ValueForm → Option Value
 flag_of form.Flag = Some Flag
 flag_of form.Exclusion = Some (Tracks select.Off)
 flag_of _ = None
 
--- the text of an argument without a zero byte
+-- the text `word`, if it has no zero byte
 unfoldable pub text : List ℕ → Option (List ℕ)
 text word = if list_any (λ b. b == 0) word then None else Some word
 
@@ -32,55 +32,55 @@ text word = if list_any (λ b. b == 0) word then None else Some word
 abbrev pub is_language : List ℕ → Bool
 is_language word = length word == 3 && list_all is_ascii_lowercase word
 
--- the language code of three lower-case letters in an argument
+-- the language code `word`, if it has three lower-case letters
 unfoldable pub language : List ℕ → Option (List ℕ)
 language word = if is_language word then Some word else None
 
--- a language tag
+-- the language tag `word`, if it has the form of one
 unfoldable pub language_tag : List ℕ → Option (List ℕ)
 language_tag word = if is_language_tag word then Some word else None
 
--- 1000 to 10000000 nanoseconds in a tick
+-- the value `word` of `--timestamp-scale`: 1000 to 10000000 nanoseconds per tick
 unfoldable pub scale : List ℕ → Option Value
 scale word = option_map Scale (below 10000001 (from 1000 (number word)))
 
--- 100 to 32000 milliseconds followed by `ms`, or 1 to 65535 blocks
+-- the value `word` of `--cluster-length`: 100 to 32000 milliseconds followed by `ms`, or 1 to 65535 blocks
 unfoldable pub cluster_length : List ℕ → Option Value
 cluster_length word =
     if ends word (char "s") && ends (front word) (char "m")
     then option_map (λ n. Span (n * 1000000)) (below 32001 (from 100 (number (front (front word)))))
     else option_map Blocks (below 65536 (from 1 (number word)))
 
--- the number before the first `:`, and the part after it
+-- the argument `word` split at the first `:`: the track's number, and the part after it
 unfoldable pub track_and_rest : List ℕ → Option (ℕ × List ℕ)
 track_and_rest word = do
   p ← cut COLON word
   id ← number p.0
   Some (id, p.1)
 
--- the flag 0 or 1 of track `id`
+-- the flag of the track `id` that `word`, 0 or 1, gives
 abbrev pub flag_digit : ℕ → List ℕ → Option Value
 flag_digit id word =
     if bytes_eq word (codes "0") then Some (TrackFlag id false)
     else if bytes_eq word (codes "1") then Some (TrackFlag id true) else None
 
--- a track and 0 or 1, or only a track, which means 1
+-- the flag of a track: 0 or 1 after the track's number if the argument was split, or else only the number `word`, which means 1
 abbrev pub flag_in : List ℕ → Option (ℕ × List ℕ) → Option Value
 flag_in word None = option_map (λ id. TrackFlag id true) (number word)
 flag_in word (Some p) = flag_digit p.0 p.1
 
--- a track and 0 or 1, or only a track, as an option's value
+-- the value `word` of a track's flag: a track and 0 or 1, or only a track, which means 1
 unfoldable pub track_flag : List ℕ → Option Value
 track_flag word = flag_in word (track_and_rest word)
 
--- the selection of a track's blocks that get a cue point
+-- the rule for the blocks of a track that get a cue point, by the value `word` of `--cues` after the track
 unfoldable pub cue_word : List ℕ → Option CueWord
 cue_word word =
     if bytes_eq word (codes "none") then Some cue.Never
     else if bytes_eq word (codes "iframes") then Some cue.Key
     else if bytes_eq word (codes "all") then Some cue.All else None
 
--- the value of this form for track `id`, with `rest` after the track ID
+-- the value of this form for the track `id`; `rest` is the part of the argument after the track ID and `:`
 unfoldable pub track_value : ValueForm → ℕ → List ℕ → Option Value
 track_value form.TrackDelay id rest = option_map (λ t. TrackDelay id t) (delay rest)
 track_value form.TrackText id rest = option_map (λ t. TrackText id t) (text rest)
@@ -90,7 +90,7 @@ track_value form.TrackCues id rest = option_map (λ t. TrackCues id t) (cue_word
 track_value form.TrackFile id rest = Some (TrackFile id rest)
 track_value _ id rest = None
 
--- the value of this form in `word`
+-- the value of this form that the argument `word` gives
 unfoldable pub value_of : ValueForm → List ℕ → Option Value
 value_of form.Flag word = None
 value_of form.Exclusion word = None

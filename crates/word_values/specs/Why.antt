@@ -1,4 +1,4 @@
--- The names of the reasons, as a message has them. They are this project's.
+-- The names of the reasons to refuse an argument, as messages print them. They are this project's.
 use Rattle.std.specs.Prelude.{ℕ, List, codes}
 use Rattle.word_values.specs.declared.usage.Why.{Why}
 use Rattle.word_values.specs.declared.usage.Why.TheVariants.{NoCommand, UnknownCommand, UnknownOption, MissingValue, BadValue, RepeatedOption, ExtraWord, NoOutput, NoInput, DanglingOption, AppendFirst, RepeatedOutput, TooManyInputs, NeedsUuids}

@@ -1,6 +1,7 @@
 #![tactic(auto)]
 
-//! Command-line arguments by number, values of options by their form, and reasons to refuse an argument.
+//! Parts of the parser of the command line: arguments by their index, values of options by their form, and reasons to
+//! refuse an argument.
 
 mod lists;
 mod numbers;

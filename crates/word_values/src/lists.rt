@@ -1,4 +1,4 @@
-//! Values that are lists with commas.
+//! Values of options that are lists with commas, such as track IDs and times.
 
 ghost use Rattle.std.specs.Prelude.{◌≡◌, ℕ, List, Option};
 ghost use Rattle.word_values.specs.Answers.{ReadsValue};
@@ -12,17 +12,17 @@ use mkv_io::List;
 use requests::{Select, SpanWords, SplitWords, number};
 use std::alloc::Global;
 
-/// Greatest number of identifiers for the parts of an output.
+/// Greatest number of identifiers that `--segment-uid` may give for the parts of an output.
 const MAX_UUIDS: usize = 1024;
 
-/// Form of the pieces of a list.
+/// Form of the items of a list with commas.
 trait Piece {
-    /// Value of a piece of this form.
+    /// Value of an item of this form.
     type Value: Drop;
 
     ghost spelled: { List ℕ → Option Self.Value };
 
-    /// Returns the value of `word`, if it has this form.
+    /// Returns the value of the item `word`, if it has this form.
     fn read(word: &[u8]) -> Option<Self::Value>
         ensures { result ≡ spelled word.now };
 }
@@ -34,7 +34,7 @@ impl Piece for NumberPiece {
 
     ghost spelled = { numbers.number };
 
-    /// Reads a number.
+    /// Reads an item that is a decimal number.
     fn read(word: &[u8]) -> Option<u64> {
         number(word)
     }
@@ -47,7 +47,7 @@ impl Piece for TimePiece {
 
     ghost spelled = { numbers.time };
 
-    /// Reads a time in nanoseconds.
+    /// Reads an item that is a time, as nanoseconds.
     fn read(word: &[u8]) -> Option<u64> {
         time(word)
     }
@@ -60,7 +60,7 @@ impl Piece for UuidPiece {
 
     ghost spelled = { numbers.uuid };
 
-    /// Reads an identifier of 32 hexadecimal digits.
+    /// Reads an item that is an identifier of 32 hexadecimal digits.
     fn read(word: &[u8]) -> Option<u128> {
         uuid(word)
     }
@@ -73,13 +73,14 @@ impl Piece for SpanPiece {
 
     ghost spelled = { spec.span };
 
-    /// Reads a time span.
+    /// Reads an item that is a period, `a-b` or `a-`.
     fn read(word: &[u8]) -> Option<SpanWords> {
         span(word)
     }
 }
 
-/// Reads the pieces of `word`, at least one.
+/// Reads the items of `word` that its commas separate, at least one. Fails with `Bad` if one of them doesn't have the
+/// form.
 fn list_of<P: Piece>(alloc: Global, word: &[u8]) -> Result<List<P::Value>, ValueEnd>
     ensures { ReadsValue result (each P.spelled (pieces word.now)) }
 {
@@ -99,7 +100,7 @@ fn list_of<P: Piece>(alloc: Global, word: &[u8]) -> Result<List<P::Value>, Value
     Ok(list)
 }
 
-/// Reads a list of one or more numbers with commas between them.
+/// Reads a list of decimal numbers with commas between them, at least one.
 #[tactic(auto, unfolding(crate::specs::Lists::numbers))]
 pub(crate) fn numbers(alloc: Global, word: &[u8]) -> Result<List<u64>, ValueEnd>
     ensures { ReadsValue result (spec.numbers word.now) }
@@ -107,7 +108,7 @@ pub(crate) fn numbers(alloc: Global, word: &[u8]) -> Result<List<u64>, ValueEnd>
     list_of::<NumberPiece>(alloc, word)
 }
 
-/// Reads track IDs, or `!` and the IDs that are excluded.
+/// Reads the value of `--video-tracks` and its like: track IDs with commas, or `!` and the IDs that are excluded.
 #[tactic(auto, unfolding(crate::specs::Lists::ids))]
 pub(crate) fn ids(alloc: Global, word: &[u8]) -> Result<Select, ValueEnd>
     ensures { ReadsValue result (spec.ids word.now) }
@@ -122,7 +123,7 @@ pub(crate) fn ids(alloc: Global, word: &[u8]) -> Result<Select, ValueEnd>
     }
 }
 
-/// Reads times, at least one, each above the previous one.
+/// Reads times with commas between them, at least one, as nanoseconds. Each must be above the previous one.
 #[tactic(auto, unfolding(crate::specs::Lists::times))]
 fn times(alloc: Global, word: &[u8]) -> Result<List<u64>, ValueEnd>
     ensures { ReadsValue result (spec.times word.now) }
@@ -135,7 +136,7 @@ fn times(alloc: Global, word: &[u8]) -> Result<List<u64>, ValueEnd>
     }
 }
 
-/// Checks whether each time is above the previous one.
+/// Checks whether each of `times` is above the previous one.
 fn ascend(times: &[u64]) -> bool
     ensures { result ≡ spec.ascend times.now }
 {
@@ -147,7 +148,7 @@ fn ascend(times: &[u64]) -> bool
     true
 }
 
-/// Reads time spans, at least one. No span begins before the end of the previous one.
+/// Reads periods with commas between them, at least one. No period may begin before the end of the previous one.
 #[tactic(auto, unfolding(crate::specs::Lists::spans))]
 fn spans(alloc: Global, word: &[u8]) -> Result<List<SpanWords>, ValueEnd>
     ensures { ReadsValue result (spec.spans word.now) }
@@ -160,7 +161,7 @@ fn spans(alloc: Global, word: &[u8]) -> Result<List<SpanWords>, ValueEnd>
     }
 }
 
-/// Reads `a-b`, or `a-` for a time span without end.
+/// Reads the period `a-b`, or `a-` for one without an end; both are times.
 #[tactic(auto, unfolding(crate::specs::Lists::span))]
 fn span(word: &[u8]) -> Option<SpanWords>
     ensures { result ≡ spec.span word.now }
@@ -177,8 +178,8 @@ fn span(word: &[u8]) -> Option<SpanWords>
     })
 }
 
-/// Checks whether each span begins before its end and not before the end of the previous span. Only the last may have
-/// no end.
+/// Checks whether each of `spans` begins before its end and not before the end of the previous one. Only the last may
+/// have no end.
 fn follow(spans: &[SpanWords]) -> bool
     ensures { result ≡ spec.follow 0 spans.now }
 {
@@ -200,7 +201,7 @@ fn follow(spans: &[SpanWords]) -> bool
     true
 }
 
-/// Reads identifiers, 1 to 1024, all different.
+/// Reads the value of `--segment-uid`: identifiers with commas between them, 1 to 1024, all different.
 #[tactic(auto, unfolding(crate::specs::Lists::uuids))]
 pub(crate) fn uuids(alloc: Global, word: &[u8]) -> Result<List<u128>, ValueEnd>
     ensures { ReadsValue result (spec.uuids word.now) }
@@ -213,7 +214,7 @@ pub(crate) fn uuids(alloc: Global, word: &[u8]) -> Result<List<u128>, ValueEnd>
     }
 }
 
-/// Checks whether no number occurs twice.
+/// Checks whether all of `numbers` are different.
 fn differ(numbers: &[u128]) -> bool
     ensures { result ≡ spec.differ numbers.now }
 {
@@ -225,7 +226,8 @@ fn differ(numbers: &[u128]) -> bool
     true
 }
 
-/// Reads the value of `--split`: `duration:`, `timestamps:`, `chapters:`, `parts:` or `size:`, and their values.
+/// Reads the value of `--split`: `duration:`, `timestamps:`, `chapters:`, `parts:` or `size:`, followed by its own
+/// value.
 #[tactic(auto, unfolding(crate::specs::Lists::split, crate::specs::Lists::split_of))]
 pub(crate) fn split(alloc: Global, word: &str) -> Result<SplitWords, ValueEnd>
     ensures { ReadsValue result (spec.split word.now) }
@@ -253,7 +255,7 @@ pub(crate) fn split(alloc: Global, word: &str) -> Result<SplitWords, ValueEnd>
     }
 }
 
-/// Reads a duration above 0, as a split into parts of this length.
+/// Reads the value after `duration:`, a time above 0: the split into parts of that duration.
 #[tactic(auto, unfolding(crate::specs::Lists::duration))]
 fn duration(word: &[u8]) -> Option<SplitWords>
     ensures { result ≡ spec.duration word.now }
@@ -266,7 +268,7 @@ fn duration(word: &[u8]) -> Option<SplitWords>
     }
 }
 
-/// Reads `all`, or the numbers of chapters.
+/// Reads the value after `chapters:`: `all`, or the numbers of chapters with commas between them.
 #[tactic(auto, unfolding(crate::specs::Lists::chapters))]
 fn chapters(alloc: Global, word: &[u8]) -> Result<SplitWords, ValueEnd>
     ensures { ReadsValue result (spec.chapters word.now) }

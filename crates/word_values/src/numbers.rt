@@ -1,4 +1,4 @@
-//! Readers of numbers, times and sizes.
+//! Readers of numbers, times and sizes in arguments.
 
 ghost use Rattle.std.specs.Prelude.{◌≡◌, ◌==◌, ◌^◌, ◌<◌, IfSome, option_map};
 ghost use Rattle.std.specs.List.{position};
@@ -12,13 +12,14 @@ const SECOND: u64 = 1_000_000_000;
 
 const MILLISECOND: u64 = 1_000_000;
 
-/// Least time that is refused as too large, in nanoseconds.
+/// Times of at least this number of nanoseconds are refused as too large.
 const TIME_LIMIT: u64 = 1 << 63;
 
-/// Least delay that is refused as too large, in nanoseconds.
+/// Delays of at least this number of nanoseconds are refused as too large, in either direction.
 const DELAY_LIMIT: u64 = 1 << 55;
 
-/// Splits `word` at the first byte that is `octet`; returns the parts before and after it.
+/// Splits `word` at the first byte that is `octet`; returns the parts before and after it, or None if there is no such
+/// byte.
 #[tactic(auto, unfolding(mkv_io::specs::Octets::cut))]
 pub(crate) fn cut(word: &[u8], octet: u8) -> Option<(&[u8], &[u8])>
     ensures { option_map (λ p. (p.0.now, p.1.now)) result ≡ octets.cut octet word.now }
@@ -27,7 +28,8 @@ pub(crate) fn cut(word: &[u8], octet: u8) -> Option<(&[u8], &[u8])>
     Some((&word[..at], &word[at + 1..]))
 }
 
-/// Splits text at the first `mark`, an ASCII character; returns the parts before and after it.
+/// Splits `word` at the first `mark`, an ASCII character; returns the parts before and after it, or None if it has no
+/// `mark`.
 pub fn cut_text(word: &str, mark: char) -> Option<(&str, &str)>
     requires { mark < 128 }
     ensures { option_map (λ p. (p.0.now, p.1.now)) result ≡ octets.cut mark word.now }
@@ -35,14 +37,14 @@ pub fn cut_text(word: &str, mark: char) -> Option<(&str, &str)>
     word.split_once(mark)
 }
 
-/// Returns the offset of the first byte of `word` that is `octet`.
+/// Returns the index, from 0, of the first byte of `word` that is `octet`.
 fn place_of(word: &[u8], octet: u8) -> Option<usize>
     ensures { result ≡ position (λ b. b == octet) word.now }
 {
     word.iter().position(|b| *b == octet)
 }
 
-/// Reads milliseconds with or without `-`; returns nanoseconds.
+/// Reads the value of `--sync` after the track: milliseconds with or without `-`. Returns nanoseconds.
 #[tactic(auto, unfolding(crate::specs::Numbers::delay))]
 pub(crate) fn delay(word: &[u8]) -> Option<i64>
     ensures { result ≡ spec.delay word.now }
@@ -53,7 +55,7 @@ pub(crate) fn delay(word: &[u8]) -> Option<i64>
     }
 }
 
-/// Reads a delay in milliseconds, without its sign, and returns it in nanoseconds. It must be below the limit.
+/// Reads a delay in milliseconds, without its sign, and returns it in nanoseconds. It must be below 2^55 ns.
 #[tactic(auto, unfolding(crate::specs::Numbers::delay_size))]
 fn delay_size(word: &[u8]) -> Option<u64>
     ensures same { result ≡ spec.delay_size word.now }
@@ -63,7 +65,8 @@ fn delay_size(word: &[u8]) -> Option<u64>
     if time < DELAY_LIMIT { Some(time) } else { None }
 }
 
-/// Reads `H:MM:SS`, with or without a fraction, or digits followed by `s`; returns nanoseconds.
+/// Reads a time: `H:MM:SS`, with or without a fraction of up to nine digits, or digits followed by `s`. Returns
+/// nanoseconds, below 2^63.
 #[tactic(auto, unfolding(crate::specs::Numbers::time))]
 pub(crate) fn time(word: &[u8]) -> Option<u64>
     ensures { result ≡ spec.time word.now }
@@ -75,7 +78,7 @@ pub(crate) fn time(word: &[u8]) -> Option<u64>
     if time < TIME_LIMIT { Some(time) } else { None }
 }
 
-/// Reads hours, minutes and seconds with colons between them, and returns nanoseconds.
+/// Reads the time `H:MM:SS`, with or without a fraction, and returns nanoseconds.
 #[tactic(auto, unfolding(crate::specs::Numbers::clock))]
 fn clock(word: &[u8]) -> Option<u64>
     ensures { result ≡ below (2 ^ 64) (spec.clock word.now) }
@@ -92,7 +95,7 @@ fn clock(word: &[u8]) -> Option<u64>
         .checked_add(rest)
 }
 
-/// Reads two digits of minutes or seconds, which are below 60.
+/// Reads two digits of minutes or seconds in a time, which must be below 60.
 #[tactic(auto, unfolding(crate::specs::Numbers::minutes_or_seconds))]
 fn minutes_or_seconds(word: &[u8]) -> Option<u64>
     ensures same { result ≡ spec.minutes_or_seconds word.now }
@@ -105,7 +108,7 @@ fn minutes_or_seconds(word: &[u8]) -> Option<u64>
     if value < 60 { Some(value) } else { None }
 }
 
-/// Reads `SS`, with or without a fraction; returns nanoseconds.
+/// Reads the seconds of a time, `SS` with or without a fraction; returns nanoseconds.
 #[tactic(auto, unfolding(crate::specs::Numbers::seconds))]
 fn seconds(word: &[u8]) -> Option<u64>
     ensures same { result ≡ spec.seconds word.now }
@@ -120,7 +123,7 @@ fn seconds(word: &[u8]) -> Option<u64>
     }
 }
 
-/// Reads the 1 to 9 digits after a point, in billionths.
+/// Reads the 1 to 9 digits after the point of a time; returns nanoseconds.
 #[tactic(auto, using(requests::proofs::DecimalLemmas::whole_short, crate::proofs::NumbersLemmas::fraction_small), unfolding(crate::specs::Numbers::fraction))]
 fn fraction(word: &[u8]) -> Option<u64>
     ensures same { result ≡ spec.fraction word.now }
@@ -133,7 +136,8 @@ fn fraction(word: &[u8]) -> Option<u64>
     Some(value * 10u64.pow(9 - word.len() as u32))
 }
 
-/// Reads a size in bytes, with or without a unit. A product that is too large for 64 bits is 2^64 - 1.
+/// Reads a size in bytes: a number, with or without the unit `k`, `m` or `g` (1024, its square and its cube). A product
+/// that is too large for 64 bits is 2^64 - 1.
 #[tactic(auto, unfolding(crate::specs::Numbers::size))]
 pub(crate) fn size(word: &[u8]) -> Option<u64>
     ensures { result ≡ spec.size word.now }
@@ -146,7 +150,7 @@ pub(crate) fn size(word: &[u8]) -> Option<u64>
     }
 }
 
-/// Reads 1 to 12 digits, at least 1.
+/// Reads the number of a size: 1 to 12 digits, at least 1.
 #[tactic(auto, using(requests::proofs::DecimalLemmas::whole_short), unfolding(crate::specs::Numbers::amount))]
 fn amount(word: &[u8]) -> Option<u64>
     ensures { result ≡ spec.amount word.now }
@@ -158,7 +162,7 @@ fn amount(word: &[u8]) -> Option<u64>
     if value >= 1 { Some(value) } else { None }
 }
 
-/// Reads an identifier of 32 hexadecimal digits.
+/// Reads an identifier of 32 hexadecimal digits as a number, the highest digit first.
 #[tactic(auto, using(crate::proofs::NumbersLemmas::hex_more), unfolding(crate::specs::Numbers::uuid))]
 pub(crate) fn uuid(word: &[u8]) -> Option<u128>
     ensures { result ≡ spec.uuid word.now }

@@ -1,4 +1,4 @@
-//! Command-line arguments by number, counted from 0, and the refusal of a missing or surplus one.
+//! Arguments of the command line by their index, counted from 0, and the refusal of a missing or surplus one.
 
 ghost use Rattle.std.specs.Prelude.{◌≡◌, ◌<◌, [], MatchOption, OnSome, drop, length, slice_get, option_map};
 ghost use Rattle.word_values.specs.Answers.{Tells, TellsOf, refuses};
@@ -7,7 +7,7 @@ ghost use Rattle.word_values.specs.Place.{texts, IsWordAt};
 
 use crate::usage::{ArgsEnd, Usage, Why};
 
-/// Returns the argument with number `at`, counted from 0.
+/// Returns the argument with the index `at`, counted from 0, or None if the command line ends before it.
 pub fn word_at(words: &[String], at: usize) -> Option<&str>
     ensures same { option_map (λ w. w.now) result ≡ slice_get (texts words.now) at }
     ensures rest { MatchOption result (drop at (texts words.now) ≡ []) (λ word. IsWordAt (texts words.now) at word.now) }
@@ -19,14 +19,15 @@ pub fn word_at(words: &[String], at: usize) -> Option<&str>
     }
 }
 
-// Returns the argument at the index `at`, if there is one.
+// Returns the argument with the index `at`, counted from 0, if there is one.
 fn text_at(words: &[String], at: usize) -> Option<&str>
     ensures { option_map (λ w. w.now) result ≡ slice_get (texts words.now) at }
 {
     Some(words.get(at)?.as_str())
 }
 
-/// Returns the argument with number `at`, which must be present.
+/// Returns the argument with the index `at`, counted from 0. If it is missing, the command line is refused
+/// (`MissingValue`).
 pub fn due_at(words: &[String], at: usize) -> Result<&str, ArgsEnd>
     ensures { TellsOf (λ w. w.now) result (place.due_at (texts words.now) at) }
 {
@@ -36,7 +37,8 @@ pub fn due_at(words: &[String], at: usize) -> Result<&str, ArgsEnd>
     }
 }
 
-/// Returns the argument with number `at`, the name of a file. It must be present and not look like an option.
+/// Returns the argument with the index `at`, the name of a file that is read. A missing one is refused, and one that
+/// looks like an option.
 pub fn file_at(words: &[String], at: usize) -> Result<&str, ArgsEnd>
     ensures { TellsOf (λ w. w.now) result (place.file_at (texts words.now) at) }
 {
@@ -47,7 +49,7 @@ pub fn file_at(words: &[String], at: usize) -> Result<&str, ArgsEnd>
     Ok(file)
 }
 
-/// Refuses an argument with number `at`, if there is one.
+/// Refuses the command line if it has an argument with the index `at`, after a complete command (`ExtraWord`).
 pub fn end_at(words: &[String], at: usize) -> Result<(), ArgsEnd>
     ensures { Tells result (place.end_at (texts words.now) at) }
 {
@@ -57,14 +59,14 @@ pub fn end_at(words: &[String], at: usize) -> Result<(), ArgsEnd>
     Ok(())
 }
 
-/// Returns the refusal of the argument number `word` for the reason `why`.
+/// Returns the refusal of the argument with the index `word`, counted from 0, for the reason `why`.
 pub fn refused<T>(word: usize, why: Why) -> Result<T, ArgsEnd>
     ensures { result ≡ refuses word why }
 {
     Err(ArgsEnd::Usage(Usage { word, why }))
 }
 
-/// Checks whether an argument looks like an option. A single `-` doesn't.
+/// Checks whether the argument `word` looks like an option: it begins with `-` and has more than one character.
 pub fn is_option(word: &str) -> bool
     ensures { result ≡ place.is_option word.now }
 {

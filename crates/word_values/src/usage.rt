@@ -7,7 +7,7 @@ ghost use Rattle.word_values.specs.declared.usage.ValueEnd.TheVariants as value_
 use std::alloc::AllocError;
 use thiserror::Error;
 
-/// Reason to refuse an argument.
+/// Reason to refuse an argument; a message prints its name.
 #[derive(Clone, Copy, Debug, PartialEq, Eq)]
 pub enum Why {
     /// There are no arguments.
@@ -43,7 +43,7 @@ pub enum Why {
 impl Why {
     ghost use Rattle.word_values.specs.Why.{why_name};
 
-    /// Returns the name of the reason in a message.
+    /// Returns the name of the reason, as a message prints it.
     #[tactic(auto, unfolding(crate::specs::Why::why_name))]
     pub fn name(self) -> &'static str
         ensures { result.now ≡ why_name self }
@@ -67,14 +67,15 @@ impl Why {
     }
 }
 
-/// First argument that is wrong, counted from 0. If an argument is missing, `word` is the number of arguments.
+/// First wrong argument of a command line, by its index from 0, and what is wrong. If an argument is missing, the index
+/// is the number of arguments.
 #[derive(Clone, Copy, Debug, PartialEq, Eq)]
 pub struct Usage {
     pub word: usize,
     pub why: Why,
 }
 
-/// Reason why a command line isn't read.
+/// Reason why a command line isn't parsed.
 #[derive(Debug, Drop, Error)]
 pub enum ArgsEnd {
     /// The arguments aren't a command.
@@ -101,7 +102,7 @@ impl From<AllocError> for ArgsEnd {
     }
 }
 
-/// Reason why a value isn't read.
+/// Reason why the value of an option isn't read.
 #[derive(Clone, Copy)]
 pub enum ValueEnd {
     /// The value doesn't have its form or is out of range.

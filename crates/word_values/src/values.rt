@@ -1,4 +1,4 @@
-//! Values of options.
+//! Values of options, by their form.
 
 ghost use Rattle.std.specs.Prelude.{◌≡◌, option_map, IfOk};
 ghost use Rattle.std.specs.Char.{is_ascii_lowercase};
@@ -13,20 +13,20 @@ use mkv_io::{List, Text};
 use requests::{CueWord, Select, SplitWords, is_language_tag, number};
 use std::alloc::{AllocError, Global};
 
-/// Form of an option's value. A track is named by its ID, followed by `:`.
+/// Form of an option's value. A value for a track begins with the track's ID and `:`.
 #[derive(Clone, Copy, Debug, PartialEq, Eq)]
 pub enum ValueForm {
-    /// No value.
+    /// No argument follows; the option itself is the value.
     Flag,
-    /// No value; tracks of the type are excluded.
+    /// No argument follows; all tracks of the type are excluded.
     Exclusion,
     /// Name of a file.
     Name,
     /// Any text without a zero byte.
     Text,
-    /// Nanoseconds in a tick, 1000 to 10000000.
+    /// Nanoseconds per tick, 1000 to 10000000.
     Scale,
-    /// Blocks, 1 to 65535, or milliseconds, 100 to 32000, followed by `ms`.
+    /// Blocks of a Cluster, 1 to 65535, or milliseconds, 100 to 32000, followed by `ms`.
     Length,
     /// Rule for splitting the output.
     Split,
@@ -50,22 +50,22 @@ pub enum ValueForm {
     TrackFile,
 }
 
-/// Value of an option.
+/// Value of an option, as it was read. Values for a track begin with its ID, counted from 0.
 #[derive(Drop)]
 pub enum Value {
-    /// The option is given.
+    /// The option is given; it has no argument.
     Flag,
     /// Name of a file.
     File(Text),
     Text(Text),
     Scale(u64),
     Blocks(u32),
-    /// Duration in nanoseconds.
+    /// Duration of a Cluster in nanoseconds.
     Span(u64),
     Split(SplitWords),
     Uuids(List<u128>),
     Tracks(Select),
-    /// A track and nanoseconds.
+    /// A track, and its delay in nanoseconds.
     TrackDelay(u64, i64),
     TrackText(u64, Text),
     TrackLanguage(u64, Text),
@@ -87,7 +87,8 @@ pub fn flag_of(form: ValueForm) -> Option<Value>
     }
 }
 
-/// Reads `word` as a value of the form `form`.
+/// Reads the argument `word` as a value of the form `form`. Fails with `Bad` if it doesn't have the form or is out of
+/// range.
 #[tactic(auto, unfolding(crate::specs::Values::value_of))]
 pub fn value_of(alloc: Global, form: ValueForm, word: &str) -> Result<Value, ValueEnd>
     ensures { ReadsValue result (spec.value_of form word.now) }
@@ -114,7 +115,7 @@ pub fn value_of(alloc: Global, form: ValueForm, word: &str) -> Result<Value, Val
     }
 }
 
-/// Reads `rest`, the part after the track ID, as a value of the form `form` for track `id`.
+/// Reads `rest`, the part of an argument after the track ID and `:`, as a value of the form `form` for the track `id`.
 #[tactic(auto, unfolding(crate::specs::Values::track_value))]
 fn track_value(alloc: Global, form: ValueForm, id: u64, rest: &str) -> Result<Value, ValueEnd>
     ensures { ReadsValue result (spec.track_value form id rest.now) }
@@ -138,7 +139,8 @@ fn track_value(alloc: Global, form: ValueForm, id: u64, rest: &str) -> Result<Va
     }
 }
 
-/// Splits `word` at the first `:` into a number and the part after it.
+/// Splits the argument `word` at the first `:` into the track's number and the part after it; None if it doesn't begin
+/// so.
 #[tactic(auto, unfolding(crate::specs::Values::track_and_rest))]
 pub fn track_and_rest(word: &str) -> Option<(u64, &str)>
     ensures { option_map (λ p. (p.0, p.1.now)) result ≡ spec.track_and_rest word.now }
@@ -148,7 +150,7 @@ pub fn track_and_rest(word: &str) -> Option<(u64, &str)>
     Some((id, rest))
 }
 
-/// Copies `word`, which may be any text.
+/// Returns a copy of `word`, which may be any text: the name of a file.
 pub fn name(alloc: Global, word: &str) -> Result<Text, AllocError>
     ensures { IfOk result (λ name. name ≡ word.now) }
 {
@@ -157,7 +159,7 @@ pub fn name(alloc: Global, word: &str) -> Result<Text, AllocError>
     Ok(name)
 }
 
-/// Copies `word`, if it has no zero byte.
+/// Returns a copy of `word`, a title or a track's name; fails with `Bad` if it has a zero byte.
 #[tactic(auto, unfolding(crate::specs::Values::text))]
 fn text(alloc: Global, word: &str) -> Result<Text, ValueEnd>
     ensures { ReadsValue result (spec.text word.now) }
@@ -168,7 +170,7 @@ fn text(alloc: Global, word: &str) -> Result<Text, ValueEnd>
     Ok(name(alloc, word)?)
 }
 
-/// Reads a language code of three lower-case letters.
+/// Returns a copy of `word`, a language code; fails with `Bad` unless it has three lower-case letters.
 #[tactic(auto, unfolding(crate::specs::Values::language))]
 fn language(alloc: Global, word: &str) -> Result<Text, ValueEnd>
     ensures { ReadsValue result (spec.language word.now) }
@@ -179,7 +181,7 @@ fn language(alloc: Global, word: &str) -> Result<Text, ValueEnd>
     Ok(name(alloc, word)?)
 }
 
-/// Reads a language tag.
+/// Returns a copy of `word`, a language tag; fails with `Bad` unless it has the form of one.
 #[tactic(auto, unfolding(crate::specs::Values::language_tag))]
 fn language_tag(alloc: Global, word: &str) -> Result<Text, ValueEnd>
     ensures { ReadsValue result (spec.language_tag word.now) }
@@ -190,7 +192,7 @@ fn language_tag(alloc: Global, word: &str) -> Result<Text, ValueEnd>
     Ok(name(alloc, word)?)
 }
 
-/// Checks whether a value is a language code of three lower-case letters.
+/// Checks whether `word` is a language code of three lower-case letters.
 fn is_language(word: &[u8]) -> bool
     ensures { result ≡ spec.is_language word.now }
 {
@@ -204,7 +206,7 @@ fn are_lowercase(word: &[u8]) -> bool
     word.iter().all(|b| b.is_ascii_lowercase())
 }
 
-/// Reads the number of nanoseconds in a tick.
+/// Reads the value of `--timestamp-scale`: 1000 to 10000000 nanoseconds per tick.
 #[tactic(auto, unfolding(crate::specs::Values::scale))]
 fn scale(word: &[u8]) -> Option<Value>
     ensures { result ≡ spec.scale word.now }
@@ -217,7 +219,7 @@ fn scale(word: &[u8]) -> Option<Value>
     }
 }
 
-/// Reads blocks, or milliseconds followed by `ms`.
+/// Reads the value of `--cluster-length`: 1 to 65535 blocks, or 100 to 32000 milliseconds followed by `ms`.
 #[tactic(auto, unfolding(crate::specs::Values::cluster_length))]
 fn cluster_length(word: &[u8]) -> Option<Value>
     ensures { result ≡ spec.cluster_length word.now }
@@ -238,7 +240,7 @@ fn cluster_length(word: &[u8]) -> Option<Value>
     }
 }
 
-/// Reads only a track, which means 1, or a track and 0 or 1.
+/// Reads the value of a track's flag: only a track, which means 1, or a track and 0 or 1.
 #[tactic(auto, unfolding(crate::specs::Values::track_flag))]
 fn track_flag(word: &str) -> Option<Value>
     ensures { result ≡ spec.track_flag word.now }
@@ -254,7 +256,7 @@ fn track_flag(word: &str) -> Option<Value>
     }
 }
 
-/// Returns the choice of cue points that an argument spells.
+/// Returns which blocks of a track get a cue point, by the value of `--cues` after the track.
 #[tactic(auto, unfolding(crate::specs::Values::cue_word))]
 fn cue_word(word: &str) -> Option<CueWord>
     ensures { result ≡ spec.cue_word word.now }
