@@ -1,4 +1,4 @@
--- Examples of extractions from small frames and records.
+-- Examples of `extract` on small frames and records.
 use Rattle.std.specs.Prelude.{◌≡◌, ℕ, ℤ, pos, negsuc, false, true, List, [], ◌∷◌, ◌++◌, map, codes}
 use Rattle.std.specs.Prelude.{Option, None, Some, Ok, Err}
 use Rattle.tree_format.specs.Node.{Node, leaf, master, nodes_of}
@@ -19,7 +19,7 @@ use Rattle.extractors.specs.Times.{time_line}
 
 -- ---- blocks and outputs
 
--- a SimpleBlock of a track at a time, with these frames, at offset 60
+-- a SimpleBlock of the track `track` at `time` nanoseconds, with the frames `frames`, at offset 60
 abbrev pub block : ℕ → ℤ → List (List ℕ) → Block
 block track time frames = record {
   track = track;
@@ -36,18 +36,19 @@ block track time frames = record {
   offset = 60;
 }
 
--- an output of track 1, with a duration of each frame in a lace, with bytes before the whole content, and with bytes before each frame
+-- an output of track 1 in the form `kind`. `step` is the DefaultDuration in nanoseconds, `head` the bytes before the first frame, and `prefix` the
+-- bytes before each frame.
 abbrev pub output : FrameForm → ℕ → List ℕ → List ℕ → TrackOutput
 output kind step head prefix =
     record { name = codes "r"; track = 1; step = step; head = head; prefix = prefix; form = kind }
 
--- two blocks of one frame, of track 1, and one of track 2 between them
+-- two blocks of track 1 with one frame each, at 0 and 20 ms, and a block of track 2 between them
 abbrev pub two_blocks : List Block
 two_blocks =
     block 1 (pos 0) ((0xAA ∷ []) ∷ []) ∷ block 2 (pos 0) ((0xCC ∷ []) ∷ []) ∷
     block 1 (pos 20000000) ((0xBB ∷ []) ∷ []) ∷ []
 
--- a block of track 1 with a lace of two frames
+-- one block of track 1 with a lace of two frames
 abbrev pub lace_of_two : List Block
 lace_of_two = block 1 (pos 0) ((0xAA ∷ []) ∷ (0xBB ∷ 0xCC ∷ []) ∷ []) ∷ []
 
@@ -73,27 +74,27 @@ pub record AreTimes : Type 0 where
 
 -- ---- codecs
 
--- the configuration of AVC with two parameter sets
+-- a CodecPrivate of H.264 with two parameter sets
 abbrev pub avc : List ℕ
 avc = 1 ∷ 0x42 ∷ 0 ∷ 0x1E ∷ 0xFF ∷ 0xE1 ∷ 0 ∷ 2 ∷ 0x67 ∷ 0x42 ∷ 1 ∷ 0 ∷ 2 ∷ 0x68 ∷ 0xCE ∷ []
 
--- the configuration of AAC with two channels of 44,100 Hz
+-- a configuration of AAC with two channels of 44,100 Hz
 abbrev pub aac : Aac
 aac = record { profile = 1; rate = 4; channels = 2 }
 
--- a unit of H.264 after a start code
+-- the H.264 unit `unit` after a start code
 abbrev pub start_code : List ℕ → List ℕ
 start_code unit = 0 ∷ 0 ∷ 0 ∷ 1 ∷ unit
 
--- the parameter sets of `avc`, each after a start code
+-- the parameter sets in `avc`, each after a start code
 abbrev pub sets : List ℕ
 sets = start_code (0x67 ∷ 0x42 ∷ []) ++ start_code (0x68 ∷ 0xCE ∷ [])
 
--- a frame of one unit of three bytes, with this number as its length
+-- an H.264 frame of one unit of three bytes, which states `length` as the unit's length
 abbrev pub unit_of : ℕ → List ℕ
 unit_of length = 0 ∷ 0 ∷ 0 ∷ length ∷ 0x65 ∷ 0x88 ∷ 1 ∷ []
 
--- the bytes that are written for a frame at the start
+-- the bytes that are written in the form `kind` for the frame `octets` at time 0; none for a bad frame
 abbrev pub written : FrameForm → List ℕ → Option (List ℕ)
 written kind octets = written_of kind 1 (record { octets = octets; time = pos 0; duration = 0 }) octets
 
@@ -121,31 +122,31 @@ pub record AreCoded : Type 0 where
 
 -- ---- records
 
--- a CuePoint with these children
+-- a CuePoint with the children `children`
 abbrev pub point : List Node → Node
 point children = master 0xBB 0 (nodes_of children)
 
--- a CueTrackPositions with these children
+-- a CueTrackPositions with the children `children`
 abbrev pub place : List Node → Node
 place children = master 0xB7 0 (nodes_of children)
 
--- a Cues with these points
+-- a Cues with the CuePoints `points`
 abbrev pub cues : List Node → Node
 cues points = master 0x1C53BB6B 0 (nodes_of points)
 
--- a CueTrackPositions of this track, in a Cluster at 318 and at 3 in the Cluster
+-- a CueTrackPositions of the track `track`, with CueClusterPosition 318 and CueRelativePosition 3
 abbrev pub place_of : ℕ → Node
 place_of track = place (leaf 0xF7 0 (track ∷ []) ∷ leaf 0xF1 0 (1 ∷ 0x3E ∷ []) ∷ leaf 0xF0 0 (3 ∷ []) ∷ [])
 
--- a ChapterAtom with these children
+-- a ChapterAtom with the children `children`
 abbrev pub atom : List Node → Node
 atom children = master 0xB6 0 (nodes_of children)
 
--- a ChapterDisplay with this name
+-- a ChapterDisplay with the ChapString `text`
 abbrev pub name : List ℕ → Node
 name text = master 0x80 0 (nodes_of (leaf 0x85 0 text ∷ []))
 
--- a Chapters with these editions, each a list of atoms
+-- a Chapters with an EditionEntry for each list of ChapterAtoms
 abbrev pub chapters : List (List Node) → Option Node
 chapters editions = Some (master 0x1043A770 0 (nodes_of (map (λ atoms. master 0x45B9 0 (nodes_of atoms)) editions)))
 

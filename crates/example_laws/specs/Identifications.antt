@@ -15,47 +15,47 @@ use Rattle.mkv_info.specs.ToldTracks.{dimensions_of, track_value}
 
 -- ---- files, each with a Segment of less than 127 bytes
 
--- an EBML header, whose DocType begins with this byte
+-- an EBML header with the DocType `matroska`, whose first byte is `octet`
 abbrev pub ebml : ℕ → List ℕ
 ebml octet = 0x1A ∷ 0x45 ∷ 0xDF ∷ 0xA3 ∷ 0x8B ∷ 0x42 ∷ 0x82 ∷ 0x88 ∷ octet ∷ codes "atroska"
 
--- a Segment with this body
+-- a Segment with the data `body`, which has less than 127 bytes
 abbrev pub segment : List ℕ → List ℕ
 segment body = 0x18 ∷ 0x53 ∷ 0x80 ∷ 0x67 ∷ (0x80 + length body) ∷ body
 
--- a Matroska file whose Segment has this body
+-- a Matroska file whose Segment has the data `body`
 abbrev pub file : List ℕ → List ℕ
 file body = ebml 0x6D ++ segment body
 
--- a Tracks Element whose ID begins with this byte, with a track of this number
+-- a Tracks Element whose first ID byte is `first`, 0x16 for a valid one, with an audio track with the TrackNumber `number`
 abbrev pub tracks : ℕ → ℕ → List ℕ
 tracks first number =
     first ∷ 0x54 ∷ 0xAE ∷ 0x6B ∷ 0x94 ∷ 0xAE ∷ 0x92 ∷ 0xD7 ∷ 0x81 ∷ number ∷
     0x73 ∷ 0xC5 ∷ 0x81 ∷ 5 ∷ 0x83 ∷ 0x81 ∷ 2 ∷ 0x86 ∷ 0x86 ∷ codes "A_OPUS"
 
--- a Timestamp and two blocks of track 1
+-- the data of a Cluster: a Timestamp and two SimpleBlocks of track 1
 abbrev pub blocks : List ℕ
 blocks =
     0xE7 ∷ 0x81 ∷ 0 ∷ 0xA3 ∷ 0x85 ∷ 0x81 ∷ 0 ∷ 0 ∷ 0x80 ∷ 0xAA ∷
     0xA3 ∷ 0x85 ∷ 0x81 ∷ 0 ∷ 0x14 ∷ 0x80 ∷ 0xBB ∷ []
 
--- a Cluster of two blocks
+-- a Cluster with two SimpleBlocks of track 1
 abbrev pub cluster : List ℕ
 cluster = 0x1F ∷ 0x43 ∷ 0xB6 ∷ 0x75 ∷ 0x91 ∷ blocks
 
--- a file with one track
+-- a file with one audio track and one Cluster
 abbrev pub one_track : List ℕ
 one_track = file (tracks 0x16 1 ++ cluster)
 
--- an EBML header with a zero byte after its DocType
+-- an empty Segment after an EBML header whose DocType ends with zero bytes
 abbrev pub padded : List ℕ
 padded = 0x1A ∷ 0x45 ∷ 0xDF ∷ 0xA3 ∷ 0x8E ∷ 0x42 ∷ 0x82 ∷ 0x8B ∷ codes "matroska" ++ (0 ∷ 0 ∷ 0 ∷ segment [])
 
--- the unknown size in eight bytes
+-- a data size of eight bytes that means an unknown size
 abbrev pub unknown : List ℕ
 unknown = 1 ∷ 0xFF ∷ 0xFF ∷ 0xFF ∷ 0xFF ∷ 0xFF ∷ 0xFF ∷ 0xFF ∷ []
 
--- a Segment and a Cluster of unknown sizes, and Cues after them
+-- a file whose Segment and Cluster have unknown sizes, with a Cues after the Cluster
 abbrev pub endless : List ℕ
 endless =
     ebml 0x6D ++ (0x18 ∷ 0x53 ∷ 0x80 ∷ 0x67 ∷ unknown) ++ tracks 0x16 1 ++ (0x1F ∷ 0x43 ∷ 0xB6 ∷ 0x75 ∷ unknown) ++
@@ -63,19 +63,19 @@ endless =
 
 -- ---- listed files
 
--- the line of the EBML header
+-- the line of `info` for the EBML header in `file`
 abbrev pub header_line : List ℕ
 header_line = codes "EBML at 0 size 11"
 
--- the line of the track
+-- the line of `info` for the track in `one_track`
 abbrev pub track_line : List ℕ
 track_line = codes "track 0: audio A_OPUS number 1 uid 5 language eng"
 
--- `info` prints these lines for a file with the content `bytes`.
+-- For a file `s1.mkv` with the content `bytes`, `info` prints the lines `lines` and ends with Done.
 abbrev pub lists : List ℕ → List (List ℕ) → Type 0
 lists bytes lines = listed_verdict (codes "s1.mkv") bytes ≡ done lines
 
--- `info` refuses a file with the content `bytes` with this line.
+-- A file `s1.mkv` with the content `bytes` is refused by `info` with the line `line`.
 abbrev pub refuses : List ℕ → List ℕ → Type 0
 refuses bytes line = listed_verdict (codes "s1.mkv") bytes ≡ refused line
 
@@ -105,7 +105,7 @@ pub record AreListed : Type 0 where
 
 -- ---- files as JSON
 
--- the JSON of a file with one track
+-- the line of JSON for `one_track`
 abbrev pub identified_as : List ℕ
 identified_as =
     codes "{\"attachments\":[],\"chapters\":[],\"container\":{\"properties\":{\"timestamp_scale\":1000000}," ++
@@ -115,23 +115,23 @@ identified_as =
     codes "\"default_track\":true,\"enabled_track\":true,\"forced_track\":false,\"language\":\"eng\"," ++
     codes "\"number\":1,\"uid\":5},\"type\":\"audio\"}]}"
 
--- an Info with these children
+-- an Info with the children `children`
 abbrev pub info : List Node → Option Node
 info children = Some (master 0x1549A966 0 (nodes_of children))
 
--- a TrackEntry with a Video with these children
+-- a TrackEntry with a Video that has the children `pixels`
 abbrev pub video : List Node → Node
 video pixels = master 0xAE 0 (nodes_of (master 0xE0 0 (nodes_of pixels) ∷ []))
 
--- an EditionEntry of one ChapterAtom with another one inside
+-- an EditionEntry with one ChapterAtom that has another one inside
 abbrev pub edition : Node
 edition = master 0x45B9 0 (nodes_of (master 0xB6 0 (nodes_of (master 0xB6 0 (nodes_of []) ∷ [])) ∷ []))
 
--- a Chapters with two such editions
+-- a Chapters with two EditionEntries, each with one top ChapterAtom
 abbrev pub two_editions : Option Node
 two_editions = Some (master 0x1043A770 0 (nodes_of (edition ∷ edition ∷ [])))
 
--- a Tag for the track with this TrackUID, with a SimpleTag that contains another one
+-- a Tag for the track with the TrackUID `uid`, with a SimpleTag that contains another one
 abbrev pub tag : ℕ → Node
 tag uid =
     master 0x7373 0 (nodes_of (master 0x63C0 0 (nodes_of (leaf 0x63C5 0 (uid ∷ []) ∷ [])) ∷
@@ -141,18 +141,18 @@ tag uid =
 abbrev pub tags : List ℕ → Option Node
 tags uids = Some (master 0x1254C367 0 (nodes_of (map tag uids)))
 
--- a track of the type 17, with other children of its entry
+-- a TrackEntry of subtitles, with the children `more` after its own
 abbrev pub entry : List Node → Node
 entry more =
     master 0xAE 0 (nodes_of (leaf 0xD7 0 (2 ∷ []) ∷ leaf 0x83 0 (17 ∷ []) ∷ leaf 0x86 0 (codes "S_VOBSUB") ∷ more))
 
--- flags, languages and a name
+-- children of a TrackEntry: two flags, two languages and a name
 abbrev pub said_of_it : List Node
 said_of_it =
     leaf 0x88 0 (0 ∷ []) ∷ leaf 0x55AA 0 (2 ∷ []) ∷ leaf 0x22B59C 0 (codes "ger") ∷
     leaf 0x22B59D 0 (codes "de-CH") ∷ leaf 0x536E 0 (codes "Hi") ∷ []
 
--- The properties of the track are this JSON.
+-- The JSON of a track with the children `more` has the properties `properties`.
 abbrev pub told_as : List Node → List ℕ → Type 0
 told_as more properties =
     compact_text (track_value 1 (track_of (entry more)))

@@ -1,4 +1,4 @@
--- Examples of plans of small merges.
+-- Examples of what small merges plan.
 use Rattle.std.specs.Prelude.{◌≡◌, ℕ, ℤ, pos, negsuc, false, true, List, [], ◌∷◌, ◌++◌, map, codes}
 use Rattle.std.specs.Prelude.{Option, None, Some}
 use Rattle.tree_format.specs.Node.{Node, leaf, master, nodes_of}
@@ -20,17 +20,17 @@ use Rattle.merge_plan.specs.Refusal.{lanes_refusal}
 
 -- ---- command lines, tracks and inputs
 
--- a command line that gives only the title of an output
+-- a command line of a merge without inputs, which gives the title `title`, if any, and no other option
 abbrev pub words : Option (List ℕ) → MergeWords
 words title = record (plain_words (codes "out.mkv") None []) { title = title }
 
--- a track with this TrackUID, TrackType and CodecID, which has the number 3 in its file
+-- a TrackEntry with this TrackUID, TrackType and CodecID, the TrackNumber 3, and an empty ContentEncodings
 abbrev pub entry : ℕ → ℕ → List ℕ → Node
 entry uid type codec = master 0xAE 0 (nodes_of (
     leaf 0xD7 0 (3 ∷ []) ∷ leaf 0x73C5 0 (uid ∷ []) ∷ leaf 0x83 0 (type ∷ []) ∷
     leaf 0x6D80 0 [] ∷ leaf 0x86 0 codec ∷ []))
 
--- a selected track with this TrackUID, TrackType and CodecID, with a delay, and with the option for its cue points
+-- a selected track with this TrackUID, TrackType and CodecID, the delay `later` in nanoseconds, and the value `word` of `--cues`, if any
 abbrev pub taken : ℕ → ℕ → List ℕ → ℤ → Option CueWord → TakenTrack
 taken uid type codec later word = record {
   id = 0;
@@ -54,19 +54,20 @@ taken uid type codec later word = record {
   cues = word;
 }
 
--- a selected video track without options
+-- a selected video track with the TrackUID `uid`, without options
 abbrev pub video : ℕ → TakenTrack
 video uid = taken uid 1 (codes "V_VP8") (pos 0) None
 
--- a selected audio track without options
+-- a selected audio track with the TrackUID `uid`, without options
 abbrev pub audio : ℕ → TakenTrack
 audio uid = taken uid 2 (codes "A_OPUS") (pos 0) None
 
--- a selected subtitle track without options
+-- a selected subtitle track with the TrackUID `uid`, without options
 abbrev pub subtitles : ℕ → TakenTrack
 subtitles uid = taken uid 17 (codes "S_TEXT/UTF8") (pos 0) None
 
--- an input with these entries, title and tracks, and with an append offset if it is appended
+-- an input with the SubRip entries `entries`, this title, and the selected tracks `tracks`. `begin` is its append offset in nanoseconds, if it is
+-- appended.
 abbrev pub input : List Entry → List ℕ → Option ℕ → List TakenTrack → InputRead
 input entries title begin tracks = record {
   blocks = Entries entries;
@@ -82,21 +83,21 @@ input entries title begin tracks = record {
   times = [];
 }
 
--- an input with these tracks
+-- an input with the selected tracks `tracks` that isn't appended
 abbrev pub first : List TakenTrack → InputRead
 first tracks = input [] [] None tracks
 
--- an appended input with these tracks
+-- an appended input with the selected tracks `tracks`
 abbrev pub behind : List TakenTrack → InputRead
 behind tracks = input [] [] (Some 0) tracks
 
--- an input with this title and no track
+-- an input with the title `title` and no track
 abbrev pub titled : List ℕ → InputRead
 titled title = input [] title None []
 
 -- ---- output tracks
 
--- a film with video, sound and subtitles, and other subtitles
+-- two inputs: one with a video, an audio and a subtitle track, and one with a subtitle track whose TrackUID is 0
 abbrev pub film : List InputRead
 film = first (video 11 ∷ audio 12 ∷ subtitles 14 ∷ []) ∷ first (subtitles 0 ∷ []) ∷ []
 
@@ -107,7 +108,7 @@ pub record AreLanes : Type 0 where
   pub same_uids : uids_of (tracks_taken (first (audio 5 ∷ []) ∷ first (audio 5 ∷ []) ∷ [])) ≡ 5 ∷ 1 ∷ []
   -- Tracks of an appended input begin no output track.
   pub appended_uids : uids_of (tracks_taken (first (audio 5 ∷ []) ∷ behind (audio 5 ∷ []) ∷ [])) ≡ 5 ∷ []
-  -- By default keyframes of video and subtitles get cue points, and those of audio get none.
+  -- By default keyframes of video and subtitle tracks get cue points, and audio tracks get none.
   pub rules : rules_given film ≡ Key ∷ Never ∷ Key ∷ Key ∷ []
   pub all : rule_of (taken 5 2 (codes "A_OPUS") (pos 0) (Some cue_word.All)) ≡ All
   pub never : rule_of (taken 5 1 (codes "V_VP8") (pos 0) (Some cue_word.Never)) ≡ Never
@@ -122,19 +123,19 @@ pub record AreLanes : Type 0 where
 
 -- ---- append offsets
 
--- a text of one entry, from 1 second to 2.5 seconds
+-- a SubRip entry from 1 second to 2.5 seconds
 abbrev pub example_text : Entry
 example_text = record { start = 1000000000; duration = 1500000000; text = codes "Hi" }
 
--- the text as an input, with this delay, and with an append offset if it is appended
+-- an input with only that entry, the delay `later`, and the append offset `begin`, both in nanoseconds; it isn't appended if there is none
 abbrev pub text : ℤ → Option ℕ → Source
 text later begin = ([], input (example_text ∷ []) [] begin (taken 0 17 (codes "S_TEXT/UTF8") later None ∷ []))
 
--- the append offsets of inputs, or None for inputs that aren't appended
+-- the append offsets in nanoseconds that a merge gives the inputs `sources`; none for an input that isn't appended
 abbrev pub begins : List Source → List (Option ℕ)
 begins sources = map (λ (s : Source). s.1.shift) (in_place sources)
 
--- The starts and ends of inputs.
+-- The starts and ends of small inputs, in nanoseconds.
 pub record ArePlaced : Type 0 where
   -- The end is the end of the last block, with its delay.
   pub end : end_of (text (pos 0) None) ≡ 2500000000
@@ -150,17 +151,17 @@ pub record ArePlaced : Type 0 where
 
 -- ---- records
 
--- the application, after its ID
+-- the bytes of MuxingApp and WritingApp in an Info
 abbrev pub applications : List ℕ
 applications = (0x4D ∷ 0x80 ∷ 0x8A ∷ codes "mkvsuite 1") ++ (0x57 ∷ 0x41 ∷ 0x8A ∷ codes "mkvsuite 1")
 
--- a written TrackEntry
+-- the bytes of a written TrackEntry of audio with this TrackNumber and TrackUID
 abbrev pub written : ℕ → ℕ → List ℕ
 written number uid =
     0xAE ∷ 0x92 ∷ 0xD7 ∷ 0x81 ∷ number ∷ 0x73 ∷ 0xC5 ∷ 0x81 ∷ uid ∷
     0x83 ∷ 0x81 ∷ 2 ∷ 0x86 ∷ 0x86 ∷ codes "A_OPUS"
 
--- Written Info and Tracks, and refusals of a merge.
+-- The Info and Tracks of small merges, and merges that are refused.
 pub record AreRecords : Type 0 where
   -- The title is the command line's, or else the first title of an input that isn't empty.
   pub said : title_of (words (Some (codes "a"))) (titled (codes "b") ∷ []) ≡ codes "a"

@@ -1,4 +1,4 @@
-//! Cases of the blocks of a file, as a cursor reads them.
+//! Cases of the blocks of a file, as a cursor reads them (`blocks`).
 
 ghost use Rattle.mkv_io.specs.Sources.{IsLive, live_files};
 ghost use Rattle.cluster_reader.specs.Reading.{CanRead};
@@ -9,10 +9,11 @@ use mkv_io::{Damage, FileId, ReadEnd, Reads};
 use std::alloc::{AllocError, Global};
 use std::fmt::Write;
 
-/// Nanoseconds of a tick.
+/// Nanoseconds per tick of the blocks in the cases.
 const SCALE: u64 = 1_000_000;
 
-/// Appends to `text` what a cursor returns for `file`, a line for each call. At the end it calls once more.
+/// Appends to `text` a line for each step of a cursor over the blocks of `file`. At the end it makes one more step,
+/// which must be the end again.
 pub fn tell<R: Reads>(
     alloc: Global,
     src: &mut R,
@@ -30,6 +31,7 @@ pub fn tell<R: Reads>(
     }
 }
 
+/// Appends a line for each step of `cursor` to `text`, up to its second end or 1000 steps.
 fn tell_steps<R: Reads>(
     cursor: &mut Cursor,
     src: &mut R,
@@ -51,6 +53,7 @@ fn tell_steps<R: Reads>(
     Ok(())
 }
 
+/// Appends the line of one step of `cursor` to `text`: a block, damage, the end, or a failure.
 fn tell_step(
     cursor: &Cursor,
     step: Result<Step, ReadEnd>,
@@ -65,7 +68,7 @@ fn tell_step(
     }
 }
 
-/// Appends the damage, and whether reading stops at it.
+/// Appends the kind, ID and offset of `damage`, and whether reading stops at it.
 fn tell_damaged(damage: Damage, stopped: bool, text: &mut String) -> Result<(), AllocError> {
     let kind = damage.kind;
     let id = damage.id;
@@ -74,6 +77,8 @@ fn tell_damaged(damage: Damage, stopped: bool, text: &mut String) -> Result<(), 
     write!(text, "  {kind:?} {id:X} {offset}{stops}\n")
 }
 
+/// Appends the line of the cursor's block: its offset, track and time in nanoseconds, flags, frames, and other
+/// children.
 fn tell_block(cursor: &Cursor, text: &mut String) -> Result<(), AllocError> {
     let head = cursor.head();
     let offset = head.offset;
@@ -86,6 +91,7 @@ fn tell_block(cursor: &Cursor, text: &mut String) -> Result<(), AllocError> {
     text.push_str("\n")
 }
 
+/// Appends the flags of the cursor's block that are set.
 fn tell_flags(cursor: &Cursor, text: &mut String) -> Result<(), AllocError> {
     let head = cursor.head();
     tell_flag(head.key, " key", text)?;
@@ -94,11 +100,12 @@ fn tell_flags(cursor: &Cursor, text: &mut String) -> Result<(), AllocError> {
     tell_flag(head.group, " group", text)
 }
 
+/// Appends `word` if `flag` is true.
 fn tell_flag(flag: bool, word: &str, text: &mut String) -> Result<(), AllocError> {
     if flag { text.push_str(word) } else { Ok(()) }
 }
 
-/// Appends the lacing of a block, the sizes of its frames, and their bytes if there are at most 16.
+/// Appends the lacing of the cursor's block, the sizes of its frames, and their bytes if there are at most 16.
 fn tell_frames(cursor: &Cursor, text: &mut String) -> Result<(), AllocError> {
     let lace = cursor.head().lace;
     let sizes = cursor.sizes();
@@ -110,7 +117,7 @@ fn tell_frames(cursor: &Cursor, text: &mut String) -> Result<(), AllocError> {
     write!(text, " {body:?}")
 }
 
-/// Appends the other children of a BlockGroup.
+/// Appends the children of the cursor's BlockGroup other than its Block: duration, references and the rest.
 fn tell_rest(cursor: &Cursor, text: &mut String) -> Result<(), AllocError> {
     if let Some(duration) = cursor.head().duration {
         write!(text, " for {duration}")?;
@@ -119,6 +126,7 @@ fn tell_rest(cursor: &Cursor, text: &mut String) -> Result<(), AllocError> {
     tell_extra(cursor.extra(), text)
 }
 
+/// Appends the references of a BlockGroup in nanoseconds, if it has any.
 fn tell_references(references: &[i64], text: &mut String) -> Result<(), AllocError> {
     if references.is_empty() {
         return Ok(());
@@ -126,6 +134,7 @@ fn tell_references(references: &[i64], text: &mut String) -> Result<(), AllocErr
     write!(text, " refs {references:?}")
 }
 
+/// Appends the bytes of the other children of a BlockGroup, if it has any.
 fn tell_extra(extra: &[u8], text: &mut String) -> Result<(), AllocError> {
     if extra.is_empty() {
         return Ok(());

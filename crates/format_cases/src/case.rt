@@ -1,20 +1,20 @@
-//! A case, read from a line.
+//! A case of the tests, read from a line of standard input.
 
 use std::alloc::{AllocError, Global};
 
-/// Arguments of a call.
+/// Arguments of the call that a case tests.
 #[derive(Drop)]
 pub struct Case {
-    /// ID, or 0.
+    /// Element ID, or 0 if the case has none.
     pub id: u32,
-    /// Number, or 0.
+    /// Number whose meaning depends on the call, or 0 if the case has none.
     pub number: u64,
     pub octets: Vec<u8>,
 }
 
 impl Case {
-    /// Reads the case in `line`: a word, an ID in hexadecimal digits, a number, and bytes. The bytes of a word such
-    /// as `A3B4*3` are repeated three times.
+    /// Reads the case in `line`: a word, an ID in hexadecimal digits, a number, and bytes in hexadecimal digits. The
+    /// bytes of a word such as `A3B4*3` are repeated three times.
     pub fn read(alloc: Global, line: &str) -> Result<Case, AllocError> {
         let mut words = line.split_whitespace().skip(1);
         let id = id_of(words.next());
@@ -27,11 +27,12 @@ impl Case {
     }
 }
 
-/// Returns the word that names the call.
+/// Returns the first word of `line`, which names the call.
 pub fn word_of(line: &str) -> &str {
     line.split_whitespace().next().unwrap_or("")
 }
 
+/// Returns the Element ID that `word` spells in hexadecimal digits, or 0.
 fn id_of(word: Option<&str>) -> u32 {
     match word {
         Some(digits) => u32::from_str_radix(digits, 16).unwrap_or(0),
@@ -39,6 +40,7 @@ fn id_of(word: Option<&str>) -> u32 {
     }
 }
 
+/// Returns the number that `word` spells in decimal, or 0.
 fn number_of(word: Option<&str>) -> u64 {
     match word {
         Some(digits) => digits.parse().unwrap_or(0),
@@ -46,7 +48,7 @@ fn number_of(word: Option<&str>) -> u64 {
     }
 }
 
-/// Appends the bytes that `word` spells, or none if it isn't hexadecimal.
+/// Appends to `octets` the bytes that `word` spells in hexadecimal digits, or none if it isn't hexadecimal.
 fn add_word(alloc: Global, word: &str, octets: &mut Vec<u8>) -> Result<(), AllocError> {
     let (digits, times) = repeated(word);
     match hex::decode(alloc, digits) {
@@ -55,7 +57,7 @@ fn add_word(alloc: Global, word: &str, octets: &mut Vec<u8>) -> Result<(), Alloc
     }
 }
 
-/// Returns the digits of `word`, and how often their bytes are repeated.
+/// Returns the digits of `word` before its `*`, and the number after it: how often their bytes are repeated, or 1.
 fn repeated(word: &str) -> (&str, u32) {
     match word.split_once('*') {
         Some((digits, times)) => (digits, times.parse().unwrap_or(0)),
@@ -63,6 +65,7 @@ fn repeated(word: &str) -> (&str, u32) {
     }
 }
 
+/// Appends `times` copies of `once` to `octets`.
 fn add_times(once: &[u8], times: u32, octets: &mut Vec<u8>) -> Result<(), AllocError> {
     for _ in 0..times {
         octets.extend_from_slice(once)?;

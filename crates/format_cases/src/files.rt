@@ -1,4 +1,4 @@
-//! Cases of a file in memory with given bytes.
+//! Cases of a file in memory with given bytes (`level1` and `blocks`).
 
 ghost use Rattle.std.specs.Prelude.{◌≡◌};
 ghost use Rattle.mkv_io.specs.Sources.{IsLive};
@@ -9,7 +9,8 @@ use mkv_io::{FileId, Files, LONGEST_FILE, Reads};
 use mkv_memory::MemFiles;
 use std::alloc::{AllocError, Global};
 
-/// Makes a file `a.mkv` with the bytes `octets`. If `failing` isn't 0, the call of the files with this number fails.
+/// Makes a file `a.mkv` with the bytes `octets` in memory. If `failing` isn't 0, the call on the files with this
+/// number, from 0, fails.
 fn files_of(alloc: Global, octets: &[u8], failing: u64) -> Result<MemFiles, AllocError> {
     let mut files = MemFiles::new(alloc)?;
     if octets.len() as u64 <= LONGEST_FILE {
@@ -21,8 +22,8 @@ fn files_of(alloc: Global, octets: &[u8], failing: u64) -> Result<MemFiles, Allo
     Ok(files)
 }
 
-/// Appends the result of a case of a file. If the case's number isn't 0, the call of the files with this number
-/// fails; calls are counted from 0.
+/// Appends to `text` the result of the case with the name `word`. If the number of `case` isn't 0, the call on the
+/// files with this number, from 0, fails.
 pub fn tell_file(
     alloc: Global,
     word: &str,
@@ -36,6 +37,7 @@ pub fn tell_file(
     }
 }
 
+/// Appends the result of the case `word` for the open file `file`.
 fn tell_open<R: Reads>(
     alloc: Global,
     word: &str,

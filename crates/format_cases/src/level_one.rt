@@ -1,4 +1,4 @@
-//! Cases of the top-level Elements of a file.
+//! Cases of the Elements at level 1 of a file (`level1`).
 
 ghost use Rattle.mkv_io.specs.Sources.{IsLive, live_files};
 ghost use Rattle.element_reader.specs.LevelOne.{CanRead};
@@ -8,7 +8,8 @@ use mkv_io::{Failed, FileId, Reads};
 use std::alloc::{AllocError, Global};
 use std::fmt::Write;
 
-/// Appends to `text` the top-level Elements of `file`, a line for each call. At the end it calls once more.
+/// Appends to `text` a line for each Element at level 1 of `file`. At the end it asks once more, which must be the end
+/// again.
 pub fn tell<R: Reads>(
     alloc: Global,
     src: &mut R,
@@ -26,6 +27,7 @@ pub fn tell<R: Reads>(
     }
 }
 
+/// Appends a line for each Element that `elements` returns, up to its second end or 1000 calls.
 fn tell_elements<R: Reads>(
     elements: &mut LevelOne,
     src: &mut R,
@@ -47,6 +49,7 @@ fn tell_elements<R: Reads>(
     Ok(())
 }
 
+/// Appends the line of one call of the walk: a header, the end, or a failed read.
 fn tell_found(found: Result<Option<Header>, Failed>, text: &mut String) -> Result<(), AllocError> {
     match found {
         Ok(Some(header)) => tell_header(&header, text),
@@ -55,6 +58,7 @@ fn tell_found(found: Result<Option<Header>, Failed>, text: &mut String) -> Resul
     }
 }
 
+/// Appends the line of an Element: its ID, its offset, and the offset of its data.
 fn tell_header(header: &Header, text: &mut String) -> Result<(), AllocError> {
     let id = header.id;
     let offset = header.offset;

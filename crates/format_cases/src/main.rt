@@ -1,7 +1,7 @@
 #![tactic(auto)]
 
-//! Prints the results of cases from standard input. A line has a case: a word for a call, an ID, a number and bytes,
-//! each `-` if the call takes none. Each line is printed, and the result of a case follows its line.
+//! A test program: it prints the results of cases from standard input. A line has a case: a word for a call, an ID, a
+//! number and bytes, each `-` if the call takes none. Each line is printed, and the result of its case follows.
 
 use mkv_io::Damage;
 use std::alloc::{AllocError, Global};
@@ -18,7 +18,7 @@ mod trees;
 
 use case::Case;
 
-/// Appends a damage: its kind, ID and offset.
+/// Appends a damaged place to `text`: its kind, ID and offset in the file.
 fn tell_damage(damage: Damage, text: &mut String) -> Result<(), AllocError> {
     let kind = damage.kind;
     let id = damage.id;
@@ -26,7 +26,7 @@ fn tell_damage(damage: Damage, text: &mut String) -> Result<(), AllocError> {
     write!(text, "  {kind:?} {id:X} {offset}\n")
 }
 
-/// Appends bytes in hexadecimal digits, each after a space.
+/// Appends bytes in hexadecimal digits to `text`, each after a space.
 fn tell_octets(octets: &[u8], text: &mut String) -> Result<(), AllocError> {
     for octet in octets {
         write!(text, " {octet:02X}")?;
@@ -34,7 +34,7 @@ fn tell_octets(octets: &[u8], text: &mut String) -> Result<(), AllocError> {
     Ok(())
 }
 
-/// Appends the result of a case, in lines.
+/// Appends to `text` the result of `case`, in lines, for the call that `word` names. An unknown word has none.
 fn tell(alloc: Global, word: &str, case: &Case, text: &mut String) -> Result<(), AllocError> {
     match word {
         "element" => numbers::tell_element(case, text),
@@ -48,7 +48,7 @@ fn tell(alloc: Global, word: &str, case: &Case, text: &mut String) -> Result<(),
     }
 }
 
-/// Returns the result of the case in `line`.
+/// Returns the result of the case in `line`, as text in lines.
 fn answer(alloc: Global, line: &str) -> Result<String, AllocError> {
     let mut text = String::new(alloc);
     let case = Case::read(alloc, line)?;

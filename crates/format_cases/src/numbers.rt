@@ -1,4 +1,4 @@
-//! Cases of headers of Elements, and of rows of the table of Elements.
+//! Cases of Element headers (`element`), and of rows of the Matroska table (`row`).
 
 ghost use Rattle.std.specs.Prelude.{IfOk, IsTrue};
 ghost use Rattle.ebml_numbers.specs.Number.{is_id};
@@ -13,7 +13,7 @@ use mkv_schema::row;
 use std::alloc::AllocError;
 use std::fmt::Write;
 
-/// Reads the ID and the size at the beginning of `octets`.
+/// Reads the Element ID and the data size at the beginning of `octets`.
 fn header_of(octets: &[u8]) -> Result<(IdRead, SizeRead), NumFault>
     ensures { IfOk result (λ header. IsTrue (is_id header.0.id)) }
 {
@@ -22,7 +22,8 @@ fn header_of(octets: &[u8]) -> Result<(IdRead, SizeRead), NumFault>
     Ok((id, size))
 }
 
-/// Appends the ID and the size at the beginning of the bytes, each with its bytes as it is written again.
+/// Appends to `text` the ID and the size at the beginning of the case's bytes, each with the bytes that the code writes
+/// for it.
 pub fn tell_element(case: &Case, text: &mut String) -> Result<(), AllocError> {
     match header_of(case.octets.as_slice()) {
         Ok((id, size)) => tell_header(id.id, size.size, text),
@@ -31,6 +32,7 @@ pub fn tell_element(case: &Case, text: &mut String) -> Result<(), AllocError> {
 }
 
 #[tactic(auto, unfolding(ebml_numbers::specs::Number::is_id))]
+/// Appends the ID with its written bytes, and then the size.
 fn tell_header(id: u32, size: Size, text: &mut String) -> Result<(), AllocError>
     requires { IsTrue (is_id id) }
 {
@@ -39,6 +41,7 @@ fn tell_header(id: u32, size: Size, text: &mut String) -> Result<(), AllocError>
     tell_size(size, text)
 }
 
+/// Appends the size with its written bytes, or `unknown`.
 fn tell_size(size: Size, text: &mut String) -> Result<(), AllocError> {
     match size {
         Size::Known(size) if size < LONGEST_FILE => {
@@ -50,7 +53,7 @@ fn tell_size(size: Size, text: &mut String) -> Result<(), AllocError> {
     }
 }
 
-/// Appends the ID, name and kind of the row of the case's ID.
+/// Appends to `text` the ID, name and kind of the Matroska table's row for the case's ID.
 pub fn tell_row(case: &Case, text: &mut String) -> Result<(), AllocError> {
     match row(case.id) {
         Some(row) => write!(text, "  {:X} {} {:?}\n", row.id, row.name, row.kind),

@@ -1,4 +1,4 @@
-//! Cases of Infos and tracks. The header of each master is at offset 21, its body at 26.
+//! Cases of Infos (`info`) and tracks (`tracks`, `usable`). The header of each master is at offset 21, its data at 26.
 
 ghost use Rattle.std.specs.Prelude.{IfOk, All};
 ghost use Rattle.mkv_schema.specs.declared.ids.TheConstants.{INFO as INFO_ID};
@@ -17,10 +17,10 @@ use std::alloc::{AllocError, Global};
 use std::fmt::Write;
 use track_records::{Track, read_tracks, usable};
 
-/// Largest number of bytes of a body in a case.
+/// Greatest number of bytes of a master's data in a case.
 const MAX_ITEMS: usize = 1000;
 
-/// Reads the master with the ID `id` and the body `body` as a tree.
+/// Reads the master with the ID `id` and the data `body` as a tree.
 fn master_of(alloc: Global, id: u32, body: &[u8]) -> Result<Tree, TreeEnd>
     ensures { IfOk result (IsSoundOf id) }
 {
@@ -30,7 +30,7 @@ fn master_of(alloc: Global, id: u32, body: &[u8]) -> Result<Tree, TreeEnd>
     Tree::parse(alloc, id, 21, body, 26, 99)
 }
 
-/// Appends the TimestampScale of an Info.
+/// Appends to `text` the TimestampScale of the Info whose data the case has.
 pub fn tell_info(alloc: Global, case: &Case, text: &mut String) -> Result<(), AllocError> {
     match master_of(alloc, INFO, case.octets.as_slice()) {
         Ok(info) => tell_scale(&info, text),
@@ -38,6 +38,7 @@ pub fn tell_info(alloc: Global, case: &Case, text: &mut String) -> Result<(), Al
     }
 }
 
+/// Appends the TimestampScale of `info` in nanoseconds, or the damage for which it is refused.
 fn tell_scale(info: &Tree, text: &mut String) -> Result<(), AllocError>
     requires { IsSoundOf INFO_ID info.now }
 {
@@ -47,7 +48,7 @@ fn tell_scale(info: &Tree, text: &mut String) -> Result<(), AllocError>
     }
 }
 
-/// Reads the tracks of a Tracks Element with the body `body`.
+/// Reads the tracks of the Tracks Element with the data `body`.
 fn tracks_of(alloc: Global, body: &[u8]) -> Result<List<Track>, TreeEnd>
     ensures { IfOk result (All (λ track. IsEntry track.entry)) }
 {
@@ -55,7 +56,7 @@ fn tracks_of(alloc: Global, body: &[u8]) -> Result<List<Track>, TreeEnd>
     read_tracks(alloc, &tracks)
 }
 
-/// Appends the tracks of a Tracks Element, each in a line.
+/// Appends to `text` the tracks of the Tracks whose data the case has, each in a line.
 pub fn tell_tracks(alloc: Global, case: &Case, text: &mut String) -> Result<(), AllocError> {
     match tracks_of(alloc, case.octets.as_slice()) {
         Ok(tracks) => tell_each(tracks.as_slice(), text),
@@ -63,6 +64,7 @@ pub fn tell_tracks(alloc: Global, case: &Case, text: &mut String) -> Result<(), 
     }
 }
 
+/// Appends a line for each of `tracks`.
 fn tell_each(tracks: &[Track], text: &mut String) -> Result<(), AllocError> {
     for track in tracks {
         tell_track(track, text)?;
@@ -70,6 +72,7 @@ fn tell_each(tracks: &[Track], text: &mut String) -> Result<(), AllocError> {
     Ok(())
 }
 
+/// Appends the line of `track`: offset, type, codec, numbers, language, and the written length of its entry in bytes.
 fn tell_track(track: &Track, text: &mut String) -> Result<(), AllocError> {
     let offset = track.offset;
     let kind = track.type_name();
@@ -82,7 +85,8 @@ fn tell_track(track: &Track, text: &mut String) -> Result<(), AllocError> {
     write!(text, " language {language}, {length} octets\n")
 }
 
-/// Appends the bytes to put before each frame of the first track, or the reason why the frames can't be used.
+/// Appends to `text` the bytes to put before each frame of the first track in the case's Tracks. If its frames can't be
+/// used, it appends the reason.
 pub fn tell_usable(alloc: Global, case: &Case, text: &mut String) -> Result<(), AllocError> {
     match tracks_of(alloc, case.octets.as_slice()) {
         Ok(tracks) => tell_first(&tracks, text),
@@ -90,6 +94,7 @@ pub fn tell_usable(alloc: Global, case: &Case, text: &mut String) -> Result<(), 
     }
 }
 
+/// Appends the result for the first of `tracks`, or `none`.
 fn tell_first(tracks: &List<Track>, text: &mut String) -> Result<(), AllocError>
     requires { All (λ track. IsEntry track.entry) tracks.now }
 {
@@ -99,6 +104,7 @@ fn tell_first(tracks: &List<Track>, text: &mut String) -> Result<(), AllocError>
     }
 }
 
+/// Appends the bytes that header stripping removed from each frame of `track`, or the reason why they can't be used.
 fn tell_prefix(track: &Track, text: &mut String) -> Result<(), AllocError>
     requires { IsEntry track.now.entry }
 {

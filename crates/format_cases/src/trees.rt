@@ -1,4 +1,4 @@
-//! Cases of masters that are read as trees.
+//! Cases of masters that are read as trees (`tree`, `uint`, `int` and `text`).
 
 ghost use Rattle.std.specs.Prelude.{IfOk};
 ghost use Rattle.tree_format.specs.Node.{IsMaster};
@@ -11,10 +11,11 @@ use mkv_schema::is_master;
 use std::alloc::{AllocError, Global};
 use std::fmt::Write;
 
-/// Largest number of bytes of a body in a case.
+/// Greatest number of bytes of a master's data in a case.
 const MAX_ITEMS: usize = 1000;
 
-/// Reads a master of at most `nodes` Elements, with its header at offset 95 and its body at 100, as a tree.
+/// Reads the master with the ID `id` and the data `body`, of at most `nodes` Elements, as a tree. Its header is at
+/// offset 95 and its data at 100.
 fn master_of(alloc: Global, id: u32, body: &[u8], nodes: u32) -> Result<Tree, TreeEnd>
     ensures { IfOk result IsMaster }
 {
@@ -24,7 +25,7 @@ fn master_of(alloc: Global, id: u32, body: &[u8], nodes: u32) -> Result<Tree, Tr
     Tree::parse(alloc, id, 95, body, 100, nodes)
 }
 
-/// Appends the reason why a master isn't read.
+/// Appends to `text` the reason why a master isn't read.
 pub fn tell_end(end: TreeEnd, text: &mut String) -> Result<(), AllocError> {
     match end {
         TreeEnd::Damage(damage) => tell_damage(damage, text),
@@ -32,7 +33,8 @@ pub fn tell_end(end: TreeEnd, text: &mut String) -> Result<(), AllocError> {
     }
 }
 
-/// Appends the result of a case of a master. The case's number is the largest number of Elements that it may have.
+/// Appends to `text` the result of the case `word` for the master whose data the case has. The case's number is the
+/// greatest number of Elements that it may have.
 pub fn tell_master(
     alloc: Global,
     word: &str,
@@ -46,6 +48,7 @@ pub fn tell_master(
     }
 }
 
+/// Appends the result of the case `word` for `tree`: its normal form, or the value of its first child.
 fn tell_tree(alloc: Global, word: &str, tree: &Tree, text: &mut String) -> Result<(), AllocError> {
     match (word, tree.at(0)) {
         ("tree", _) => tell_normal_form(alloc, tree, text),
@@ -56,7 +59,7 @@ fn tell_tree(alloc: Global, word: &str, tree: &Tree, text: &mut String) -> Resul
     }
 }
 
-/// Appends the depth of a tree, the number of bytes of its normal form, and the bytes of a copy's normal form.
+/// Appends the depth of `tree`, the length of its normal form in bytes, and the bytes of a copy's normal form.
 fn tell_normal_form(alloc: Global, tree: &Tree, text: &mut String) -> Result<(), AllocError> {
     write!(
         text,
@@ -68,7 +71,7 @@ fn tell_normal_form(alloc: Global, tree: &Tree, text: &mut String) -> Result<(),
     tell_written(alloc, &copy, text)
 }
 
-/// Appends the bytes of a normal form.
+/// Appends the bytes of the normal form of `tree`.
 fn tell_written(alloc: Global, tree: &Tree, text: &mut String) -> Result<(), AllocError> {
     let mut out = Bytes::new(alloc);
     tree.put(&mut out)?;
@@ -76,6 +79,7 @@ fn tell_written(alloc: Global, tree: &Tree, text: &mut String) -> Result<(), All
     text.push_str("\n")
 }
 
+/// Appends the value of `child` as an unsigned integer, unless it has more than 8 bytes.
 fn tell_uint(child: &Tree, text: &mut String) -> Result<(), AllocError> {
     if child.body().len() > 8 {
         return text.push_str("  too long\n");
@@ -83,6 +87,7 @@ fn tell_uint(child: &Tree, text: &mut String) -> Result<(), AllocError> {
     write!(text, "  {}\n", child.uint())
 }
 
+/// Appends the value of `child` as a signed integer, unless it has more than 8 bytes.
 fn tell_int(child: &Tree, text: &mut String) -> Result<(), AllocError> {
     if child.body().len() > 8 {
         return text.push_str("  too long\n");
@@ -90,7 +95,7 @@ fn tell_int(child: &Tree, text: &mut String) -> Result<(), AllocError> {
     write!(text, "  {}\n", child.int())
 }
 
-/// Appends the bytes of a text, and all bytes of its Element's body.
+/// Appends the bytes of the text of `child` up to a zero byte, and all bytes of its data.
 fn tell_text(child: &Tree, text: &mut String) -> Result<(), AllocError> {
     text.push_str("  text")?;
     tell_octets(child.text(), text)?;

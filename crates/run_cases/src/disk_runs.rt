@@ -1,4 +1,4 @@
-//! Runs over a disk in memory that are stopped and recovered.
+//! Runs over a disk in memory whose calls fail, one of them or all from one on, and their recovery.
 
 ghost use Rattle.std.specs.Prelude.{IfOk};
 ghost use Rattle.mkv_disk.specs.Pair.{IsSynced};
@@ -14,16 +14,17 @@ use mkv_lines::Status;
 use mkv_memory::{MemDisk, MemFiles};
 use std::alloc::Global;
 
-/// Number of images of a crash that are tried; each is made by its number, the pick.
+/// Number of crash images that are tried of each disk; the number of an image is its pick.
 const PICKS: u64 = 6;
 
-/// Number of calls after which a run must have ended.
+/// Number of calls that fail in turn; a run must have ended by itself before that.
 const CALLS: u64 = 200;
 
-/// Number of calls that must stop a run, at least.
+/// Least number of calls whose failure must stop a run, so that a case doesn't pass without a test.
 const STOPS: u64 = 11;
 
-/// Returns a disk with the film and the journal. Its call number `call` fails, and all later ones if `stops`.
+/// Returns a disk with the bytes `film` and `journal` of the case. Its call number `call`, from 0, fails, and all later
+/// ones if `stops`.
 fn failing_disk(alloc: Global, reading: &Reading, call: u64, stops: bool) -> Result<MemDisk, Fault>
     ensures { IfOk result (λ disk. IsSynced (pair_in (seen disk))) }
 {
@@ -40,7 +41,7 @@ fn failing_disk(alloc: Global, reading: &Reading, call: u64, stops: bool) -> Res
     Ok(disk)
 }
 
-/// Returns the command line that recovers the film.
+/// Returns the command line `recover out.mkv`.
 fn recover_words(alloc: Global) -> Result<Vec<String>, Fault> {
     let mut words = Vec::new(alloc);
     words.push("recover".to_string(alloc)?)?;
@@ -48,7 +49,7 @@ fn recover_words(alloc: Global) -> Result<Vec<String>, Fault> {
     Ok(words)
 }
 
-/// Returns the bytes of the film on `disk`.
+/// Returns the bytes of the film on `disk`, for the comparison with the expected ones.
 fn film_on(alloc: Global, mut disk: MemDisk) -> Result<Vec<u8>, Fault> {
     if disk.open_pair("").is_err() {
         return Err(Fault::Memory);
@@ -60,7 +61,8 @@ fn film_on(alloc: Global, mut disk: MemDisk) -> Result<Vec<u8>, Fault> {
     }
 }
 
-/// Command line that is stopped, the command line that recovers it, and the bytes to begin with.
+/// Edit that is stopped and recovered. `reading` has its command line and the bytes to begin with; `recover` is the
+/// command line that recovers.
 #[derive(Drop)]
 struct Edit<'a> {
     alloc: Global,
@@ -69,7 +71,8 @@ struct Edit<'a> {
 }
 
 impl Edit<'_> {
-    /// Runs `recover` on `disk`, and checks whether it makes the edited film, or the one that may stay if not `ended`.
+    /// Runs `recover` on `disk`, and checks whether it makes the edited film. If not `ended`, it may also make the film
+    /// `unedited` of the case.
     fn is_recovered(&self, mut disk: MemDisk, ended: bool) -> Result<bool, Fault>
         requires { IsSynced (pair_in (seen disk)) }
     {
@@ -81,7 +84,7 @@ impl Edit<'_> {
         Ok(status == Status::Done && (is_edited || may_stay))
     }
 
-    /// Checks whether each image that a crash may leave of `disk` is recovered.
+    /// Checks whether `recover` repairs each image that a crash may leave of `disk`; `ended` as for `is_recovered`.
     fn are_recovered(&self, disk: &MemDisk, ended: bool) -> Result<bool, Fault> {
         for pick in 0..PICKS {
             if !self.is_recovered(disk.crashed(self.alloc, pick)?, ended)? {
@@ -91,8 +94,8 @@ impl Edit<'_> {
         Ok(true)
     }
 
-    /// Runs the command while the call number `call` fails, and all later ones if `stops`. Returns whether it ended as if
-    /// no call failed.
+    /// Runs the command while the call number `call`, from 0, fails, and all later ones if `stops`. Fails unless the
+    /// disk can be recovered. Returns whether it ended as if no call failed.
     fn ends(&self, call: u64, stops: bool) -> Result<bool, Fault> {
         let mut files = MemFiles::new(self.alloc)?;
         let mut disk = failing_disk(self.alloc, self.reading, call, stops)?;
@@ -104,7 +107,8 @@ impl Edit<'_> {
     }
 }
 
-/// Makes each call fail in turn, and all later ones if `stops`. At least `STOPS` calls must stop the run.
+/// Runs `disk fails`, or `disk stops` if `stops`: makes each call fail in turn, and all later ones if `stops`. At least
+/// `STOPS` calls must stop the run.
 pub fn check(alloc: Global, reading: &Reading, stops: bool) -> Result<String, Fault> {
     let recover = recover_words(alloc)?;
     let edit = Edit {

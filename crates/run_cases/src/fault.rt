@@ -1,4 +1,4 @@
-//! The reasons why a case fails.
+//! The reasons why a case of the tests fails.
 
 ghost use Rattle.std.specs.Prelude.{◌≡◌};
 
@@ -12,12 +12,12 @@ pub enum Fault {
     Memory,
     /// A line of the cases isn't valid.
     Unread,
-    /// A result differs while this call fails.
+    /// A run differs from the expected one, in `what`, while the call number `call`, from 0, fails.
     Differs { what: &'static str, call: u64 },
 }
 
 impl Fault {
-    /// Fails with `Differs` unless `holds`.
+    /// Fails with `Differs`, with `what` and `call`, unless `holds` is true.
     pub fn unless(holds: bool, what: &'static str, call: u64) -> Result<(), Fault> {
         if holds {
             Ok(())
@@ -28,6 +28,7 @@ impl Fault {
 }
 
 impl fmt::Display for Fault {
+    /// Writes the reason as a case's result prints it.
     fn fmt<W: fmt::Write>(&self, f: &mut fmt::Formatter<W>) -> fmt::Result {
         match self {
             Fault::Memory => write!(f, "no memory"),

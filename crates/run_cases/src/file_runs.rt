@@ -1,4 +1,4 @@
-//! Runs over files in memory while a call fails.
+//! Runs over files in memory, while one of their calls fails.
 
 use crate::fault::Fault;
 use crate::reading::Reading;
@@ -7,13 +7,13 @@ use mkv_io::LONGEST_FILE;
 use mkv_memory::{MemDisk, MemFiles};
 use std::alloc::Global;
 
-/// Number of calls that fail in turn. The last of them must be later than the last call of a run.
+/// Number of calls that fail in turn. The last of them must come after the last call of a run.
 const CALLS: u64 = 80;
 
-/// Number of bytes that a failing append keeps.
+/// Number of bytes that a failing append still writes.
 const KEPT: u64 = 1;
 
-/// Returns the files that exist before the run.
+/// Returns the files that exist before the run: each part of the case whose name has a dot.
 fn files_before(alloc: Global, reading: &Reading) -> Result<MemFiles, Fault> {
     let mut files = MemFiles::new(alloc)?;
     for part in &reading.parts {
@@ -27,7 +27,7 @@ fn files_before(alloc: Global, reading: &Reading) -> Result<MemFiles, Fault> {
     Ok(files)
 }
 
-/// Checks whether a stopped run may leave the bytes `left` in the output.
+/// Checks whether a stopped run may leave the bytes `left` in `out.mkv`, or no such file.
 fn is_left(reading: &Reading, left: Option<&[u8]>) -> bool {
     match left {
         Some(octets) => {
@@ -39,7 +39,8 @@ fn is_left(reading: &Reading, left: Option<&[u8]>) -> bool {
     }
 }
 
-/// Runs the command over `files`. Returns whether it ended as if no call failed.
+/// Runs the command over `files`, whose call number `call`, from 0, fails. Returns whether it ended as if no call
+/// failed.
 fn ends_over(
     alloc: Global,
     reading: &Reading,
@@ -51,7 +52,8 @@ fn ends_over(
     has_ended(status, &report, reading.said.as_str(), "fault: files", call)
 }
 
-/// Runs the command while the call number `call` fails. Returns the length of the output if the run was stopped.
+/// Runs the command while the call number `call`, from 0, fails, and checks its output. Returns the length of the
+/// output if the run was stopped, and None if not.
 fn left_by(alloc: Global, reading: &Reading, call: u64) -> Result<Option<usize>, Fault> {
     let mut files = files_before(alloc, reading)?;
     files.fail_at(call, KEPT)?;
@@ -65,7 +67,8 @@ fn left_by(alloc: Global, reading: &Reading, call: u64) -> Result<Option<usize>,
     Ok(Some(left.unwrap_or(&[]).len()))
 }
 
-/// Makes each call fail in turn. Returns the lengths of the output after the stopped runs, without repetitions.
+/// Runs `calls fail`: makes each call fail in turn. Returns the lengths of the output after the stopped runs, without
+/// repetitions.
 ///
 /// A call for a journal that doesn't exist doesn't fail, so a run may end well before the last one that is stopped.
 pub fn lengths_left(alloc: Global, reading: &Reading) -> Result<Vec<usize>, Fault> {

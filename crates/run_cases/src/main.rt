@@ -1,7 +1,7 @@
 #![tactic(auto)]
 
-//! A merge, an edit and a recovery over files and a disk in memory, while a call fails or all calls from one on. The
-//! lines of the file `stdin` name bytes and start runs; the module `reading` describes them.
+//! A test program: a merge, an edit and a recovery over files and a disk in memory, whose calls fail. One call fails,
+//! or all from one on. The lines of the file `stdin` name bytes and start runs; the module `reading` describes them.
 
 mod disk_runs;
 mod fault;
@@ -15,7 +15,7 @@ use std::alloc::Global;
 use std::fmt::Write;
 use std::io;
 
-/// Returns the lengths in `lengths` as text, each after a space.
+/// Returns the numbers in `lengths` as text, each after a space.
 fn listed(alloc: Global, lengths: &[usize]) -> Result<String, Fault> {
     let mut text = String::new(alloc);
     for length in lengths {
@@ -24,7 +24,8 @@ fn listed(alloc: Global, lengths: &[usize]) -> Result<String, Fault> {
     Ok(text)
 }
 
-/// Runs what a line asks for, and returns the result; or reads the line, and returns an empty text.
+/// Runs what `line` asks for, and returns the text of the result. A line that starts no run is read into `reading`, and
+/// the text is empty.
 fn answer(alloc: Global, line: &str, reading: &mut Reading) -> Result<String, Fault> {
     match line {
         "calls fail" => listed(alloc, file_runs::lengths_left(alloc, reading)?.as_slice()),
@@ -34,7 +35,7 @@ fn answer(alloc: Global, line: &str, reading: &mut Reading) -> Result<String, Fa
     }
 }
 
-/// Prints the result of a line that starts a run.
+/// Prints the result of `line`, if it starts a run.
 fn take_line(rt: &(impl Print + AllocGlobal), line: &str, reading: &mut Reading) -> io::Result<()> {
     match answer(rt.alloc(), line, reading) {
         Ok(text) if text.is_empty() => Ok(()),

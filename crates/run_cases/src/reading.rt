@@ -9,9 +9,9 @@
 //!     disk fails, disk stops      runs it over a disk in memory, while each call fails in turn, or all calls from
 //!                                 each one on
 //!
-//! `calls fail` begins with the files whose names are those of parts with a dot. A run that no call stops leaves the
-//! bytes `whole` in `out.mkv`. Any other run ends with 4 and prints only the message of the failure; it leaves the bytes
-//! that `out.mkv` had, a first part of `grown`, or `nearly`. The printed numbers are the lengths of `out.mkv` after the
+//! `calls fail` begins with the parts whose name has a dot, as files. A run that no call stops leaves the bytes `whole`
+//! in `out.mkv`. Any other run ends with 4 and prints only the message of the failure. It leaves the bytes that
+//! `out.mkv` had, a first part of `grown`, or `nearly`. The printed numbers are the lengths of `out.mkv` after the
 //! stopped runs, without repetitions.
 //!
 //! `disk fails` and `disk stops` begin with the bytes `film` and `journal`. A run that no call stops leaves `edited`.
@@ -20,14 +20,15 @@
 use crate::fault::Fault;
 use std::alloc::Global;
 
-/// Name with bytes.
+/// Part of a case: a name with bytes.
 #[derive(Drop)]
 pub struct Named {
     pub name: String,
     pub octets: Vec<u8>,
 }
 
-/// Named parts, the latest last, and the command line with its line of output.
+/// Result of the lines that were read: named parts, the latest last, and the command line with its expected line of
+/// output.
 #[derive(Drop)]
 pub struct Reading {
     alloc: Global,
@@ -57,12 +58,12 @@ impl Reading {
         None
     }
 
-    /// Returns the bytes of the part `name`, or none.
+    /// Returns the bytes of the part `name`, or no bytes if there is no such part.
     pub fn octets(&self, name: &str) -> &[u8] {
         self.part(name).unwrap_or(&[])
     }
 
-    /// Reads a line that starts no run, and returns an empty text.
+    /// Reads a line that starts no run: a comment, a command line, an expected line, or a part. Returns an empty text.
     pub fn line(&mut self, line: &str) -> Result<String, Fault> {
         match line.split_once(' ') {
             None | Some(("#", _)) => {}
@@ -73,6 +74,7 @@ impl Reading {
         Ok(String::new(self.alloc))
     }
 
+    /// Reads the command line of the next runs, whose words have spaces between them.
     fn read_words(&mut self, line: &str) -> Result<(), Fault> {
         self.words = Vec::new(self.alloc);
         for word in line.split_whitespace() {
@@ -81,6 +83,7 @@ impl Reading {
         Ok(())
     }
 
+    /// Adds the part `name` with the bytes that `spelled` gives: a `=`, and words of `add_word`.
     fn read_part(&mut self, name: &str, spelled: &str) -> Result<(), Fault> {
         let mut octets = Vec::new(self.alloc);
         for word in spelled.split_whitespace().skip(1) {
@@ -91,7 +94,8 @@ impl Reading {
         Ok(())
     }
 
-    /// Appends the bytes that `word` means.
+    /// Appends to `octets` the bytes that `word` spells: hexadecimal digits or the name of a part, with `*N` after it
+    /// for N copies.
     fn add_word(&self, word: &str, octets: &mut Vec<u8>) -> Result<(), Fault> {
         let (once, times) = word.split_once('*').unwrap_or((word, "1"));
         let times = times.parse::<u32>().or(Err(Fault::Unread))?;
@@ -105,6 +109,7 @@ impl Reading {
     }
 }
 
+/// Appends `times` copies of `once` to `octets`.
 fn add_times(once: &[u8], times: u32, octets: &mut Vec<u8>) -> Result<(), Fault> {
     for _ in 0..times {
         octets.extend_from_slice(once)?;

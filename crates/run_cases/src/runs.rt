@@ -1,4 +1,4 @@
-//! A run over objects in memory, and its end.
+//! A run over files and a disk in memory, and the check of its end.
 
 ghost use Rattle.mkv_disk.specs.Pair.{IsSynced};
 ghost use Rattle.mkv_memory.specs.DiskIn.{seen};
@@ -10,7 +10,7 @@ use mkv_memory::{MemDisk, MemFiles, MemReport};
 use mkv_run::run_command_line;
 use std::alloc::Global;
 
-/// Runs the command line `words`. Returns its status, and the report with its lines.
+/// Runs the command line `words` over `files` and `disk`. Returns its status, and the report with its lines.
 pub fn run_over(
     alloc: Global,
     words: &Vec<String>,
@@ -29,8 +29,9 @@ fn has_said(report: &MemReport, said: &str) -> bool {
     report.line(0) == Some(said) && report.line(1).is_none()
 }
 
-/// Checks whether a run ended as if no call failed, with the line `said`, or was stopped by the call number `call`, with
-/// the line `fault`. Returns whether it ended.
+/// Checks the end of a run that returned `status` and printed `report`. It ended as if no call failed, with the line
+/// `said`, or was stopped by the call number `call`, with the line `fault`. Returns whether it ended; anything else is
+/// a `Fault`.
 pub fn has_ended(
     status: Status,
     report: &MemReport,
