@@ -8,11 +8,11 @@ use Rattle.tree_format.specs.Changes.{part}
 
 -- ---- editions and atoms
 
--- the editions, in their order
+-- the editions of `chapters`, in their order
 abbrev pub editions_of : Node → List Node
 editions_of chapters = part EDITION_ENTRY (children chapters)
 
--- the atoms at an element: itself if it is an atom, and then the atoms inside it, in their order
+-- the atoms at a node: itself if it is an atom, and then the atoms inside it, in reading order
 abbrev mutual
   pub atoms_at : Node → List Node
   atoms_at (leaf id at body) = []
@@ -22,32 +22,32 @@ abbrev mutual
   atoms_among none = []
   atoms_among (node n ns) = atoms_at n ++ atoms_among ns
 
--- the atoms of an edition, nested ones included
+-- the atoms of `edition`, nested ones included, in reading order
 abbrev pub atoms_inside : Node → List Node
 atoms_inside edition = atoms_among (nodes_of (children edition))
 
--- the atoms of all editions of Chapters, nested ones included
+-- the atoms of all editions of `chapters`, nested ones included, in reading order
 abbrev pub atoms_of : Node → List Node
 atoms_of chapters = flat_map atoms_inside (editions_of chapters)
 
 -- ---- identifiers
 
--- the unsigned integer of the first child with the ID `id`, or 0 if it is absent
+-- the unsigned integer of the first child of `n` with the ID `id`, or 0 if it is absent
 abbrev pub value_in : ℕ → Node → ℕ
 value_in id n = option_map_or integer_of (first_child id n) 0
 
--- the EditionUID of a child of Chapters, if it is an edition
+-- the EditionUID of `child`, a child of Chapters, if it is an edition, as a list
 abbrev pub own_uids : Node → List ℕ
 own_uids child = map (value_in EDITION_UID) (part EDITION_ENTRY (child ∷ []))
 
--- the ChapterUIDs in a child of Chapters, if it is an edition
+-- the ChapterUIDs of the atoms in `child`, a child of Chapters, if it is an edition
 abbrev pub inner_uids : Node → List ℕ
 inner_uids child = map (value_in CHAPTER_UID) (flat_map atoms_inside (part EDITION_ENTRY (child ∷ [])))
 
--- the EditionUIDs of all editions
+-- the EditionUIDs of all editions of `chapters`; an absent one is 0
 abbrev pub edition_uids : Node → List ℕ
 edition_uids chapters = map (value_in EDITION_UID) (editions_of chapters)
 
--- the ChapterUIDs of all atoms of Chapters
+-- the ChapterUIDs of all atoms of `chapters`; an absent one is 0
 abbrev pub chapter_uids : Node → List ℕ
 chapter_uids chapters = map (value_in CHAPTER_UID) (atoms_of chapters)

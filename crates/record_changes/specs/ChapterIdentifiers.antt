@@ -5,28 +5,30 @@ use Rattle.tree_format.specs.Node.{Node, Nodes, leaf, master, none, node, nodes_
 use Rattle.tree_format.specs.Children.{uint_leaf, set_in}
 use Rattle.record_changes.specs.Atoms.{editions_of, atoms_at, atoms_inside}
 
--- a child of an edition with new identifiers. An atom gets the one at index `k`, the atoms inside it get the next ones, and others are unchanged
+-- a child of an edition or atom with new identifiers. An atom gets the one at the index `k` in `uids`, the atoms inside it get the next ones. Others
+-- are unchanged.
 abbrev mutual
   pub numbered : List ℕ → ℕ → Node → Node
   numbered uids k (leaf id at body) = leaf id at body
   numbered uids k (master id at kids) =
       if id == CHAPTER_ATOM then set_in (uint_leaf CHAPTER_UID (slice_index uids k)) (master id at (nodes_of (numbered_among uids (k + 1) kids))) else master id at kids
 
-  -- children in sequence, whose first atom gets the identifier at index `k`
+  -- the list of children with new identifiers: the first atom gets the one at the index `k` in `uids`
   pub numbered_among : List ℕ → ℕ → Nodes → List Node
   numbered_among uids k none = []
   numbered_among uids k (node n ns) = numbered uids k n ∷ numbered_among uids (k + length (atoms_at n)) ns
 
--- an edition with the identifier `uid`, whose first atom gets the identifier at index `k`
+-- `edition` with the EditionUID `uid`; its first atom gets the identifier at the index `k` in `uids`
 abbrev pub numbered_edition : ℕ → List ℕ → ℕ → Node → Node
 numbered_edition uid uids k edition = set_in (uint_leaf EDITION_UID uid) (with_children edition (numbered_among uids k (nodes_of (children edition))))
 
--- editions in sequence, whose first one gets the identifier at index `j`, and its first atom the one at index `k`
+-- the editions in the list with new identifiers. The first edition gets the one at the index `j` in `editions`, and its first atom the one at `k` in
+-- `uids`.
 abbrev pub numbered_editions : List ℕ → List ℕ → ℕ → ℕ → List Node → List Node
 numbered_editions editions uids j k [] = []
 numbered_editions editions uids j k (e ∷ es) =
     numbered_edition (slice_index editions j) uids k e ∷ numbered_editions editions uids (j + 1) (k + length (atoms_inside e)) es
 
--- a Chapters element whose editions have the identifiers `editions`, and whose atoms have `uids`, in their order; other children are left out
+-- `chapters` with the EditionUIDs `editions` and the ChapterUIDs `uids`, in reading order; children other than editions are left out
 abbrev pub with_identifiers : List ℕ → List ℕ → Node → Node
 with_identifiers editions uids chapters = with_children chapters (numbered_editions editions uids 0 0 (editions_of chapters))

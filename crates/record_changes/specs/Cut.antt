@@ -1,4 +1,5 @@
--- The chapters of a Chapters element within a period of time: RFC 9559, section 5.1.7 (Chapters). The rule for a period is this project's.
+-- The chapters of a Chapters element within a period of time, for one part of a split: RFC 9559, section 5.1.7 (Chapters). The rule for a period is
+-- this project's.
 use Rattle.std.specs.Prelude.{ℕ, ◌-◌, ◌==◌, min, max, nat_lt, Bool, ◌&&◌, if◌then◌else◌, List, [], ◌∷◌, ◌++◌, flat_map, find, Option, Some, None}
 use Rattle.std.specs.Option.{option_map, option_or}
 use Rattle.std.specs.List.{list_any}
@@ -12,45 +13,46 @@ use Rattle.record_changes.specs.Before.{is_before}
 
 -- ---- times
 
--- A chapter from `start` to `end` is in the period `s`. It starts in it, or starts before it and ends after its start.
+-- A chapter from `start` to `end` nanoseconds is in the period `s`: it starts in it, or starts before it and ends after its start. A chapter without
+-- an end never ends.
 abbrev pub takes : Stretch → ℕ → Option ℕ → Bool
 takes s start end = if nat_lt start s.from then is_before end s.from else is_before s.to start
 
--- a time limited to at most `limit`, if there is one
+-- the time `time`, at most `limit` if there is one
 abbrev pub up_to : Option ℕ → ℕ → ℕ
 up_to None time = time
 up_to (Some limit) time = min time limit
 
--- a time limited to the period `s`, relative to its start
+-- the time `time`, in nanoseconds, limited to the period `s` and relative to its start
 abbrev pub within : Stretch → ℕ → ℕ
 within s time = up_to s.to (max time s.from) - s.from
 
 -- ---- one atom
 
--- the start of an atom in nanoseconds
+-- the start of `atom` in nanoseconds, or 0 if it has none
 abbrev pub start_of : Node → ℕ
 start_of atom = value_in CHAPTER_TIME_START atom
 
--- the start of the first atom in `ns`
+-- the start of the first atom in `ns`, in nanoseconds, if there is one
 abbrev pub next_start : List Node → Option ℕ
 next_start ns = option_map start_of (find (λ n. id_of n == CHAPTER_ATOM) ns)
 
--- the end of an atom: its ChapterTimeEnd, or the start of the next atom, or none
+-- the end of `atom` in nanoseconds: its ChapterTimeEnd, or `next`, the start of the next atom, if there is one
 abbrev pub end_of : Node → Option ℕ → Option ℕ
 end_of atom next = option_or (integer_in CHAPTER_TIME_END atom) next
 
--- the ChapterTimeEnd `end`, if present, limited to the period `s`
+-- a ChapterTimeEnd of `end` nanoseconds, limited to the period `s`; none without `end`
 abbrev pub end_within : Stretch → Option ℕ → List Node
 end_within s end = given (λ time. uint_leaf CHAPTER_TIME_END (within s time)) end
 
--- the start and the end, if present, of an atom limited to the period `s`
+-- the start of `atom`, and its end if present, as new children limited to the period `s`
 abbrev pub times_within : Stretch → Node → List Node
 times_within s atom = uint_leaf CHAPTER_TIME_START (within s (start_of atom)) ∷ end_within s (integer_in CHAPTER_TIME_END atom)
 
 -- ---- all atoms
 
--- a child cut to the period `s`, if the next atom beside it starts at `next`. An atom in the period keeps its atoms in the period, and other
--- children are unchanged
+-- a child of an edition or atom, cut to the period `s`, as a list; `next` is the start of the next atom beside it. An atom outside the period is left
+-- out. An atom in it keeps the atoms inside that are in the period, and other children are unchanged.
 abbrev mutual
   pub cut_at : Stretch → Node → Option ℕ → List Node
   cut_at s (leaf id at body) next = leaf id at body ∷ []
@@ -66,23 +68,23 @@ abbrev mutual
   cut_among s none = []
   cut_among s (node n ns) = cut_at s n (next_start (list_of ns)) ++ cut_among s ns
 
--- an edition or atom with its children cut to the period
+-- `n`, an edition or atom, with its children cut to the period `s`
 abbrev pub cut_inside : Stretch → Node → Node
 cut_inside s n = with_children n (cut_among s (nodes_of (children n)))
 
--- The edition has an atom.
+-- The edition has an atom directly in it.
 abbrev pub has_atom : Node → Bool
 has_atom edition = list_any (λ n. id_of n == CHAPTER_ATOM) (children edition)
 
--- a child of Chapters cut to the period, if it is an edition with an atom in it
+-- `n`, a child of Chapters, cut to the period `s`, if it is an edition with an atom in the period
 abbrev pub edition_within : Stretch → Node → List Node
 edition_within s n = if id_of n == EDITION_ENTRY && has_atom (cut_inside s n) then cut_inside s n ∷ [] else []
 
--- a master with the given children, or nothing if there are none
+-- the master `tree` with the children in the list, or none if the list is empty
 abbrev pub unless_empty : Node → List Node → Option Node
 unless_empty tree [] = None
 unless_empty tree (n ∷ ns) = Some (with_children tree (n ∷ ns))
 
--- the editions with an atom in the period, cut to it, or nothing if there are none
+-- the Chapters `chapters` cut to the period `s`: its editions with an atom in it. There is none without such editions.
 abbrev pub cut : Stretch → Node → Option Node
 cut s chapters = unless_empty chapters (flat_map (edition_within s) (children chapters))

@@ -3,7 +3,7 @@
 use Rattle.std.specs.Prelude.{◌≢◌, ◌<◌, ℕ, ◌+◌, ◌==◌, Bool, not, ◌&&◌, if◌then◌else◌, List, [], ◌∷◌, ◌++◌, length, All, find, unwrap_or}
 use Rattle.std.specs.List.{list_any, range_with_len, AllPairs}
 
--- The number isn't in the list.
+-- The number `n` isn't in `taken`.
 abbrev pub is_free : List ℕ → ℕ → Bool
 is_free taken n = not (list_any (λ m. n == m) taken)
 
@@ -11,17 +11,18 @@ is_free taken n = not (list_any (λ m. n == m) taken)
 abbrev pub smallest_free : List ℕ → ℕ
 smallest_free taken = unwrap_or (find (is_free taken) (range_with_len 1 (length taken + 1))) 0
 
--- the output's number for the identifier `id`, after `given`: itself if it is positive and new, or the smallest positive number in neither list
+-- the output's number for the identifier `id` of an input: itself if it is positive and not in `given`. If not, it is the smallest positive number in
+-- neither `source`, the inputs' identifiers, nor `given`.
 abbrev pub number_for : List ℕ → List ℕ → ℕ → ℕ
 number_for source given id = if not (id == 0) && is_free given id then id else smallest_free (source ++ given)
 
--- the output's numbers for the next identifiers of a source
+-- the output's numbers for a list of identifiers, after the numbers `given`; `source` has all identifiers of the inputs
 abbrev pub renumbered_from : List ℕ → List ℕ → List ℕ → List ℕ
 renumbered_from source given [] = []
 renumbered_from source given (id ∷ ids) =
     number_for source given id ∷ renumbered_from source (given ++ number_for source given id ∷ []) ids
 
--- the output's numbers for identifiers in the order of writing; an absent identifier is 0
+-- the output's numbers for the identifiers `ids` of the inputs, in the order of writing; an absent identifier is 0
 abbrev pub renumbered : List ℕ → List ℕ
 renumbered ids = renumbered_from ids [] ids
 

@@ -1,4 +1,4 @@
--- A Chapters element with later chapters: RFC 9559, section 5.1.7 (Chapters). The shift is this project's.
+-- The Chapters of an appended input, moved by its append offset: RFC 9559, section 5.1.7 (Chapters). The shift is this project's.
 use Rattle.std.specs.Prelude.{ℕ, ◌+◌, ◌-◌, ◌^◌, ◌==◌, min, Bool, ◌||◌, if◌then◌else◌, List, [], ◌∷◌, ◌++◌, map}
 use Rattle.std.specs.List.{list_any}
 use Rattle.mkv_schema.specs.declared.ids.TheConstants.{EDITION_ENTRY, CHAPTER_ATOM, CHAPTER_TIME_START, CHAPTER_TIME_END}
@@ -6,27 +6,27 @@ use Rattle.tree_format.specs.Node.{Node, Nodes, leaf, master, none, node, nodes_
 use Rattle.tree_format.specs.Values.{integer_of}
 use Rattle.tree_format.specs.Children.{uint_leaf}
 
--- a time in nanoseconds, later by `by`, and at most the largest 64-bit number
+-- the time `time` in nanoseconds, later by `by`, and at most the greatest 64-bit number
 abbrev pub later : ℕ → ℕ → ℕ
 later by time = min (time + by) (2 ^ 64 - 1)
 
--- a child of an atom: later if it is a start or an end, otherwise unchanged
+-- The ID `id` is ChapterTimeStart or ChapterTimeEnd.
 abbrev pub is_time : ℕ → Bool
 is_time id = id == CHAPTER_TIME_START || id == CHAPTER_TIME_END
 
--- a child of an atom: later by `by` if it is a start or an end, otherwise unchanged
+-- the child `n` of an atom, later by `by` nanoseconds if it is a start or an end, and otherwise unchanged
 abbrev pub later_time : ℕ → Node → Node
 later_time by n = if is_time (id_of n) then uint_leaf (id_of n) (later by (integer_of n)) else n
 
--- a start for children without one: 0, later by `by`
+-- One of `ns`, the children of an atom, is a ChapterTimeStart.
 abbrev pub has_start : List Node → Bool
 has_start ns = list_any (λ n. id_of n == CHAPTER_TIME_START) ns
 
--- a start at 0, later by `by`, for an atom with the children `ns` that has none
+-- a ChapterTimeStart of `by` nanoseconds for an atom with the children `ns`, if it has none
 abbrev pub missing_start : ℕ → List Node → List Node
 missing_start by ns = if has_start ns then [] else uint_leaf CHAPTER_TIME_START by ∷ []
 
--- a child of an atom: an atom inside it has later children, and a start
+-- a child of an edition or atom, later by `by` nanoseconds; an atom has its children later, and gets a start if it has none
 abbrev mutual
   pub shifted_part : ℕ → Node → Node
   shifted_part by (leaf id at body) = later_time by (leaf id at body)
@@ -37,14 +37,14 @@ abbrev mutual
   shifted_parts by none = []
   shifted_parts by (node n ns) = shifted_part by n ∷ shifted_parts by ns
 
--- a child of an edition, with all times in it later by `by` if it is an atom
+-- the child `n` of an edition, with all times in it later by `by` nanoseconds if it is an atom
 abbrev pub shifted_in_edition : ℕ → Node → Node
 shifted_in_edition by n = if id_of n == CHAPTER_ATOM then shifted_part by n else n
 
--- a child of Chapters, with all times in it later by `by` if it is an edition
+-- the child `n` of Chapters, with all times in it later by `by` nanoseconds if it is an edition
 abbrev pub shifted_edition : ℕ → Node → Node
 shifted_edition by n = if id_of n == EDITION_ENTRY then with_children n (map (shifted_in_edition by) (children n)) else n
 
--- a Chapters element whose atoms are all later by `by` nanoseconds
+-- `chapters` with all times of its atoms later by `by` nanoseconds
 abbrev pub shifted : ℕ → Node → Node
 shifted by chapters = with_children chapters (map (shifted_edition by) (children chapters))

@@ -1,4 +1,5 @@
--- The Tags of an input as written to the output: RFC 9559, section 5.1.8 (Tags). The rule is this project's.
+-- The Tags of an input, as an output gets them: RFC 9559, section 5.1.8 (Tags). The rule is this project's. `numbers` gives the output's number for
+-- the ID of a target and an identifier, if the output has the item.
 use Rattle.std.specs.Prelude.{ℕ, ◌==◌, Bool, true, not, ◌&&◌, ◌||◌, if◌then◌else◌, List, [], ◌∷◌, map, filter, flat_map, Option, is_some}
 use Rattle.std.specs.List.{list_any}
 use Rattle.mkv_schema.specs.declared.ids.TheConstants.{TAG, TARGETS, TAG_TRACK_UID, TAG_EDITION_UID, TAG_CHAPTER_UID, TAG_ATTACHMENT_UID}
@@ -10,37 +11,37 @@ use Rattle.record_changes.specs.declared.targets.TagTargets.{TagTargets}
 
 -- ---- a target
 
--- The ID is one of the four target identifiers.
+-- The ID `id` is the UID of a track, edition, chapter or attached file, which a Targets may have.
 abbrev pub is_target_id : ℕ → Bool
 is_target_id id = id == TAG_TRACK_UID || id == TAG_EDITION_UID || id == TAG_CHAPTER_UID || id == TAG_ATTACHMENT_UID
 
--- The node `n` is a child of Targets that names one thing; 0 names all of its kind.
+-- The node `n` is a child of Targets that names one item; 0 names all of its kind.
 abbrev pub is_target : Node → Bool
 is_target n = is_target_id (id_of n) && not (integer_of n == 0)
 
--- the output's identifier of a target, if it is in the output; `numbers` maps the target's ID and identifier to it
+-- the output's number for the item that `target` names, by `numbers`, if the output has it
 abbrev pub number_of : (ℕ → ℕ → Option ℕ) → Node → Option ℕ
 number_of numbers target = numbers (id_of target) (integer_of target)
 
--- a child of Targets as written: a target gets its output number or is removed, and others are unchanged
+-- the child `n` of Targets, as the output gets it: a target gets its number or is removed, and others are unchanged
 abbrev pub written_target : (ℕ → ℕ → Option ℕ) → Node → List Node
 written_target numbers n = if is_target n then given (uint_leaf (id_of n)) (number_of numbers n) else n ∷ []
 
 -- ---- a Tag
 
--- a child of a Tag as written to the output
+-- the child `n` of a Tag, as the output gets it: a Targets with the output's numbers, and others unchanged
 abbrev pub written_part : (ℕ → ℕ → Option ℕ) → Node → Node
 written_part numbers n = if id_of n == TARGETS then with_children n (flat_map (written_target numbers) (children n)) else n
 
--- a Tag as it is written to the output, with the output's UIDs in its Targets
+-- the Tag `tag`, as the output gets it: with the output's numbers in its Targets
 abbrev pub written_tag : (ℕ → ℕ → Option ℕ) → Node → Node
 written_tag numbers tag = with_children tag (map (written_part numbers) (children tag))
 
--- the targets in a child of a Tag
+-- the targets in `n`, a child of a Tag; none unless it is a Targets
 abbrev pub targets_in : Node → List Node
 targets_in n = if id_of n == TARGETS then filter is_target (children n) else []
 
--- the summary of targets: whether there is any, one with a track, and one that is in the output
+-- the summary of `targets`, which decides whether their Tag is kept: any target, one with a track, one that is in the output
 abbrev pub tag_targets_of : (ℕ → ℕ → Option ℕ) → List Node → TagTargets
 tag_targets_of numbers targets = record {
   any = list_any (λ n. true) targets;
@@ -48,7 +49,7 @@ tag_targets_of numbers targets = record {
   written = list_any (λ n. is_some (number_of numbers n)) targets;
 }
 
--- the summary of two lists of targets
+-- the summary of two lists of targets together
 abbrev pub both_aims : TagTargets → TagTargets → TagTargets
 both_aims some others = record {
   any = some.any || others.any;
@@ -56,20 +57,21 @@ both_aims some others = record {
   written = some.written || others.written;
 }
 
--- the summary of all targets of a Tag
+-- the summary of all targets of the Tag `tag`
 abbrev pub aims_in : (ℕ → ℕ → Option ℕ) → Node → TagTargets
 aims_in numbers tag = tag_targets_of numbers (flat_map targets_in (children tag))
 
--- A Tag is kept if `keep` chooses its kind, with tracks or others, and it has no targets or one that is in the output.
+-- A Tag whose targets have the summary `aims` is kept. The choice `keep` has its kind, with tracks or others, and it has no targets or one that is in
+-- the output.
 abbrev pub are_kept : TagKeep → TagTargets → Bool
 are_kept keep aims = (if aims.track then keep.tracks else keep.global) && (not aims.any || aims.written)
 
 -- ---- all Tags
 
--- a child of Tags as written to the output; only a Tag is kept
+-- the child `n` of Tags, as the output gets it, as a list, empty unless it is a Tag that is kept
 abbrev pub written_child : TagKeep → (ℕ → ℕ → Option ℕ) → Node → List Node
 written_child keep numbers n = if id_of n == TAG && are_kept keep (aims_in numbers n) then written_tag numbers n ∷ [] else []
 
--- the Tags of an input as written to the output
+-- the Tags `tags` of an input, as the output gets them
 abbrev pub written_tags : TagKeep → (ℕ → ℕ → Option ℕ) → Node → Node
 written_tags keep numbers tags = with_children tags (flat_map (written_child keep numbers) (children tags))

@@ -1,16 +1,16 @@
--- The numbers that are taken.
+-- The numbers that can't be given to another item.
 use Rattle.std.specs.Prelude.{◌≡◌, ◌<◌, ◌+◌, ◌^◌, ℕ, Bool, true, ◌||◌, nat_eq, length}
 use Rattle.indexmap.specs.IndexSet.{IndexSet, contains}
 
--- The number is in one of the two sets.
+-- The number `n` is in one of the two sets: the inputs' identifiers or the numbers that were given.
 abbrev pub is_taken : {S : Type 0} → IndexSet ℕ S → IndexSet ℕ S → ℕ → Bool
 is_taken source given n = contains nat_eq source n || contains nat_eq given n
 
--- `n` is positive, and each smaller positive number is taken.
+-- The number `n` is positive, and each smaller positive number is taken.
 pub record IsNext (taken : ℕ → Bool) (n : ℕ) : Type 0 where
   pub positive : 0 < n
   pub below : (k : ℕ) → 0 < k → k < n → taken k ≡ true
 
--- The two sets leave room for a 64-bit number.
+-- The two sets together leave a number of 64 bits free.
 abbrev pub HasRoom : {S : Type 0} → IndexSet ℕ S → IndexSet ℕ S → Type 0
 HasRoom source given = length source.keys + length given.keys + 1 < 2 ^ 64

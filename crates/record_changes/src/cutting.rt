@@ -1,4 +1,4 @@
-//! Chapters within a period of time: RFC 9559, section 5.1.7 (Chapters).
+//! The chapters of one part of a split merge: RFC 9559, section 5.1.7 (Chapters).
 
 ghost use Rattle.std.specs.Prelude.{◌≡◌, ◌≤◌, ◌==◌, ◌∷◌, [], All, find, IfOk, IfSome, OnOk};
 ghost use Rattle.std.specs.Option.{option_copied, option_to_list};
@@ -20,7 +20,7 @@ use mkv_schema::ids::{
 };
 use std::alloc::{AllocError, Global};
 
-// Returns the start of an atom in nanoseconds, or 0 if it has none.
+// Returns the ChapterTimeStart of `atom`, a ChapterAtom, in nanoseconds, or 0 if it is absent.
 pub(crate) fn start_of(atom: &Tree) -> u64
     requires { IsRead ids.CHAPTER_ATOM atom.now }
     ensures { result ≡ start_of atom.now }
@@ -28,7 +28,7 @@ pub(crate) fn start_of(atom: &Tree) -> u64
     value_in(atom, CHAPTER_TIME_START)
 }
 
-// Returns the ChapterTimeEnd of an atom, if present.
+// Returns the ChapterTimeEnd of `atom`, a ChapterAtom, in nanoseconds, if it is present.
 fn own_end(atom: &Tree) -> Option<u64>
     requires { IsRead ids.CHAPTER_ATOM atom.now }
     ensures { result ≡ integer_in ids.CHAPTER_TIME_END atom.now }
@@ -44,7 +44,7 @@ fn first_atom(trees: &[Tree]) -> Option<&Tree>
     trees.iter().find(|tree| tree.id() == CHAPTER_ATOM)
 }
 
-// Returns the start of the first atom in `behind`.
+// Returns the start in nanoseconds of the first atom in `behind`, the siblings after an atom.
 fn next_start(behind: &[Tree]) -> Option<u64>
     requires { All (IsReadIf ids.CHAPTER_ATOM) behind.now }
     ensures { result ≡ next_start behind.now }
@@ -53,7 +53,8 @@ fn next_start(behind: &[Tree]) -> Option<u64>
     Some(start_of(atom))
 }
 
-// Returns the end of an atom: its ChapterTimeEnd, or the start of the next atom in `behind`.
+// Returns the end of `atom` in nanoseconds: its ChapterTimeEnd, or the start of the next atom in `behind`, the siblings
+// after it. Returns None if it has neither.
 fn end_of(atom: &Tree, behind: &[Tree]) -> Option<u64>
     requires atom { IsRead ids.CHAPTER_ATOM atom.now }
     requires behind { All (IsReadIf ids.CHAPTER_ATOM) behind.now }
@@ -65,7 +66,7 @@ fn end_of(atom: &Tree, behind: &[Tree]) -> Option<u64>
     }
 }
 
-// Sets the time `id` of an atom to `time` nanoseconds.
+// Sets the child `id` of `atom`, its start or end, to `time` nanoseconds.
 fn set_time(alloc: Global, atom: &mut Tree, id: u32, time: u64) -> Result<(), AllocError>
     requires id { IsUintIn ids.CHAPTER_ATOM id }
     requires read { IsRead ids.CHAPTER_ATOM atom.old }
@@ -74,7 +75,7 @@ fn set_time(alloc: Global, atom: &mut Tree, id: u32, time: u64) -> Result<(), Al
     atom.set(uint_leaf(alloc, id, time)?)
 }
 
-// Sets the end of an atom if `end` is present.
+// Sets the ChapterTimeEnd of `atom` to `end` nanoseconds, limited to the period `stretch`, if `end` is present.
 fn set_end(
     alloc: Global,
     atom: &mut Tree,
@@ -91,8 +92,8 @@ fn set_end(
     }
 }
 
-// Returns a child of an edition or atom, cut to `stretch`, or nothing if it is outside. `behind` has the children
-// after it.
+// Returns `child`, a child of an edition or atom, cut to the period `stretch`, or None if it is outside. `behind` has
+// the siblings after it. A child that isn't an atom is copied.
 #[cycle(cutting)]
 fn cut_child(
     alloc: Global,
@@ -119,7 +120,7 @@ fn cut_child(
     Ok(Some(atom))
 }
 
-// Returns an edition or atom with its children cut to `stretch`.
+// Returns `parent`, an edition or atom, with its children cut to the period `stretch`.
 #[cycle(cutting)]
 fn cut_inside(alloc: Global, parent: &Tree, stretch: Stretch) -> Result<Tree, AllocError>
     requires holds { HoldsAtoms parent.now }
@@ -139,7 +140,7 @@ fn cut_inside(alloc: Global, parent: &Tree, stretch: Stretch) -> Result<Tree, Al
     Ok(written)
 }
 
-// Checks whether an edition has a ChapterAtom.
+// Checks whether `edition` has a ChapterAtom, and isn't left out of a part.
 fn has_atom(edition: &Tree) -> bool
     ensures { result ≡ has_atom edition.now }
 {
@@ -149,7 +150,8 @@ fn has_atom(edition: &Tree) -> bool
         .any(|child| child.id() == CHAPTER_ATOM)
 }
 
-// Returns a child of Chapters, cut to `stretch`, or nothing if it isn't an edition with a chapter inside.
+// Returns `child`, a child of Chapters, cut to the period `stretch`, or None if it isn't an edition with a chapter in
+// the period.
 fn cut_edition(alloc: Global, child: &Tree, stretch: Stretch) -> Result<Option<Tree>, AllocError>
     requires edition { IsReadIf ids.EDITION_ENTRY child.now }
     requires stretch { IfSome stretch.to (λ to. stretch.from ≤ to) }
@@ -166,11 +168,12 @@ fn cut_edition(alloc: Global, child: &Tree, stretch: Stretch) -> Result<Option<T
     Ok(Some(edition))
 }
 
-/// Returns the chapters in the period from `from` to `to`, with times relative to `from`. A chapter is kept if it
-/// starts in the period, or starts before it and ends after `from`. Its times are limited to the period.
+/// Returns the chapters of one part of a split: those in the period from `from` to `to` nanoseconds, with times
+/// relative to `from`. Without `to` the period has no end. A chapter is kept if it starts in the period, or starts
+/// before it and ends after `from`. Its times are limited to the period.
 ///
 /// A chapter without an end ends at the start of the next one beside it, or never. Editions without such chapters are
-/// left out; without editions the result is empty.
+/// left out; without editions the result is None.
 pub fn cut(
     alloc: Global,
     chapters: &Tree,

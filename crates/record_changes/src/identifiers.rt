@@ -1,4 +1,5 @@
-//! Identifiers of an output: RFC 9559, sections 5.1.4.1.2 (TrackUID) and 5.1.6.1.5 (FileUID), and similar ones.
+//! Choice of an output's identifiers: RFC 9559, sections 5.1.4.1.2 (TrackUID) and 5.1.6.1.5 (FileUID), and similar
+//! ones.
 
 ghost use Rattle.std.specs.Prelude.{◌≡◌, ◌<◌, ◌+◌, ◌^◌, false, length, nat_eq, IfOk};
 ghost use Rattle.indexmap.specs.IndexSet.{IsFromIterResult};
@@ -9,14 +10,15 @@ use indexmap::IndexSet;
 use mkv_io::List;
 use std::alloc::{AllocError, Global};
 
-// Checks whether `number` is an identifier in the inputs (`source`) or was given to another item (`given`).
+// Checks whether `number` can't be given to an item, since it is an identifier in the inputs (`source`) or was given to
+// another item (`given`).
 fn is_taken(source: &IndexSet<u64>, given: &IndexSet<u64>, number: u64) -> bool
     ensures { result ≡ is_taken source.now given.now number }
 {
     source.contains(&number) || given.contains(&number)
 }
 
-// Returns the smallest number that isn't taken, if all positive numbers below `least` are.
+// Returns the smallest positive number that isn't taken. All positive numbers below `least` must be taken.
 fn free_from(source: &IndexSet<u64>, given: &IndexSet<u64>, least: u64) -> u64
     requires next { IsNext (is_taken source.now given.now) least }
     requires room { HasRoom source.now given.now }
@@ -30,7 +32,8 @@ fn free_from(source: &IndexSet<u64>, given: &IndexSet<u64>, least: u64) -> u64
     number
 }
 
-// Returns the output's number for the identifier `uid`, if all positive numbers below `least` are taken.
+// Returns the output's number for the identifier `uid` of an input. A positive one that isn't given yet stays, and
+// others get the smallest number that isn't taken. All positive numbers below `least` must be taken; it is advanced.
 fn number_for(source: &IndexSet<u64>, given: &IndexSet<u64>, uid: u64, least: &mut u64) -> u64
     requires next { IsNext (is_taken source.now given.now) least.old }
     requires room { HasRoom source.now given.now }
@@ -44,7 +47,8 @@ fn number_for(source: &IndexSet<u64>, given: &IndexSet<u64>, uid: u64, least: &m
     *least
 }
 
-// Returns the output's numbers for the identifiers of a source.
+// Returns the output's numbers for `uids`, the identifiers in the inputs, in their order. `source` has the same
+// identifiers as a set.
 fn numbers_of(
     alloc: Global,
     source: &IndexSet<u64>,
@@ -62,7 +66,8 @@ fn numbers_of(
     Ok(given)
 }
 
-/// Returns the output's numbers for the identifiers `uids`, in the order of writing; 0 means an absent identifier.
+/// Returns the output's numbers for `uids`, the identifiers of one kind in all inputs, in the order of writing; 0 means
+/// an absent identifier.
 ///
 /// The first use of a positive identifier keeps it. Any other gets the smallest positive number that isn't in `uids`
 /// and wasn't used before.

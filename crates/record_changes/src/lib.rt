@@ -1,7 +1,7 @@
 #![tactic(auto)]
 
-//! Changes to the records of a merge's inputs: the output's identifiers, and the tags and chapters with them (RFC
-//! 9559, sections 5.1.7, Chapters, and 5.1.8, Tags).
+//! Changes that a merge makes to the records of its inputs. They are new identifiers, Tags with their targets, and
+//! shifted or cut Chapters (RFC 9559, sections 5.1.7, Chapters, and 5.1.8, Tags).
 
 mod cutting;
 mod identifier_laws;

@@ -1,4 +1,4 @@
-//! Chapters with new identifiers: RFC 9559, section 5.1.7 (Chapters).
+//! Chapters that get the identifiers of an output: RFC 9559, section 5.1.7 (Chapters).
 
 ghost use Rattle.std.specs.Prelude.{◌≡◌, ◌+◌, ◌≤◌, length, IfOk, OnOk};
 ghost use Rattle.mkv_schema.specs.declared.ids.TheConstants as ids;
@@ -12,8 +12,8 @@ use ebml_tree::{Tree, empty, uint_leaf};
 use mkv_schema::ids::{CHAPTER_ATOM, CHAPTER_UID, CHAPTERS, EDITION_ENTRY, EDITION_UID};
 use std::alloc::{AllocError, Global};
 
-// Returns a child of an edition or atom with new identifiers. An atom gets the next one, and the atoms inside it get
-// the following ones.
+// Returns `child`, a child of an edition or atom, with new identifiers. If it is an atom, it gets the one at the index
+// `next` in `uids`, and the atoms inside it get the following ones. `next` is advanced.
 fn numbered(alloc: Global, child: &Tree, uids: &[u64], next: &mut usize) -> Result<Tree, AllocError>
     requires atom { IsReadIf ids.CHAPTER_ATOM child.now }
     requires enough { next.old + length (atoms_at child.now) ≤ length uids.now }
@@ -34,7 +34,8 @@ fn numbered(alloc: Global, child: &Tree, uids: &[u64], next: &mut usize) -> Resu
     Ok(atom)
 }
 
-// Returns an edition with the identifier `uid`, whose atoms get the next identifiers.
+// Returns `edition` with the EditionUID `uid`. Its atoms get the identifiers in `uids` from the index `next` on, which
+// is advanced.
 fn numbered_edition(
     alloc: Global,
     edition: &Tree,
@@ -56,7 +57,7 @@ fn numbered_edition(
     Ok(written)
 }
 
-/// Returns `tree` with the identifiers `editions` and `chapters` of its editions and chapters, in reading order.
+/// Returns `tree`, a Chapters, with the EditionUIDs `editions` and the ChapterUIDs `chapters`, given in reading order.
 /// Children other than editions are left out.
 pub fn with_identifiers(
     alloc: Global,

@@ -1,4 +1,4 @@
-//! Chapters at later times: RFC 9559, section 5.1.7 (Chapters).
+//! Chapters of an appended input, moved by its append offset: RFC 9559, section 5.1.7 (Chapters).
 
 ghost use Rattle.std.specs.Prelude.{◌≡◌, IfOk, OnOk, OnErr};
 ghost use Rattle.mkv_schema.specs.declared.ids.TheConstants as ids;
@@ -14,14 +14,14 @@ use mkv_schema::ids::{
 };
 use std::alloc::{AllocError, Global};
 
-// Checks whether the ID is the start or the end of an atom.
+// Checks whether `id` is the ID of the start or the end of an atom.
 fn is_time(id: u32) -> bool
     ensures { result ≡ is_time id }
 {
     id == CHAPTER_TIME_START || id == CHAPTER_TIME_END
 }
 
-// Checks whether an atom has a ChapterTimeStart.
+// Checks whether `atom` has a ChapterTimeStart.
 fn has_start(atom: &Tree) -> bool
     ensures { result ≡ has_start (children atom.now) }
 {
@@ -30,7 +30,7 @@ fn has_start(atom: &Tree) -> bool
         .any(|child| child.id() == CHAPTER_TIME_START)
 }
 
-// Returns an atom with all its times later.
+// Returns `atom` with all its times later by `by` nanoseconds; without a start it gets one.
 #[cycle(shifting)]
 fn shifted_atom(alloc: Global, atom: &Tree, by: u64) -> Result<Tree, AllocError>
     requires { IsRead ids.CHAPTER_ATOM atom.now }
@@ -48,7 +48,7 @@ fn shifted_atom(alloc: Global, atom: &Tree, by: u64) -> Result<Tree, AllocError>
     Ok(shifted)
 }
 
-// Returns a child of an atom: later if it is a time or an atom, otherwise unchanged.
+// Returns `part`, a child of an atom: later by `by` nanoseconds if it is a time or an atom, and otherwise unchanged.
 #[cycle(shifting)]
 fn shifted_part(alloc: Global, part: &Tree, by: u64) -> Result<Tree, AllocError>
     requires { StandsIn ids.CHAPTER_ATOM part.now }
@@ -65,7 +65,7 @@ fn shifted_part(alloc: Global, part: &Tree, by: u64) -> Result<Tree, AllocError>
     part.copy(alloc)
 }
 
-// Returns a child of an edition: later if it is an atom, otherwise unchanged.
+// Returns `child`, a child of an edition: later by `by` nanoseconds if it is an atom, and otherwise unchanged.
 fn shifted_in_edition(alloc: Global, child: &Tree, by: u64) -> Result<Tree, AllocError>
     requires { IsReadIf ids.CHAPTER_ATOM child.now }
     ensures exact { IfOk result (λ tree. tree ≡ shifted_in_edition by child.now) }
@@ -78,7 +78,7 @@ fn shifted_in_edition(alloc: Global, child: &Tree, by: u64) -> Result<Tree, Allo
     }
 }
 
-// Returns a child of Chapters: later if it is an edition, otherwise unchanged.
+// Returns `child`, a child of Chapters: later by `by` nanoseconds if it is an edition, and otherwise unchanged.
 fn shifted_edition(alloc: Global, child: &Tree, by: u64) -> Result<Tree, AllocError>
     requires { IsReadIf ids.EDITION_ENTRY child.now }
     ensures exact { IfOk result (λ tree. tree ≡ shifted_edition by child.now) }
@@ -94,8 +94,8 @@ fn shifted_edition(alloc: Global, child: &Tree, by: u64) -> Result<Tree, AllocEr
     Ok(shifted)
 }
 
-/// Adds `by` nanoseconds to each start and end of the chapters, up to the largest 64-bit time. A chapter without a
-/// start gets `by` as its start. If it fails, the chapters are unchanged.
+/// Adds `by` nanoseconds, the append offset of an input, to each start and end of `chapters`, up to the greatest 64-bit
+/// time. A chapter without a start gets `by` as its start. If it fails, the chapters are unchanged.
 pub fn shift(alloc: Global, chapters: &mut Tree, by: u64) -> Result<(), AllocError>
     requires { IsRead ids.CHAPTERS chapters.old }
     ensures ok { OnOk result (chapters.new ≡ shifted by chapters.old) }

@@ -1,4 +1,4 @@
-//! Start times of chapters: RFC 9559, section 5.1.7 (Chapters).
+//! Start times of chapters, which a merge may be split at: RFC 9559, section 5.1.7 (Chapters).
 
 ghost use Rattle.std.specs.Prelude.{◌≡◌, ◌++◌, IfOk, OnOk};
 ghost use Rattle.mkv_schema.specs.declared.ids.TheConstants as ids;
@@ -12,7 +12,7 @@ use mkv_io::List;
 use mkv_schema::ids::{CHAPTER_ATOM, EDITION_ENTRY};
 use std::alloc::{AllocError, Global};
 
-// Appends the start of a child of an edition, if it is an atom.
+// Appends the start of `child`, a child of an edition, in nanoseconds, if it is an atom.
 fn push_start(child: &Tree, starts: &mut List<u64>) -> Result<(), AllocError>
     requires { IsReadIf ids.CHAPTER_ATOM child.now }
     ensures { OnOk result (starts.new ≡ starts.old ++ own_starts child.now) }
@@ -23,7 +23,7 @@ fn push_start(child: &Tree, starts: &mut List<u64>) -> Result<(), AllocError>
     starts.push(start_of(child))
 }
 
-// Appends the starts of the top atoms of an edition.
+// Appends the starts of the top atoms of `edition`, in nanoseconds.
 fn push_starts(edition: &Tree, starts: &mut List<u64>) -> Result<(), AllocError>
     requires { IsRead ids.EDITION_ENTRY edition.now }
     ensures { OnOk result (starts.new ≡ starts.old ++ starts_inside edition.now) }
@@ -34,8 +34,8 @@ fn push_starts(edition: &Tree, starts: &mut List<u64>) -> Result<(), AllocError>
     Ok(())
 }
 
-/// Returns the start times of the top chapters of the first edition, in their order. A chapter without a start starts
-/// at 0.
+/// Returns the starts, in nanoseconds, of the top chapters in the first edition of `chapters`, in their order. A
+/// chapter without a start starts at 0.
 pub fn top_starts(alloc: Global, chapters: &Tree) -> Result<List<u64>, AllocError>
     requires { IsRead ids.CHAPTERS chapters.now }
     ensures { IfOk result (λ starts. starts ≡ top_starts chapters.now) }

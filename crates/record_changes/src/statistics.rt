@@ -1,4 +1,4 @@
-//! Statistics among the tags of an input, such as mkvmerge writes them: RFC 9559, section 5.1.8 (Tags).
+//! Removal of the statistics that mkvmerge writes among the tags of a file: RFC 9559, section 5.1.8 (Tags).
 
 ghost use Rattle.std.specs.Prelude.{◌≡◌, [], ◌∷◌, IfOk, IfSome, OnOk};
 ghost use Rattle.std.specs.List.{list_any};
@@ -15,19 +15,19 @@ use indexmap::IndexSet;
 use mkv_schema::ids::{SIMPLE_TAG, TAG, TAG_NAME, TAG_STRING, TAGS};
 use std::alloc::{AllocError, Global};
 
-/// Name of a SimpleTag whose TagString lists the names of statistics.
+/// TagName of a SimpleTag whose TagString lists the names of statistics.
 const LIST: &[u8] = b"_STATISTICS_TAGS";
 
-/// Name of a SimpleTag with the program that counted.
+/// TagName of a SimpleTag with the name of the program that counted.
 const APP: &[u8] = b"_STATISTICS_WRITING_APP";
 
-/// Name of a SimpleTag with the time at which it counted.
+/// TagName of a SimpleTag with the time of the count.
 const DATE: &[u8] = b"_STATISTICS_WRITING_DATE_UTC";
 
-/// Name that MakeMKV lists, although it is no statistic.
+/// Name that MakeMKV lists, although it isn't a statistic.
 const SOURCE: &[u8] = b"SOURCE_ID";
 
-/// Checks whether `bytes` are a hyphen and a language of three lower-case letters.
+/// Checks whether `bytes` are a hyphen and a language of three lower-case letters, as in `BPS-eng`.
 fn is_language_suffix(bytes: &[u8]) -> bool
     ensures { result ≡ spec.is_language_suffix bytes.now }
 {
@@ -39,7 +39,7 @@ fn is_language_suffix(bytes: &[u8]) -> bool
     }
 }
 
-/// Returns the name of a tag without a hyphen and a language at its end.
+/// Returns the TagName `name` without a hyphen and a language at its end: `BPS` for `BPS-eng`.
 fn stem(name: &[u8]) -> &[u8]
     ensures { result.now ≡ spec.stem name.now }
 {
@@ -51,7 +51,7 @@ fn stem(name: &[u8]) -> &[u8]
     }
 }
 
-/// Returns the text of the first child with the ID `id`, up to its first zero byte, if there is one.
+/// Returns the text of the first child of `tree` with the ID `id`, up to its first zero byte, if there is one.
 fn value_in(tree: &Tree, id: u32) -> Option<&[u8]>
     ensures { option_copied result ≡ spec.value_in id tree.now }
 {
@@ -61,7 +61,7 @@ fn value_in(tree: &Tree, id: u32) -> Option<&[u8]>
     }
 }
 
-/// Checks whether a SimpleTag lists the names of statistics.
+/// Checks whether the SimpleTag `simple` lists the names of statistics in its TagString.
 fn lists_names(simple: &Tree) -> bool
     ensures { result ≡ spec.lists_names simple.now }
 {
@@ -71,14 +71,15 @@ fn lists_names(simple: &Tree) -> bool
     }
 }
 
-/// Checks whether a part of a list between spaces is the name of a statistic: it isn't empty, nor SOURCE_ID.
+/// Checks whether `part`, the text between two spaces of such a list, is the name of a statistic: it isn't empty, nor
+/// SOURCE_ID.
 fn is_listed(part: &[u8]) -> bool
     ensures { result ≡ spec.is_listed part.now }
 {
     !part.is_empty() && stem(part) != SOURCE
 }
 
-/// Adds `name` to `names`.
+/// Adds `name` to `names`, the names of the statistics in a Tag.
 fn add_name<'a>(names: &mut IndexSet<&'a [u8]>, name: &'a [u8]) -> Result<(), AllocError>
     ensures { OnOk result (AddsNames names.old.keys names.new.keys (name.now ∷ [])) }
 {
@@ -86,7 +87,7 @@ fn add_name<'a>(names: &mut IndexSet<&'a [u8]>, name: &'a [u8]) -> Result<(), Al
     Ok(())
 }
 
-/// Adds the names that `list` has between spaces to `names`.
+/// Adds to `names` the names of statistics that `list` has between spaces.
 fn add_list<'a>(names: &mut IndexSet<&'a [u8]>, list: &'a [u8]) -> Result<(), AllocError>
     ensures { OnOk result (AddsNames names.old.keys names.new.keys (spec.names_in list.now)) }
 {
@@ -98,7 +99,7 @@ fn add_list<'a>(names: &mut IndexSet<&'a [u8]>, list: &'a [u8]) -> Result<(), Al
     Ok(())
 }
 
-/// Adds the names that a child of a Tag lists to `names`.
+/// Adds to `names` the names of statistics that `child`, a child of a Tag, lists; another child lists none.
 fn add_names<'a>(names: &mut IndexSet<&'a [u8]>, child: &'a Tree) -> Result<(), AllocError>
     ensures { OnOk result (AddsNames names.old.keys names.new.keys (spec.names_listed child.now)) }
 {
@@ -111,7 +112,7 @@ fn add_names<'a>(names: &mut IndexSet<&'a [u8]>, child: &'a Tree) -> Result<(), 
     }
 }
 
-/// Returns the names of the statistics in a Tag.
+/// Returns the names of the statistics in `tag`: three that are always statistics, and the ones that it lists.
 fn statistics_names<'a>(alloc: Global, tag: &'a Tree) -> Result<IndexSet<&'a [u8]>, AllocError>
     ensures { IfOk result (λ names. HasSame (bytes_of names.keys) (spec.statistics_names tag.now)) }
 {
@@ -132,14 +133,14 @@ fn is_one_of(names: &IndexSet<&[u8]>, name: &[u8]) -> bool
     names.contains(&name)
 }
 
-/// Checks whether `name`, or its stem, is one of `names`.
+/// Checks whether `name`, with or without its language, is one of `names`.
 fn is_named(names: &IndexSet<&[u8]>, name: &[u8]) -> bool
     ensures { result ≡ spec.is_named (bytes_of names.now.keys) name.now }
 {
     is_one_of(names, name) || is_one_of(names, stem(name))
 }
 
-/// Checks whether a child of a Tag is a statistic.
+/// Checks whether `child`, a child of a Tag, is a statistic: a SimpleTag with one of `names`.
 fn is_statistic(names: &IndexSet<&[u8]>, child: &Tree) -> bool
     ensures { result ≡ spec.is_statistic (bytes_of names.now.keys) child.now }
 {
@@ -152,14 +153,14 @@ fn is_statistic(names: &IndexSet<&[u8]>, child: &Tree) -> bool
     }
 }
 
-/// Checks whether a child of a Tag is a SimpleTag that is no statistic.
+/// Checks whether `child`, a child of a Tag, is a SimpleTag that isn't a statistic.
 fn is_other(names: &IndexSet<&[u8]>, child: &Tree) -> bool
     ensures { result ≡ spec.is_other (bytes_of names.now.keys) child.now }
 {
     child.id() == SIMPLE_TAG && !is_statistic(names, child)
 }
 
-/// Checks whether a Tag has a statistic.
+/// Checks whether `tag` has a statistic, by the names `names`.
 fn has_statistic(names: &IndexSet<&[u8]>, tag: &Tree) -> bool
     ensures { result ≡ list_any (spec.is_statistic (bytes_of names.now.keys)) (children tag.now) }
 {
@@ -168,21 +169,21 @@ fn has_statistic(names: &IndexSet<&[u8]>, tag: &Tree) -> bool
         .any(|child| is_statistic(names, child))
 }
 
-/// Checks whether a Tag has a SimpleTag that is no statistic.
+/// Checks whether `tag` has a SimpleTag that isn't a statistic, by the names `names`.
 fn has_other(names: &IndexSet<&[u8]>, tag: &Tree) -> bool
     ensures { result ≡ list_any (spec.is_other (bytes_of names.now.keys)) (children tag.now) }
 {
     tag.children().iter().any(|child| is_other(names, child))
 }
 
-/// Checks whether a Tag has a statistic, and no other SimpleTag.
+/// Checks whether `tag` has a statistic and no other SimpleTag, by the names `names`, and so is left out.
 fn has_nothing_else(names: &IndexSet<&[u8]>, tag: &Tree) -> bool
     ensures { result ≡ spec.has_nothing_else (bytes_of names.now.keys) tag.now }
 {
     has_statistic(names, tag) && !has_other(names, tag)
 }
 
-/// Returns a child of a Tag, or nothing if it is a statistic.
+/// Returns a copy of `child`, a child of a Tag, or None if it is a statistic.
 fn bare_part(
     alloc: Global,
     names: &IndexSet<&[u8]>,
@@ -198,7 +199,7 @@ fn bare_part(
     Ok(Some(child.copy(alloc)?))
 }
 
-/// Returns a Tag without the SimpleTags that are statistics.
+/// Returns a copy of `tag` without the SimpleTags that are statistics, by the names `names`.
 fn bare(alloc: Global, names: &IndexSet<&[u8]>, tag: &Tree) -> Result<Tree, AllocError>
     requires { IsRead TAG_ID tag.now }
     ensures exact { IfOk result (λ bare. bare ≡ spec.bare (bytes_of names.now.keys) tag.now) }
@@ -214,7 +215,7 @@ fn bare(alloc: Global, names: &IndexSet<&[u8]>, tag: &Tree) -> Result<Tree, Allo
     Ok(bare)
 }
 
-/// Returns a Tag without its statistics, or nothing if it has nothing else.
+/// Returns a copy of `tag` without its statistics, or None if it has nothing else.
 fn bare_tag(alloc: Global, tag: &Tree) -> Result<Option<Tree>, AllocError>
     requires { IsRead TAG_ID tag.now }
     ensures exact { IfOk result (λ o. option_to_list o ≡ spec.bare_tag (spec.statistics_names tag.now) tag.now) }
@@ -227,7 +228,7 @@ fn bare_tag(alloc: Global, tag: &Tree) -> Result<Option<Tree>, AllocError>
     Ok(Some(bare(alloc, &names, tag)?))
 }
 
-/// Returns a child of Tags without its statistics, or nothing if it is left out.
+/// Returns a copy of `child`, a child of Tags, without its statistics, or None if it is a Tag that has nothing else.
 fn bare_child(alloc: Global, child: &Tree) -> Result<Option<Tree>, AllocError>
     requires { StandsIn TAGS_ID child.now }
     ensures exact { IfOk result (λ o. option_to_list o ≡ spec.without_its_statistics child.now) }
@@ -240,8 +241,8 @@ fn bare_child(alloc: Global, child: &Tree) -> Result<Option<Tree>, AllocError>
     }
 }
 
-/// Returns the Tags of an input without the statistics: SimpleTags that their Tag lists as statistics. A Tag that has
-/// nothing else is left out.
+/// Returns the Tags `tags` of an input without the statistics: the SimpleTags that their Tag lists as statistics. A Tag
+/// that has nothing else is left out. A merge drops them, since they are wrong for its output.
 pub fn without_statistics(alloc: Global, tags: &Tree) -> Result<Tree, AllocError>
     requires { IsRead TAGS_ID tags.now }
     ensures exact { IfOk result (λ tree. tree ≡ spec.without_statistics tags.now) }

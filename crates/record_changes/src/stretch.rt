@@ -1,4 +1,4 @@
-//! Period of time
+//! Period of time of one part of a split merge
 
 ghost use Rattle.std.specs.Prelude.{◌≡◌, ◌≤◌, IfSome};
 ghost use Rattle.record_changes.specs.Before.{is_before};
@@ -13,7 +13,8 @@ pub struct Stretch {
 impl Stretch {
     ghost use Rattle.record_changes.specs.Cut.{takes, within};
 
-    /// Checks whether a chapter from `start` to `end` is in the period.
+    /// Checks whether a chapter from `start` to `end` nanoseconds is in the period. It starts in it, or starts before
+    /// it and ends after its start.
     pub(crate) fn takes(self, start: u64, end: Option<u64>) -> bool
         ensures { result ≡ takes self start end }
     {
@@ -24,7 +25,7 @@ impl Stretch {
         }
     }
 
-    /// Returns a time limited to the period, relative to its start.
+    /// Returns `time`, in nanoseconds, limited to the period and relative to its start.
     pub(crate) fn within(self, time: u64) -> u64
         requires { IfSome self.to (λ to. self.from ≤ to) }
         ensures { result ≡ within self time }

@@ -1,4 +1,4 @@
-//! Tag elements: RFC 9559, section 5.1.8 (Tags).
+//! A Tag of an input, as an output gets it: RFC 9559, section 5.1.8 (Tags).
 
 ghost use Rattle.std.specs.Prelude.{◌≡◌, IfOk};
 ghost use Rattle.mkv_schema.specs.declared.ids.TheConstants.{TAG as TAG_ID, TAGS as TAGS_ID, TARGETS as TARGETS_ID};
@@ -14,7 +14,8 @@ use ebml_tree::{Tree, empty};
 use mkv_schema::ids::{TAG, TARGETS};
 use std::alloc::{AllocError, Global};
 
-// Returns Targets as written to the output.
+// Returns `targets`, the Targets of a Tag, with the output's identifiers in `map`. Items that the output lacks are left
+// out.
 fn written_targets(alloc: Global, targets: &Tree, map: &UidMap) -> Result<Tree, AllocError>
     requires { IsRead TARGETS_ID targets.now }
     ensures exact { IfOk result (λ tree. tree ≡ written_part (numbers_in map.now) targets.now) }
@@ -30,7 +31,7 @@ fn written_targets(alloc: Global, targets: &Tree, map: &UidMap) -> Result<Tree, 
     Ok(written)
 }
 
-// Returns a child of a Tag as written to the output.
+// Returns `part`, a child of a Tag: with the output's identifiers if it is a Targets, and otherwise unchanged.
 fn written_part(alloc: Global, part: &Tree, map: &UidMap) -> Result<Tree, AllocError>
     requires { StandsIn TAG_ID part.now }
     ensures exact { IfOk result (λ tree. tree ≡ written_part (numbers_in map.now) part.now) }
@@ -43,7 +44,7 @@ fn written_part(alloc: Global, part: &Tree, map: &UidMap) -> Result<Tree, AllocE
     }
 }
 
-/// Returns a Tag as written to the output.
+/// Returns `tag` with the output's identifiers in `map` in its Targets.
 pub(crate) fn written_tag(alloc: Global, tag: &Tree, map: &UidMap) -> Result<Tree, AllocError>
     requires { IsRead TAG_ID tag.now }
     ensures exact { IfOk result (λ tree. tree ≡ written_tag (numbers_in map.now) tag.now) }
@@ -56,7 +57,7 @@ pub(crate) fn written_tag(alloc: Global, tag: &Tree, map: &UidMap) -> Result<Tre
     Ok(written)
 }
 
-// Returns a summary of the targets in a child of a Tag.
+// Returns the summary of the targets in `part`, a child of a Tag; there are none unless it is a Targets.
 fn tag_targets_in_part(part: &Tree, map: &UidMap) -> TagTargets
     requires { StandsIn TAG_ID part.now }
     ensures { result ≡ tag_targets_of (numbers_in map.now) (targets_in part.now) }
@@ -70,7 +71,7 @@ fn tag_targets_in_part(part: &Tree, map: &UidMap) -> TagTargets
     aims
 }
 
-/// Returns a summary of the targets of a Tag.
+/// Returns the summary of all targets of `tag`, which decides whether the Tag is kept.
 pub(crate) fn aims_in(tag: &Tree, map: &UidMap) -> TagTargets
     requires { IsRead TAG_ID tag.now }
     ensures { result ≡ aims_in (numbers_in map.now) tag.now }

@@ -1,4 +1,4 @@
-//! Tags of an input: RFC 9559, section 5.1.8 (Tags).
+//! The Tags of an input, as an output gets them: RFC 9559, section 5.1.8 (Tags).
 
 ghost use Rattle.std.specs.Prelude.{◌≡◌, IfOk, IfSome};
 ghost use Rattle.mkv_schema.specs.declared.ids.TheConstants.{TAGS as TAGS_ID};
@@ -15,8 +15,8 @@ use ebml_tree::{Tree, empty};
 use mkv_schema::ids::{TAG, TAGS};
 use std::alloc::{AllocError, Global};
 
-// Checks whether a Tag with the targets `aims` is kept. `keep` must ask for its kind, of a track or not. If it has
-// targets, the output must have one of them.
+// Checks whether a Tag whose targets have the summary `aims` is kept. `keep` must ask for its kind, for a track or not.
+// If it has targets, the output must have one of them.
 fn are_kept(keep: TagKeep, aims: TagTargets) -> bool
     ensures { result ≡ are_kept keep aims }
 {
@@ -24,7 +24,7 @@ fn are_kept(keep: TagKeep, aims: TagTargets) -> bool
     wanted && (!aims.any || aims.written)
 }
 
-// Returns a child of Tags as written to the output, or nothing if it is left out.
+// Returns `child`, a child of Tags, as the output gets it, or None if it isn't a Tag or isn't kept.
 fn written_child(
     alloc: Global,
     child: &Tree,
@@ -44,9 +44,9 @@ fn written_child(
     Ok(Some(tag::written_tag(alloc, child, map)?))
 }
 
-/// Returns the Tags of an input as written to the output: the Tags that `keep` chooses, with the output's identifiers
-/// in their targets. A target that isn't in the output is removed. A Tag that loses all its targets is left out. A
-/// target of 0, which names all of its kind, stays.
+/// Returns `tags`, the Tags of an input, as the output gets them. They are the Tags that `keep` chooses, with the
+/// output's identifiers in `map` in their targets. A target that isn't in the output is removed. A Tag that loses all
+/// its targets is left out. A target of 0, which names all of its kind, stays.
 pub fn merge_tags(
     alloc: Global,
     tags: &Tree,

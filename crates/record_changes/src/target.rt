@@ -1,4 +1,4 @@
-//! Targets of a Tag: RFC 9559, section 5.1.8 (Tags).
+//! One target of a Tag, as an output gets it: RFC 9559, section 5.1.8 (Tags).
 
 ghost use Rattle.std.specs.Prelude.{◌≡◌, ◌<◌, ◌^◌, true, [], ◌∷◌, filter, IfOk, IfSome, IsTrue};
 ghost use Rattle.std.specs.Option.{option_to_list};
@@ -15,7 +15,7 @@ use ebml_tree::{Tree, uint_leaf};
 use mkv_schema::ids::{TAG_ATTACHMENT_UID, TAG_CHAPTER_UID, TAG_EDITION_UID, TAG_TRACK_UID};
 use std::alloc::{AllocError, Global};
 
-// Checks whether the ID is the UID of a track, edition, chapter or attached file in a Targets element.
+// Checks whether `id` is the ID of a target: the UID of a track, edition, chapter or attached file in a Targets.
 fn is_target_id(id: u32) -> bool
     ensures { result ≡ is_target_id id }
 {
@@ -25,7 +25,7 @@ fn is_target_id(id: u32) -> bool
         || id == TAG_ATTACHMENT_UID
 }
 
-// Checks whether a child of Targets names one thing.
+// Checks whether `child`, a child of Targets, names one item; 0 names all of its kind.
 fn is_target(child: &Tree) -> bool
     requires { StandsIn TARGETS_ID child.now }
     ensures { result ≡ is_target child.now }
@@ -33,7 +33,7 @@ fn is_target(child: &Tree) -> bool
     is_target_id(child.id()) && child.uint() != 0
 }
 
-// Returns the output's number for the identifier `uid` in a target with the ID `id`.
+// Returns the output's number for the identifier `uid` in a target with the ID `id`, or None if the output lacks it.
 fn number_in(map: &UidMap, id: u32, uid: u64) -> Option<u64>
     ensures { result ≡ numbers_in map.now id uid }
 {
@@ -46,7 +46,7 @@ fn number_in(map: &UidMap, id: u32, uid: u64) -> Option<u64>
     }
 }
 
-// Returns the output's number of a target.
+// Returns the output's number for the item that `target` names, or None if the output lacks it.
 fn number_of(target: &Tree, map: &UidMap) -> Option<u64>
     requires stands { StandsIn TARGETS_ID target.now }
     requires target { is_target_id (id_of target.now) ≡ true }
@@ -55,7 +55,8 @@ fn number_of(target: &Tree, map: &UidMap) -> Option<u64>
     number_in(map, target.id(), target.uint())
 }
 
-/// Returns a child of Targets as written to the output, or nothing if it is removed.
+/// Returns `child`, a child of Targets, as the output gets it: a target gets the output's number. Returns None if the
+/// output lacks its item.
 pub(crate) fn written_target(
     alloc: Global,
     child: &Tree,
@@ -74,7 +75,7 @@ pub(crate) fn written_target(
     }
 }
 
-/// Returns a summary of a child of Targets.
+/// Returns the summary of `child`, a child of Targets: no targets unless it names one item.
 pub(crate) fn tag_targets_of(child: &Tree, map: &UidMap) -> TagTargets
     requires { StandsIn TARGETS_ID child.now }
     ensures { result ≡ tag_targets_of (numbers_in map.now) (filter is_target (child.now ∷ [])) }

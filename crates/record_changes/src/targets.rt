@@ -3,7 +3,8 @@
 ghost use Rattle.std.specs.Prelude.{◌≡◌};
 ghost use Rattle.record_changes.specs.Tags.{both_aims};
 
-/// Summary of targets: whether there is any, one with a track, and one that is in the output
+/// Summary that decides whether a Tag is kept: whether it has any target, one with a track, and one that is in the
+/// output
 #[derive(Clone, Copy)]
 pub struct TagTargets {
     pub any: bool,
@@ -12,14 +13,14 @@ pub struct TagTargets {
 }
 
 impl TagTargets {
-    /// Summary of no targets
+    /// Summary of a Tag without targets
     pub const NONE: TagTargets = TagTargets {
         any: false,
         track: false,
         written: false,
     };
 
-    /// Returns the summary of the targets of both.
+    /// Returns the summary of the targets of `self` and `other` together.
     pub fn or(self, other: TagTargets) -> TagTargets
         ensures { result ≡ both_aims self other }
     {

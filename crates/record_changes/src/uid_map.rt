@@ -1,7 +1,7 @@
-//! Identifiers and choice for the Tags of an input
+//! Identifiers of an input in the output, and the choice of its Tags
 use indexmap::IndexMap;
 
-/// Identifiers of an input that are in the output, with their numbers there
+/// Numbers that an input's identifiers have in the output; an identifier whose item isn't there is missing
 #[derive(Drop)]
 pub struct UidMap {
     pub tracks: IndexMap<u64, u64>,
@@ -10,7 +10,7 @@ pub struct UidMap {
     pub attachments: IndexMap<u64, u64>,
 }
 
-/// Choice of the Tags of an input that are kept
+/// Choice of the Tags of an input that a merge keeps
 #[derive(Clone, Copy)]
 pub struct TagKeep {
     /// Tags with a track as target

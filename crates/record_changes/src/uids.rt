@@ -1,4 +1,4 @@
-//! Identifiers of editions and chapters: RFC 9559, section 5.1.7 (Chapters).
+//! Identifiers of editions and chapters, in the order of renumbering: RFC 9559, section 5.1.7 (Chapters).
 
 ghost use Rattle.std.specs.Prelude.{◌≡◌, ◌++◌, map, OnOk};
 ghost use Rattle.mkv_schema.specs.declared.ids.TheConstants as ids;
@@ -14,7 +14,7 @@ use mkv_io::List;
 use mkv_schema::ids::{CHAPTER_ATOM, CHAPTER_UID, EDITION_ENTRY, EDITION_UID};
 use std::alloc::AllocError;
 
-/// Returns the unsigned integer of the first child with the ID `id`, or 0 if it is absent.
+/// Returns the unsigned integer of the first child of `tree` with the ID `id`, or 0 if it is absent.
 pub(crate) fn value_in(tree: &Tree, id: u32) -> u64
     requires sound { IsSound tree.now }
     requires uint { HasUint (id_of tree.now) id }
@@ -26,7 +26,7 @@ pub(crate) fn value_in(tree: &Tree, id: u32) -> u64
     }
 }
 
-// Appends the identifier of a child of Chapters, if it is an edition.
+// Appends the EditionUID of `child`, a child of Chapters, to `uids`, if it is an edition.
 fn push_edition_uid(child: &Tree, uids: &mut List<u64>) -> Result<(), AllocError>
     requires { IsReadIf ids.EDITION_ENTRY child.now }
     ensures { OnOk result (uids.new ≡ uids.old ++ own_uids child.now) }
@@ -37,8 +37,8 @@ fn push_edition_uid(child: &Tree, uids: &mut List<u64>) -> Result<(), AllocError
     uids.push(value_in(child, EDITION_UID))
 }
 
-/// Appends the identifiers of the editions, in their order; an absent one is 0. If memory runs out, some may have
-/// been appended.
+/// Appends the EditionUIDs of all editions of `chapters` to `uids`, in their order; an absent one is 0. If memory runs
+/// out, some may have been appended.
 pub fn push_edition_uids(chapters: &Tree, uids: &mut List<u64>) -> Result<(), AllocError>
     requires { IsRead ids.CHAPTERS chapters.now }
     ensures { OnOk result (uids.new ≡ uids.old ++ edition_uids chapters.now) }
@@ -49,7 +49,8 @@ pub fn push_edition_uids(chapters: &Tree, uids: &mut List<u64>) -> Result<(), Al
     Ok(())
 }
 
-// Appends the identifiers of an atom and of the atoms inside it; another child has none.
+// Appends the ChapterUIDs of `child`, a child of an edition or atom, and of the atoms inside it. A child that isn't an
+// atom has none.
 fn push_atom_uids(child: &Tree, uids: &mut List<u64>) -> Result<(), AllocError>
     requires { IsReadIf ids.CHAPTER_ATOM child.now }
     ensures { OnOk result (uids.new ≡ uids.old ++ map (value_in ids.CHAPTER_UID) (atoms_at child.now)) }
@@ -64,7 +65,7 @@ fn push_atom_uids(child: &Tree, uids: &mut List<u64>) -> Result<(), AllocError>
     Ok(())
 }
 
-// Appends the identifiers of the atoms in a child of Chapters, if it is an edition.
+// Appends the ChapterUIDs of the atoms in `child`, a child of Chapters, if it is an edition.
 fn push_uids_inside(child: &Tree, uids: &mut List<u64>) -> Result<(), AllocError>
     requires { IsReadIf ids.EDITION_ENTRY child.now }
     ensures { OnOk result (uids.new ≡ uids.old ++ inner_uids child.now) }
@@ -78,8 +79,8 @@ fn push_uids_inside(child: &Tree, uids: &mut List<u64>) -> Result<(), AllocError
     Ok(())
 }
 
-/// Appends the identifiers of the chapters, edition by edition, each atom before the atoms inside it. An absent
-/// identifier is 0. If memory runs out, some may have been appended.
+/// Appends the ChapterUIDs of all chapters of `chapters` to `uids`, edition by edition, each atom before the atoms
+/// inside it. An absent identifier is 0. If memory runs out, some may have been appended.
 pub fn push_chapter_uids(chapters: &Tree, uids: &mut List<u64>) -> Result<(), AllocError>
     requires { IsRead ids.CHAPTERS chapters.now }
     ensures { OnOk result (uids.new ≡ uids.old ++ chapter_uids chapters.now) }

@@ -1,4 +1,4 @@
--- Simple chapters as a Chapters Element: RFC 9559, section 5.1.7 (Chapters Element).
+-- The Chapters Element of a file of OGM simple chapters: RFC 9559, section 5.1.7 (Chapters Element).
 use Rattle.std.specs.Prelude.{ℕ, List, [], ◌∷◌, map, codes, Result, Ok, Err}
 use Rattle.mkv_schema.specs.declared.ids.TheConstants.{CHAPTERS, EDITION_ENTRY, EDITION_UID, CHAPTER_ATOM, CHAPTER_UID, CHAPTER_TIME_START, CHAPTER_DISPLAY, CHAP_STRING, CHAP_LANGUAGE}
 use Rattle.tree_format.specs.Node.{Node, leaf, master, nodes_of}
@@ -6,27 +6,27 @@ use Rattle.tree_format.specs.Children.{uint_leaf}
 use Rattle.text_formats.specs.declared.chapter_reading.Chapter.{Chapter}
 use Rattle.text_formats.specs.Pairs.{simple}
 
--- a ChapterDisplay: the name, in an undetermined language
+-- a ChapterDisplay with the ChapString `name`, in an undetermined language
 abbrev pub display : List ℕ → Node
 display name = master CHAPTER_DISPLAY 0 (nodes_of (leaf CHAP_STRING 0 name ∷ leaf CHAP_LANGUAGE 0 (codes "und") ∷ []))
 
--- a ChapterAtom: an identifier that isn't set yet, the start in nanoseconds, and the name
+-- a ChapterAtom for the simple chapter `c`: the start in nanoseconds, the name, and a ChapterUID of 0, which a merge replaces
 abbrev pub atom : Chapter → Node
 atom c = master CHAPTER_ATOM 0 (nodes_of (uint_leaf CHAPTER_UID 0 ∷ uint_leaf CHAPTER_TIME_START c.start ∷ display c.name ∷ []))
 
--- an EditionEntry: an identifier that isn't set yet, and an atom for each chapter
+-- an EditionEntry with an atom for each of `cs`, and an EditionUID of 0, which a merge replaces
 abbrev pub edition : List Chapter → Node
 edition cs = master EDITION_ENTRY 0 (nodes_of (uint_leaf EDITION_UID 0 ∷ map atom cs))
 
--- a Chapters Element with one edition
+-- a Chapters Element with one edition, which has an atom for each of `cs`
 abbrev pub chapters_of : List Chapter → Node
 chapters_of cs = master CHAPTERS 0 (nodes_of (edition cs ∷ []))
 
--- the Chapters with these chapters, or the number of the first bad line
+-- the Chapters Element for the chapters that were read, or the number of the first bad line, from 1
 abbrev pub as_tree : Result (List Chapter) ℕ → Result Node ℕ
 as_tree (Ok cs) = Ok (chapters_of cs)
 as_tree (Err n) = Err n
 
--- the Chapters Element of a file of simple chapters, or the number of its first bad line
+-- the Chapters Element of a file of simple chapters with the content `content`, or the number of its first bad line, from 1
 abbrev pub simple_chapters : List ℕ → Result Node ℕ
 simple_chapters content = as_tree (simple content)

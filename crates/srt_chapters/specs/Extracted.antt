@@ -11,27 +11,27 @@ use Rattle.text_formats.specs.ChapterWriting.{put_pair}
 abbrev pub start_of : Node → ℕ
 start_of atom = option_map_or integer_of (first_child CHAPTER_TIME_START atom) 0
 
--- the name in a display, or nothing if it is absent
+-- the ChapString in the ChapterDisplay `display`, or no bytes if it is absent
 abbrev pub name_in : Node → List ℕ
 name_in display = option_map_or (λ s. text_of (body_of s)) (first_child CHAP_STRING display) []
 
--- the name of an atom: the one in its first display, or nothing
+-- the name in the first ChapterDisplay of `atom`, or no bytes if one is absent
 abbrev pub name_of : Node → List ℕ
 name_of atom = option_map_or name_in (first_child CHAPTER_DISPLAY atom) []
 
--- the atoms directly in an edition
+-- the atoms among `ns`, the children of an edition; nested ones aren't included
 abbrev pub atoms_in : List Node → List Node
 atoms_in ns = filter (λ n. id_of n == CHAPTER_ATOM) ns
 
--- the atoms directly in the first edition of Chapters
+-- the atoms directly in the first edition of `chapters`, if it has one
 abbrev pub top_atoms : Node → List Node
 top_atoms chapters = option_map_or (λ edition. atoms_in (children edition)) (first_child EDITION_ENTRY chapters) []
 
--- the atoms as pairs of lines, numbered from `k`
+-- the atoms of the list as simple chapters, two lines each; the first has the number `k`
 abbrev pub put_atoms : ℕ → List Node → List ℕ
 put_atoms k [] = []
 put_atoms k (a ∷ as') = put_pair k (start_of a) (name_of a) ++ put_atoms (k + 1) as'
 
--- a Chapters Element as simple chapters, numbered from 1
+-- the top atoms of `chapters` as simple chapters, numbered from 1
 abbrev pub put_simple : Node → List ℕ
 put_simple chapters = put_atoms 1 (top_atoms chapters)

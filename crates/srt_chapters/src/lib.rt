@@ -1,7 +1,7 @@
 #![tactic(auto)]
 
-//! Reader and writer of simple chapters as a Chapters Element (RFC 9559, section 5.1.7, Chapters Element), with the
-//! calls on text files under one name.
+//! OGM simple chapters (`CHAPTER01=..`), read as a Chapters Element and written from one (RFC 9559, section 5.1.7,
+//! Chapters Element). The crate also passes on the calls on the other text files.
 
 mod reading;
 mod writing;

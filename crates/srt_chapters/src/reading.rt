@@ -1,4 +1,4 @@
-//! Reader of simple chapters as a Chapters Element.
+//! Reading of a file of simple chapters as a Chapters Element.
 
 ghost use Rattle.std.specs.Prelude.{◌≡◌, IfOk, IsTrue};
 ghost use Rattle.mkv_schema.specs.Schema.{is_master};
@@ -16,7 +16,7 @@ use mkv_schema::ids::{
 use std::alloc::{AllocError, Global};
 use text_formats::{Chapter, TextEnd, read_pairs};
 
-// Makes a master with this `id` and no children.
+// Makes a master with the ID `id` and no children.
 #[tactic(auto, using(crate::proofs::ChaptersLemmas::empty), unfolding(tree_format::specs::Reading::grove, tree_format::specs::Reading::grove_within))]
 fn empty_master(alloc: Global, id: u32) -> Result<Tree, AllocError>
     requires { IsTrue (is_master id) }
@@ -28,7 +28,7 @@ fn empty_master(alloc: Global, id: u32) -> Result<Tree, AllocError>
     }
 }
 
-// Makes a ChapterDisplay with the name `name`.
+// Makes a ChapterDisplay with the name `name`, in an undetermined language.
 #[tactic(auto, using(crate::proofs::ChaptersLemmas::known))]
 fn display(alloc: Global, name: &str) -> Result<Tree, AllocError>
     ensures { IfOk result (λ tree. tree ≡ spec.display name.now) }
@@ -39,7 +39,7 @@ fn display(alloc: Global, name: &str) -> Result<Tree, AllocError>
     Ok(display)
 }
 
-// Makes the ChapterAtom of a simple chapter.
+// Makes the ChapterAtom for the simple chapter `chapter`. Its ChapterUID is 0 until a merge gives one.
 #[tactic(auto, using(crate::proofs::ChaptersLemmas::known, crate::proofs::SoundLemmas::stands))]
 fn atom(alloc: Global, chapter: &Chapter) -> Result<Tree, AllocError>
     ensures exact { IfOk result (λ tree. tree ≡ spec.atom chapter.now) }
@@ -52,7 +52,7 @@ fn atom(alloc: Global, chapter: &Chapter) -> Result<Tree, AllocError>
     Ok(atom)
 }
 
-// Makes the EditionEntry of simple chapters.
+// Makes the EditionEntry with an atom for each of `chapters`. Its EditionUID is 0 until a merge gives one.
 #[tactic(auto, using(crate::proofs::ChaptersLemmas::known))]
 fn edition(alloc: Global, chapters: &[Chapter]) -> Result<Tree, AllocError>
     ensures exact { IfOk result (λ tree. tree ≡ spec.edition chapters.now) }
@@ -66,8 +66,8 @@ fn edition(alloc: Global, chapters: &[Chapter]) -> Result<Tree, AllocError>
     Ok(edition)
 }
 
-/// Makes a Chapters Element with one edition that has an atom for each of `chapters` (RFC 9559, section 5.1.7,
-/// Chapters Element). Its identifiers are 0.
+/// Makes a Chapters Element with one edition that has an atom for each of `chapters` (RFC 9559, section 5.1.7, Chapters
+/// Element). Its identifiers are 0 until a merge gives them.
 #[tactic(auto, using(crate::proofs::ChaptersLemmas::known, crate::proofs::SoundLemmas::chapters_sound))]
 pub fn chapters_tree(alloc: Global, chapters: &[Chapter]) -> Result<Tree, AllocError>
     ensures exact { IfOk result (λ tree. tree ≡ spec.chapters_of chapters.now) }
@@ -78,8 +78,8 @@ pub fn chapters_tree(alloc: Global, chapters: &[Chapter]) -> Result<Tree, AllocE
     Ok(tree)
 }
 
-/// Reads a file of simple chapters as a Chapters Element. It fails with the file's first bad line. The identifiers
-/// are 0.
+/// Reads `bytes`, the content of a file of simple chapters, as a Chapters Element. It fails with the number of the
+/// first bad line, from 1. The identifiers are 0 until a merge gives them.
 pub fn read_simple(alloc: Global, bytes: &[u8]) -> Result<Tree, TextEnd>
     ensures exact { Reads result (spec.simple_chapters bytes.now) }
 

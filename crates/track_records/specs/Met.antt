@@ -1,7 +1,7 @@
--- The values of an entry that came before.
+-- The values of a TrackEntry that came before the one that is checked.
 use Rattle.std.specs.Prelude.{ℕ, ◌==◌, Bool, ◌&&◌, ◌||◌}
 use Rattle.mkv_schema.specs.declared.ids.TheConstants.{TRACK_NUMBER, DEFAULT_DURATION}
 
--- An element with the ID `id` came before, if a TrackNumber (`numbered`) or DefaultDuration (`timed`) did.
+-- An Element with the ID `id` came before in the entry: `numbered` is true if a TrackNumber did, `timed` if a DefaultDuration did.
 abbrev pub is_met : Bool → Bool → ℕ → Bool
 is_met numbered timed id = (numbered && id == TRACK_NUMBER) || (timed && id == DEFAULT_DURATION)

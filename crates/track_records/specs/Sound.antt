@@ -1,8 +1,8 @@
--- Soundness of the entries of a Tracks element.
+-- Validity of the entries of a Tracks.
 use Rattle.mkv_schema.specs.declared.ids.TheConstants.{TRACK_ENTRY}
 use Rattle.tree_format.specs.Node.{Node}
 use Rattle.tree_format.specs.Standing.{IsSoundOf}
 
--- The node `n` is a TrackEntry with valid children.
+-- The node `n` is a TrackEntry, and the Matroska table allows its children there.
 abbrev pub IsEntry : Node → Type 0
 IsEntry n = IsSoundOf TRACK_ENTRY n

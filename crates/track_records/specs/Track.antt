@@ -1,4 +1,4 @@
--- The entries of a Tracks element as tracks: RFC 9559, section 5.1.4 (Tracks).
+-- The entries of a Tracks as tracks: RFC 9559, section 5.1.4 (Tracks).
 use Rattle.std.specs.Prelude.{List, map, Result}
 use Rattle.mkv_io.specs.declared.damage.Damage.{Damage}
 use Rattle.mkv_io.specs.Results.{unless}
@@ -7,7 +7,7 @@ use Rattle.file_format.specs.Entry.{entries_of, number_of, uid_of, type_of, code
 use Rattle.file_format.specs.Refusal.{refusal_of}
 use Rattle.track_records.specs.declared.track.Track.{Track}
 
--- the facts of a track that its TrackEntry has
+-- the track with the TrackEntry `entry`
 abbrev pub track_of : Node → Track
 track_of entry = record {
   number = number_of entry;
@@ -20,6 +20,6 @@ track_of entry = record {
   entry = entry;
 }
 
--- the tracks in the order of the entries, or the first damage
+-- the tracks of `tracks` in the order of its entries, or the damage for which it is refused
 abbrev pub tracks_of : Node → Result (List Track) Damage
 tracks_of tracks = unless (refusal_of tracks) (map track_of (entries_of tracks))

@@ -1,4 +1,4 @@
-//! Test whether a track may be appended to another: RFC 9559, section 5.1.4 (Tracks).
+//! The test of a merge whether a track may be appended to another: RFC 9559, section 5.1.4 (Tracks).
 
 ghost use Rattle.std.specs.Prelude.{◌≡◌};
 ghost use Rattle.std.specs.Option.{option_copied};
@@ -8,7 +8,8 @@ use crate::fields::{FIELDS, Field};
 use crate::track::Track;
 use ebml_tree::Tree;
 
-// Returns the first element of `field` in `entry`.
+// Returns the first Element of `field` in `entry`, a TrackEntry: a child, or a child of the entry's first master for
+// the field.
 fn in_master<'a>(entry: &'a Tree, field: &Field) -> Option<&'a Tree>
     ensures { option_copied result ≡ in_master field.now.master field.now.id entry.now }
 {
@@ -18,7 +19,7 @@ fn in_master<'a>(entry: &'a Tree, field: &Field) -> Option<&'a Tree>
     }
 }
 
-// Returns the bytes of the first element of `field` in `entry`.
+// Returns the data of the first Element of `field` in `entry`, a TrackEntry, or None if it is absent.
 fn octets_at<'a>(entry: &'a Tree, field: &Field) -> Option<&'a [u8]>
     ensures { option_copied result ≡ octets_at field.now entry.now }
 {
@@ -28,7 +29,7 @@ fn octets_at<'a>(entry: &'a Tree, field: &Field) -> Option<&'a [u8]>
     }
 }
 
-// Checks whether two optional values are equal, or both are absent.
+// Checks whether two values of a field are equal, or both absent.
 fn are_alike(p: Option<&[u8]>, q: Option<&[u8]>) -> bool
     ensures { result ≡ are_alike (option_copied p.entry) (option_copied q.entry) }
 {
@@ -39,8 +40,8 @@ fn are_alike(p: Option<&[u8]>, q: Option<&[u8]>) -> bool
     }
 }
 
-/// Returns the ID of the first field of `b` that differs from `a`, or nothing if `b` may be appended to `a`. Only the
-/// first element of each field counts, compared by its bytes or its absence.
+/// Returns the ID of the first field of the track `b` that differs from `a`, or None if `b` may be appended to `a`.
+/// Only the first Element of each field counts, compared by its bytes or its absence.
 pub fn differs(a: &Track, b: &Track) -> Option<u32>
     ensures { result ≡ first_difference a.now.entry b.now.entry }
 {

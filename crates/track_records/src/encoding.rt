@@ -1,4 +1,4 @@
-//! Test whether a track's frames can be used: RFC 9559, section 5.1.4 (Tracks), ContentEncodings and
+//! The test whether a track's frames can be used: RFC 9559, section 5.1.4 (Tracks), ContentEncodings and
 //! TrackTimestampScale.
 
 ghost use Rattle.std.specs.Prelude.{◌≡◌, ◌≤◌, length, IfOk};
@@ -29,7 +29,7 @@ const ZLIB: u64 = 0;
 /// ContentCompAlgo of header stripping
 const HEADER_STRIPPING: u64 = 3;
 
-/// Maximum number of bytes that are restored before a frame
+/// Greatest number of bytes that may be restored before a frame
 const MAX_STRIPPED: usize = 4096;
 
 /// 1.0 as a float of four and of eight bytes (RFC 8794, section 7.3, Float)
@@ -39,7 +39,7 @@ const ONE_IN_8: [u8; 8] = [0x3F, 0xF0, 0, 0, 0, 0, 0, 0];
 
 // ---- one ContentEncoding
 
-// Returns the ContentCompAlgo of a ContentEncoding, or the default.
+// Returns the ContentCompAlgo of `encoding`, a ContentEncoding, or its default, 0.
 fn algorithm_of(encoding: &Tree) -> u64
     requires { IsSoundOf ENCODING_ID encoding.now }
     ensures { result ≡ algorithm_of encoding.now }
@@ -50,7 +50,8 @@ fn algorithm_of(encoding: &Tree) -> u64
     }
 }
 
-// Returns the ContentCompSettings of a ContentEncoding, or no bytes.
+// Returns the ContentCompSettings of `encoding`, a ContentEncoding, or no bytes: for header stripping, the bytes that
+// were removed.
 fn settings_of(encoding: &Tree) -> &[u8]
     ensures { result.now ≡ settings_of encoding.now }
 {
@@ -63,7 +64,8 @@ fn settings_of(encoding: &Tree) -> &[u8]
     }
 }
 
-// Checks whether `encoding` is header stripping of only the frames, by at most `MAX_STRIPPED` bytes.
+// Checks whether the ContentEncoding `encoding` is header stripping of only the frames, by at most `MAX_STRIPPED`
+// bytes.
 #[tactic(auto, using(crate::proofs::EntryLemmas::known))]
 fn strips_headers(encoding: &Tree) -> bool
     requires { IsSoundOf ENCODING_ID encoding.now }
@@ -77,7 +79,8 @@ fn strips_headers(encoding: &Tree) -> bool
 
 // ---- a track
 
-// Checks whether the encodings of a track can be undone: there is none, or one that strips headers from frames.
+// Checks whether the ContentEncodings `encodings` can be undone: it has no encoding, or one that strips headers from
+// frames.
 fn can_be_undone(encodings: &Tree) -> bool
     requires { IsSoundOf ENCODINGS_ID encodings.now }
     ensures { result ≡ can_be_undone (encodings_of encodings.now) }
@@ -91,7 +94,7 @@ fn can_be_undone(encodings: &Tree) -> bool
     }
 }
 
-// Returns damage at the first ContentEncodings, unless it can be undone.
+// Returns damage at the first ContentEncodings of `entry`, a TrackEntry, unless it can be undone.
 fn bad_encoding(entry: &Tree) -> Option<Damage>
     requires { IsEntry entry.now }
     ensures { result ≡ bad_encoding entry.now }
@@ -107,14 +110,14 @@ fn bad_encoding(entry: &Tree) -> Option<Damage>
     })
 }
 
-// Checks whether `octets` is an empty float or 1.0.
+// Checks whether the data of a float, `octets`, is empty or 1.0.
 fn is_one(octets: &[u8]) -> bool
     ensures { result ≡ is_one octets.now }
 {
     octets.is_empty() || octets == ONE_IN_4.as_slice() || octets == ONE_IN_8.as_slice()
 }
 
-// Returns damage at the first TrackTimestampScale, unless it is 1.
+// Returns damage at the first TrackTimestampScale of `entry`, a TrackEntry, unless it is 1.
 fn bad_scale(entry: &Tree) -> Option<Damage>
     ensures { result ≡ bad_scale entry.now }
 {
@@ -129,7 +132,7 @@ fn bad_scale(entry: &Tree) -> Option<Damage>
     })
 }
 
-// Returns the first damage that keeps a track's frames from being used.
+// Returns the first reason why the frames of the track with the TrackEntry `entry` can't be used, as damage.
 fn cause_of(entry: &Tree) -> Option<Damage>
     requires { IsEntry entry.now }
     ensures { result ≡ first_damage (usable_causes entry.now) }
@@ -137,7 +140,8 @@ fn cause_of(entry: &Tree) -> Option<Damage>
     bad_encoding(entry).or(bad_scale(entry))
 }
 
-// Returns the bytes that header stripping removed from the start of each frame.
+// Returns the bytes that header stripping removed from the start of each frame, by the TrackEntry `entry`; none without
+// it.
 fn prefix_of(entry: &Tree) -> &[u8]
     ensures { result.now ≡ prefix_of entry.now }
 {
@@ -150,12 +154,11 @@ fn prefix_of(entry: &Tree) -> &[u8]
     }
 }
 
-/// Returns the bytes to restore before each frame of the track, which are none without header stripping. Fails with
-/// the damage that keeps its frames from being used.
+/// Returns the bytes to restore before each frame of `track`, which are none without header stripping. Fails with the
+/// damage for which its frames can't be used.
 ///
-/// `Encoding` is reported at the first ContentEncodings, unless it has at most one encoding, which strips at most
-/// 4,096 bytes from frames. Otherwise `TrackScale` is reported at the first TrackTimestampScale, unless it is empty
-/// or 1.
+/// `Encoding` is reported at the first ContentEncodings, unless it has at most one encoding, which strips at most 4,096
+/// bytes from frames. Otherwise `TrackScale` is reported at the first TrackTimestampScale, unless it is empty or 1.
 pub fn usable(track: &Track) -> Result<&[u8], Damage>
     requires { IsEntry track.now.entry }
     ensures exact { lent result ≡ usable_prefix track.now.entry }

@@ -1,4 +1,4 @@
-//! Values of a TrackEntry: RFC 9559, section 5.1.4 (Tracks).
+//! The values of a TrackEntry that a track is described by: RFC 9559, section 5.1.4 (Tracks).
 
 ghost use Rattle.std.specs.Prelude.{◌≡◌, IfOk};
 ghost use Rattle.file_format.specs.Entry.{number_of};
@@ -13,7 +13,7 @@ use mkv_schema::ids::{
 };
 use std::alloc::{AllocError, Global};
 
-/// Returns the TrackNumber, or 0 if it is absent.
+/// Returns the TrackNumber of `entry`, or 0 if it is absent.
 #[tactic(auto, using(crate::proofs::EntryLemmas::known))]
 pub(crate) fn number_of(entry: &Tree) -> u64
     requires { IsEntry entry.now }
@@ -22,7 +22,7 @@ pub(crate) fn number_of(entry: &Tree) -> u64
     uint_in(entry, TRACK_NUMBER)
 }
 
-// Returns a copy of a text.
+// Returns a copy of `text` that a track owns.
 fn as_text(alloc: Global, text: &str) -> Result<Text, AllocError>
     ensures { IfOk result (λ copy. copy ≡ text.now) }
 {
@@ -31,7 +31,7 @@ fn as_text(alloc: Global, text: &str) -> Result<Text, AllocError>
     Ok(copy)
 }
 
-/// Returns the facts of a track that its TrackEntry has.
+/// Returns the track with the TrackEntry `entry`, with a copy of it.
 #[tactic(auto, using(crate::proofs::EntryLemmas::known))]
 pub(crate) fn track_of(alloc: Global, entry: &Tree) -> Result<Track, AllocError>
     requires { IsEntry entry.now }

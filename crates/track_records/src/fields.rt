@@ -1,17 +1,17 @@
-//! Fields that appended tracks must have in common
+//! Fields that decide whether a track may be appended to another
 use mkv_schema::ids::{
     AUDIO, CHANNELS, CODEC_ID, CODEC_PRIVATE, PIXEL_HEIGHT, PIXEL_WIDTH, SAMPLING_FREQUENCY,
     TRACK_TYPE, VIDEO,
 };
 
-/// Element of a TrackEntry: its ID, and its master unless that is the entry
+/// Field of a TrackEntry: the ID of its Element, and the ID of the master that has it, unless that is the entry
 #[derive(Clone, Copy)]
 pub struct Field {
     pub master: Option<u32>,
     pub id: u32,
 }
 
-/// Fields that appended tracks must have in common, in the order of their comparison
+/// Fields that an appended track must have in common with the track before it, in the order of their comparison
 pub const FIELDS: [Field; 7] = [
     Field {
         master: None,

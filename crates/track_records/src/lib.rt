@@ -1,8 +1,8 @@
 #![tactic(auto)]
 
-//! Tracks of a file: RFC 9559, section 5.1.4 (Tracks). It reads the entries of a Tracks element as values, or reports
-//! the first damage. It checks whether a track's frames can be used, and whether a track may be appended to another.
-//! It writes a source's TrackEntry with its output number and identifier, and with the user's changes.
+//! Tracks of a file: RFC 9559, section 5.1.4 (Tracks). The crate reads the entries of a Tracks as values, or reports
+//! the first damage. It checks whether a track's frames can be used, and whether a track may be appended to another. It
+//! makes the TrackEntry of an output, with its number and identifier, and with the user's changes.
 
 mod difference;
 mod encoding;

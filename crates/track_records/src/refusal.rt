@@ -1,4 +1,4 @@
-//! Damage of a Tracks element: RFC 9559, section 5.1.4 (Tracks).
+//! Reasons to refuse a Tracks: RFC 9559, section 5.1.4 (Tracks).
 
 ghost use Rattle.std.specs.Prelude.{◌≡◌, map, IfOk, is_none};
 ghost use Rattle.mkv_schema.specs.declared.ids.TheConstants.{TRACK_ENTRY as ENTRY_ID};
@@ -20,13 +20,13 @@ use std::collections::BTreeSet;
 /// Least DefaultDuration that is refused, in nanoseconds
 const TOO_LONG: u64 = 1 << 48;
 
-/// Mandatory children of an entry, in the order of the checks
+/// Children that each entry must have, in the order of the checks
 const MANDATORY: [u32; 3] = [TRACK_NUMBER, TRACK_TYPE, CODEC_ID];
 
-/// Maximum number of entries
+/// Greatest number of entries of a Tracks
 const MAX_TRACKS: usize = 1024;
 
-// Checks whether `child` is a TrackNumber of 0 or a DefaultDuration that is too long.
+// Checks whether `child`, a child of a TrackEntry, is a TrackNumber of 0 or a DefaultDuration of 2^48 ns or more.
 fn is_bad(child: &Tree) -> bool
     requires { StandsIn ENTRY_ID child.now }
     ensures { result ≡ is_bad child.now }
@@ -38,14 +38,15 @@ fn is_bad(child: &Tree) -> bool
     }
 }
 
-// Checks whether an element with the ID `id` came before. Only the two IDs that may be invalid are noted.
+// Checks whether an Element with the ID `id` came before in the entry: `numbered` if a TrackNumber did, `timed` if a
+// DefaultDuration did. Only the first of each is checked.
 fn is_met(numbered: bool, timed: bool, id: u32) -> bool
     ensures { result ≡ is_met numbered timed id }
 {
     numbered && id == TRACK_NUMBER || timed && id == DEFAULT_DURATION
 }
 
-// Returns damage at the first invalid value of `entry`.
+// Returns damage at the first invalid value of `entry`, a TrackEntry.
 fn bad_value(entry: &Tree) -> Option<Damage>
     requires { IsEntry entry.now }
     ensures { result ≡ bad_value entry.now }
@@ -67,14 +68,14 @@ fn bad_value(entry: &Tree) -> Option<Damage>
     None
 }
 
-// Checks whether an entry has no child with the ID `id`.
+// Checks whether `entry` has no child with the ID `id`.
 fn lacks(entry: &Tree, id: u32) -> bool
     ensures { result ≡ is_none (first_child id entry.now) }
 {
     entry.child(id).is_none()
 }
 
-// Returns damage if `entry` lacks a mandatory child.
+// Returns damage at `entry`, a TrackEntry, if it lacks a mandatory child.
 fn missing_child(entry: &Tree) -> Option<Damage>
     ensures { result ≡ missing_child entry.now }
 {
@@ -86,7 +87,7 @@ fn missing_child(entry: &Tree) -> Option<Damage>
     })
 }
 
-// Returns damage at the first invalid value in all entries.
+// Returns damage at the first invalid value in all entries of `tracks`.
 fn first_bad_value(tracks: &Tree) -> Option<Damage>
     requires { IsSound tracks.now }
     ensures { result ≡ first_in bad_value (entries_of tracks.now) }
@@ -101,7 +102,7 @@ fn first_bad_value(tracks: &Tree) -> Option<Damage>
     None
 }
 
-// Returns damage at the first entry that lacks a mandatory child.
+// Returns damage at the first entry of `tracks` that lacks a mandatory child.
 fn first_missing_child(tracks: &Tree) -> Option<Damage>
     ensures { result ≡ first_in missing_child (entries_of tracks.now) }
 {
@@ -115,7 +116,7 @@ fn first_missing_child(tracks: &Tree) -> Option<Damage>
     None
 }
 
-// Returns the TrackNumbers of the entries of a Tracks.
+// Returns the TrackNumbers of all entries of `tracks`, in their order.
 fn numbers_of(alloc: Global, tracks: &Tree) -> Result<Vec<u64>, AllocError>
     requires { IsSound tracks.now }
     ensures { IfOk result (λ numbers. numbers.items ≡ map number_of (entries_of tracks.now)) }
@@ -129,7 +130,7 @@ fn numbers_of(alloc: Global, tracks: &Tree) -> Result<Vec<u64>, AllocError>
     Ok(numbers)
 }
 
-// Returns the index of the first number that also came before.
+// Returns the index, from 0, of the first of `numbers` that is equal to an earlier one.
 fn first_repeated(alloc: Global, numbers: &[u64]) -> Result<Option<usize>, AllocError>
     ensures { IfOk result (λ place. place ≡ first_repeated numbers.now) }
 {
@@ -142,7 +143,8 @@ fn first_repeated(alloc: Global, numbers: &[u64]) -> Result<Option<usize>, Alloc
     Ok(None)
 }
 
-// Returns damage at the entry with the index `k`.
+// Returns damage of the kind `kind` with the Element ID `id`, at the entry of `tracks` with the index `k`, if there is
+// one.
 fn told_at(tracks: &Tree, kind: Kind, id: u32, k: usize) -> Option<Damage>
     ensures { result ≡ told_at (entries_of tracks.now) (damage kind id) k }
 {
@@ -154,7 +156,7 @@ fn told_at(tracks: &Tree, kind: Kind, id: u32, k: usize) -> Option<Damage>
     })
 }
 
-// Returns damage at the first entry with the TrackNumber of a previous entry.
+// Returns damage at the first entry of `tracks` whose TrackNumber an earlier entry has.
 fn repeated_number(alloc: Global, tracks: &Tree) -> Result<Option<Damage>, AllocError>
     requires { IsSound tracks.now }
     ensures { IfOk result (λ damage. damage ≡ repeated_number (entries_of tracks.now)) }
@@ -166,7 +168,8 @@ fn repeated_number(alloc: Global, tracks: &Tree) -> Result<Option<Damage>, Alloc
     }
 }
 
-/// Returns the first damage of a Tracks element.
+/// Returns the first reason to refuse `tracks`, as damage: an invalid value, a missing child, a repeated TrackNumber,
+/// or too many entries.
 pub(crate) fn refusal_of(alloc: Global, tracks: &Tree) -> Result<Option<Damage>, AllocError>
     requires { IsSound tracks.now }
     ensures { IfOk result (λ damage. damage ≡ refusal_of tracks.now) }

@@ -30,7 +30,8 @@ pub struct Track {
 impl Track {
     ghost use Rattle.file_format.specs.TrackType.{type_name};
 
-    /// Returns the name of the track's type: `video`, `audio`, `subtitles`, or `other`.
+    /// Returns the name of the track's type, as `info` and `merge -J` print it: `video`, `audio`, `subtitles`, or
+    /// `other`.
     #[tactic(auto, unfolding(file_format::specs::TrackType::type_name))]
     pub fn type_name(&self) -> &'static str
         ensures { result.now ≡ type_name self.now.kind }

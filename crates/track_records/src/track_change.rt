@@ -1,7 +1,7 @@
-//! Changes to a track
+//! Changes that a merge makes to a track's TrackEntry
 use mkv_io::Text;
 
-/// Flags of a TrackEntry that say for whom the track is (RFC 9559, section 5.1.4.1, TrackEntry); absent ones stay as in
+/// Flags of a TrackEntry for the audience of the track (RFC 9559, section 5.1.4.1, TrackEntry); absent ones stay as in
 /// the source
 #[derive(Clone, Copy, Debug)]
 pub struct FlagChange {

@@ -1,4 +1,4 @@
-//! TrackEntry of an output: RFC 9559, section 5.1.4 (Tracks).
+//! The TrackEntry of an output track: RFC 9559, section 5.1.4 (Tracks).
 
 ghost use Rattle.std.specs.Prelude.{◌≡◌, [], ◌∷◌, OnOk, IfOk};
 ghost use Rattle.tree_format.specs.Node.{leaf};
@@ -19,7 +19,8 @@ use mkv_schema::ids::{
 };
 use std::alloc::{AllocError, Global};
 
-// Returns a copy of `entry` without the removed children.
+// Returns a copy of `entry` without ContentEncodings, and without LanguageBCP47 if `language` is set, since it would be
+// displayed instead.
 fn bare(alloc: Global, entry: &Tree, language: &Option<Text>) -> Result<Tree, AllocError>
     requires { IsWholeEntry entry.now }
     ensures exact { IfOk result (λ bare. bare ≡ removed_each (ids_removed language.now) entry.now) }
@@ -33,7 +34,7 @@ fn bare(alloc: Global, entry: &Tree, language: &Option<Text>) -> Result<Tree, Al
     Ok(bare)
 }
 
-// Sets the integer `id` of an entry to `value`.
+// Sets the child `id` of `entry`, an unsigned integer, to `value`.
 fn set_uint(alloc: Global, entry: &mut Tree, id: u32, value: u64) -> Result<(), AllocError>
     requires id { IsUintIn TRACK_ENTRY id }
     requires whole { IsWholeEntry entry.old }
@@ -42,7 +43,7 @@ fn set_uint(alloc: Global, entry: &mut Tree, id: u32, value: u64) -> Result<(), 
     entry.set(uint_leaf(alloc, id, value)?)
 }
 
-// Sets a text if it is present.
+// Sets the child `id` of `entry`, a text, to `text`, if it is present.
 fn set_text(alloc: Global, entry: &mut Tree, id: u32, text: &Option<Text>) -> Result<(), AllocError>
     requires id { IsTextIn TRACK_ENTRY id }
     requires whole { IsWholeEntry entry.old }
@@ -54,7 +55,7 @@ fn set_text(alloc: Global, entry: &mut Tree, id: u32, text: &Option<Text>) -> Re
     }
 }
 
-// Sets a flag if it is present.
+// Sets the child `id` of `entry`, a flag, to `flag`, if it is present.
 fn set_flag(alloc: Global, entry: &mut Tree, id: u32, flag: Option<bool>) -> Result<(), AllocError>
     requires id { IsUintIn TRACK_ENTRY id }
     requires whole { IsWholeEntry entry.old }
@@ -66,7 +67,7 @@ fn set_flag(alloc: Global, entry: &mut Tree, id: u32, flag: Option<bool>) -> Res
     }
 }
 
-// Sets the flags that say for whom the track is.
+// Sets the flags of `entry` for the audience of the track, if they are present in `flags`.
 fn set_flags(alloc: Global, entry: &mut Tree, flags: &FlagChange) -> Result<(), AllocError>
     requires whole { IsWholeEntry entry.old }
     ensures { OnOk result (SetsEach (flags_set flags.now) entry.old entry.new) }
@@ -85,8 +86,8 @@ fn set_flags(alloc: Global, entry: &mut Tree, flags: &FlagChange) -> Result<(), 
     Ok(())
 }
 
-/// Returns the output entry of a source's track. It has no ContentEncodings, the output's number and identifier, and
-/// then the user's changes. Other children stay in their order.
+/// Returns the TrackEntry that `track` gets in an output with the changes `change`. It has no ContentEncodings, the
+/// output's number and identifier, and then the user's changes. Other children stay in their order.
 pub fn written(alloc: Global, track: &Track, change: &TrackChange) -> Result<Tree, AllocError>
     requires { IsWholeEntry track.now.entry }
     ensures exact { IfOk result (λ entry. entry ≡ written_entry change.now track.now.entry) }
