@@ -1,4 +1,4 @@
--- The fields of a line of a text, in this project's grammar.
+-- The fields of a line of a text file, in this project's grammar.
 use Rattle.std.specs.Prelude.{ℕ, ◌&&◌, nat_lt, nat_le, if◌then◌else◌, List, length, take, drop, Option, Some, None}
 use Rattle.std.specs.List.{list_all}
 use Rattle.std.specs.Str.{bytes_eq}
@@ -16,6 +16,6 @@ digits least most word =
     if nat_le least (length word) && nat_le (length word) most && list_all is_ascii_digit word
     then Some (digits_value 10 word) else None
 
--- minutes or seconds: two digits, below 60
+-- the minutes or seconds of a time: two digits, below 60
 unfoldable pub minutes_or_seconds : List ℕ → Option ℕ
 minutes_or_seconds word = digits 2 2 word >>= (λ n. if nat_lt n 60 then Some n else None)

@@ -4,23 +4,23 @@ use Rattle.std.specs.List.{enumerate_from}
 use Rattle.std.specs.Str.{bytes_eq}
 use Rattle.std.specs.Str.Lines.{lines}
 
--- the content after the byte order mark of UTF-8 (`EF BB BF`), if it begins with one, or all of it
+-- the content of a file after the byte order mark of UTF-8 (`EF BB BF`), or all of it if it doesn't begin with one
 abbrev pub behind_mark : List ℕ → List ℕ
 behind_mark content = if bytes_eq (take 3 content) (239 ∷ 187 ∷ 191 ∷ []) then drop 3 content else content
 
--- the lines of a file, each ended by LF or CRLF; a last line without LF counts, and keeps a CR at its end
+-- the lines of a file with the content `content`, each ended by LF or CRLF. A last line without LF counts, and keeps a CR at its end.
 abbrev pub lines_of : List ℕ → List (List ℕ)
 lines_of content = lines (behind_mark content)
 
--- a line and its number
+-- A line of a text file and its number, from 1.
 pub record Line : Type 0 where
   pub number : ℕ
   pub words : List ℕ
 
--- the line `words` with its number
+-- the line `words` with the number `number`
 abbrev pub numbered : ℕ → List ℕ → Line
 numbered number words = record { number = number; words = words }
 
--- the lines of a file, numbered from 1
+-- the lines `ls` of a file, numbered from 1
 abbrev pub all_lines : List (List ℕ) → List Line
 all_lines ls = map (λ (p : ℕ × List ℕ). numbered p.0 p.1) (enumerate_from 1 ls)

@@ -1,4 +1,4 @@
--- Facts that hold while a SubRip file is read.
+-- Properties that hold while the code reads a SubRip file line by line. The head of an entry is its number line and its time line.
 use Rattle.std.specs.Prelude.{◌≡◌, ◌<◌, ◌≤◌, ⊤, All, ℕ, zero, suc, ◌+◌, List, [], ◌∷◌, length, Option, Some, None, Result, Ok, Err}
 use Rattle.std.specs.Str.Lines.{lines}
 use Rattle.mkv_io.specs.Characters.{LINE_FEED}
@@ -11,37 +11,38 @@ use Rattle.text_formats.specs.Srt.{head, before_head, entry, entries}
 use Rattle.text_formats.specs.Walk.{Second, Behind, bad_from}
 use Rattle.text_formats.specs.declared.times.Times.{Times}
 
--- the entries of a SubRip file from a head on, which was read
+-- the entries from a head that was read on, if there is one, and of the lines after it
 abbrev pub entries_at : Option Head → List Entry
 entries_at None = []
 entries_at (Some h) = entry h.times (before_head (lines h.rest.now)) ∷ entries (lines h.rest.now)
 
--- the first bad line after a head
+-- the number of the first bad line after a head that was read, if there is a head and such a line
 abbrev pub bad_at : Option Head → Option ℕ
 bad_at None = None
 bad_at (Some h) = bad_from Behind (h.number + 1) (lines h.rest.now)
 
--- `ls`, whose first bad line is `bad`, has the entries from head `h` on, and `bad` is the first bad line after `h`.
+-- The lines `ls` have exactly the entries from the head `h` on. The first bad line of `ls` has the number `bad`, if there is one, and is the first
+-- after `h`.
 abbrev pub GoesOn : Option ℕ → List (List ℕ) → Option Head → Type 0
 GoesOn bad ls h = (entries ls ≡ entries_at h) × (bad ≡ bad_at h)
 
--- The head was read from `from`, which has `before` lines before it. The bytes after the head are fewer, and its times are in order and before
+-- The head was read from the bytes `from`, which `before` lines precede. The bytes after the head are fewer, and its times are in order and below
 -- `latest`.
 abbrev pub IsWithin : ℕ → List ℕ → Option Head → Type 0
 IsWithin before from None = ⊤
 IsWithin before from (Some h) =
     (h.number + length h.rest.now ≤ before + length from) × (length h.rest.now < length from) × (h.times.start ≤ h.times.end) × (h.times.end < latest)
 
--- the count of bytes after a head, with one for the end of its lines
+-- a bound on the lines after a head: the number of bytes after it and 1, or 0 without a head
 abbrev pub left : Option Head → ℕ
 left None = 0
 left (Some h) = 1 + length h.rest.now
 
--- Entry `e` ends within 10,000 hours, and its text has at most `most` bytes.
+-- The entry `e` ends within 10,000 hours, and its text has at most `most` bytes.
 abbrev pub IsEntryWithin : ℕ → Entry → Type 0
 IsEntryWithin most e = (e.start + e.duration < latest) × (length e.text ≤ most)
 
--- `es` has at most `most` entries, each with at most `most` bytes of text.
+-- The list `es` has at most `most` entries, each with at most `most` bytes of text.
 abbrev pub AreWithin : ℕ → List Entry → Type 0
 AreWithin most es = (length es ≤ most) × All (IsEntryWithin most) es
 
@@ -50,7 +51,8 @@ abbrev pub breaks : ℕ → List ℕ
 breaks zero = []
 breaks (suc n) = LINE_FEED ∷ breaks n
 
--- The result for line `l`, followed by `ls`: the head that `l` begins, if any, or an error in its second line.
+-- The result has the head that the line `l` with the number `n` begins, if it begins one; the lines `ls` follow. An error names the head's second
+-- line as the first bad one.
 abbrev pub HeadRead : List ℕ → List (List ℕ) → ℕ → Result (Option Head) TextEnd → Type 0
 HeadRead l ls n (Ok None) = head (l ∷ ls) ≡ None
 HeadRead l ls n (Ok (Some h)) =

@@ -1,4 +1,4 @@
--- Reading of simple chapters line by line, as the reader does it. It equals `Pairs.simple`, by `simple_is` of proofs/PairsLemmas.
+-- Simple chapters read line by line, as the code reads them. It equals `Pairs.simple`, by `simple_is` of proofs/PairsLemmas.
 use Rattle.std.specs.Prelude.{◌≡◌, ℕ, ◌+◌, List, [], ◌∷◌, ◌++◌, Option, Some, None, Result, Ok, Err}
 use Rattle.text_formats.specs.declared.end.TextEnd.{TextEnd}
 use Rattle.text_formats.specs.Ends.{Reads}
@@ -6,23 +6,24 @@ use Rattle.text_formats.specs.declared.chapter_reading.Chapter.{Chapter}
 use Rattle.text_formats.specs.declared.chapter_reading.FirstLine.{FirstLine}
 use Rattle.text_formats.specs.Pairs.{Timed, chapter, first_line, second_line}
 
--- chapter `c` and the chapters after it
+-- the chapter `c` and the chapters after it, or the number of the first bad line
 abbrev pub onto_chapters : Chapter → Result (List Chapter) ℕ → Result (List Chapter) ℕ
 onto_chapters c (Ok cs) = Ok (c ∷ cs)
 onto_chapters c (Err n) = Err n
 
--- `rest` for the first line of a pair, or the bad line `n`
+-- the result of `rest` for the first line of a chapter, or the number `n` of the line if it isn't one
 abbrev pub after_first : ℕ → Option Timed → (Option Timed → Result (List Chapter) ℕ) → Result (List Chapter) ℕ
 after_first n None rest = Err n
 after_first n (Some due) rest = rest (Some due)
 
--- `rest` after the chapter that starts at `start` and has the name of a second line, or the bad line `n`
+-- the result of `rest`, after the chapter that starts at `start` and has the name of a second line. If the line isn't one, it is the line's number
+-- `n`.
 abbrev pub after_second : ℕ → ℕ → Option (List ℕ) → Result (List Chapter) ℕ → Result (List Chapter) ℕ
 after_second n start None rest = Err n
 after_second n start (Some name) rest = onto_chapters (chapter start name) rest
 
--- The chapters of lines numbered from `n`, or the number of the first bad line. `due` is a first line whose second line must follow, if any.
--- Empty lines are counted and skipped. If a second line is missing, the line after the last is bad.
+-- The chapters of the listed lines, or the number of the first bad line; the first line has the number `n`. `due` is a first line whose second line
+-- must follow, if any. Empty lines are counted and skipped. If a second line is missing, the line after the last is bad.
 unfoldable pub pairs : List (List ℕ) → ℕ → Option Timed → Result (List Chapter) ℕ
 pairs [] n None = Ok []
 pairs [] n (Some due) = Err n
@@ -30,22 +31,22 @@ pairs ([] ∷ ls) n due = pairs ls (n + 1) due
 pairs ((b ∷ bs) ∷ ls) n None = after_first n (first_line (b ∷ bs)) (λ due. pairs ls (n + 1) due)
 pairs ((b ∷ bs) ∷ ls) n (Some due) = after_second n due.start (second_line due.number (b ∷ bs)) (pairs ls (n + 1) None)
 
--- a first line that was read, in the form of the definitions
+-- the code's first line `f` of a chapter, in the form of the definitions
 abbrev pub timed_of : FirstLine → Timed
 timed_of f = record { number = f.number.now; start = f.start }
 
--- a first line that was read, if there is one, in the form of the definitions
+-- the code's first line of a chapter, if there is one, in the form of the definitions
 abbrev pub timed_in : Option FirstLine → Option Timed
 timed_in None = None
 timed_in (Some f) = Some (timed_of f)
 
--- the list `xs`, which was read already, and after it the rest, or the number of the first bad line
+-- the items `xs`, which were read already, and the remaining ones after them, or the number of the first bad line
 abbrev pub in_front_of : {X : Type 0} → List X → Result (List X) ℕ → Result (List X) ℕ
 in_front_of xs (Ok ys) = Ok (xs ++ ys)
 in_front_of xs (Err n) = Err n
 
--- `line`, which isn't empty, was taken with number `n`. For any lines after it, the chapters of `old` with the line are the chapters of `new`
--- without it, or the line is bad.
+-- A call took `line`, which isn't empty and has the number `n`; `due` is a first line that waited. For any lines after it, the chapters `old` with
+-- the line are the chapters `new` without it. Or the line is bad.
 abbrev pub Turns : List Chapter → List Chapter → List ℕ → ℕ → Option Timed → Result (Option FirstLine) TextEnd → Type 0
 Turns old new line n due (Ok next) =
     (ls : List (List ℕ)) → in_front_of old (pairs (line ∷ ls) n due) ≡ in_front_of new (pairs ls (n + 1) (timed_in next))

@@ -11,16 +11,17 @@ abbrev pub milliseconds : ℤ → ℕ
 milliseconds (pos t) = t / 1000000
 milliseconds (negsuc t) = 0
 
--- a time of `ms` milliseconds with a comma before its milliseconds
+-- a time of `ms` milliseconds as SubRip writes it, with a comma before the last three digits
 abbrev pub time : ℕ → Piece
 time ms = Time COMMA ms
 
--- the line with the start and the end of an entry
+-- the time line of an entry from `start`, with a duration of `duration`, both in nanoseconds
 abbrev pub time_line : ℤ → ℕ → List ℕ
 time_line start duration =
     stamp COMMA (milliseconds start) ++ (codes " --> " ++ stamp COMMA (milliseconds (start +ℤ pos duration)))
 
--- an entry: its number, its times and its text, each ended by LF, and an empty line
+-- the entry with the number `number` and the text `text`, from `start`, with a duration of `duration`, both in nanoseconds. Its number, times and
+-- text each end with LF, and an empty line follows.
 unfoldable pub put_srt : ℕ → ℤ → ℕ → List ℕ → List ℕ
 put_srt number start duration text =
     decimal number ++ (LINE_FEED ∷ (time_line start duration ++ (LINE_FEED ∷ (text ++ (LINE_FEED ∷ LINE_FEED ∷ [])))))

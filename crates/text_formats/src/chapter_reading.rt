@@ -1,4 +1,4 @@
-//! Reader of simple chapters, in this project's grammar. It reads each line once.
+//! Reading of OGM simple chapters, in this project's grammar. Each line is read once.
 
 ghost use Rattle.std.specs.Prelude.{◌≡◌, ◌<◌, length, IfOk, option_map};
 ghost use Rattle.text_formats.specs.Ends.{Reads};
@@ -13,21 +13,21 @@ use std::alloc::{AllocError, Global};
 
 const MILLISECOND: u64 = 1_000_000;
 
-/// Chapter of a file: its start in nanoseconds and its name.
+/// Simple chapter of a file: its start in nanoseconds and its name.
 #[derive(Debug, Drop)]
 pub struct Chapter {
     pub start: u64,
     pub name: Text,
 }
 
-/// First line of a pair: the digits of its number, and its time in nanoseconds.
+/// First line of a chapter: the digits of its number, and its time in nanoseconds.
 #[derive(Clone, Copy)]
 struct FirstLine<'a> {
     number: &'a [u8],
     start: u64,
 }
 
-// Reads `word` as `HH:MM:SS.mmm`, in nanoseconds.
+// Reads the time `word`, `HH:MM:SS.mmm`; returns nanoseconds.
 #[tactic(auto, unfolding(crate::specs::Pairs::time_of))]
 fn time_of(word: &[u8]) -> Option<u64>
     ensures { result ≡ spec.time_of word.now }
@@ -42,7 +42,7 @@ fn time_of(word: &[u8]) -> Option<u64>
     Some(((hours * 60 + minutes) * 60_000 + (seconds * 1000 + thousandths)) * MILLISECOND)
 }
 
-// Reads `line` as `CHAPTERnn=` and a time.
+// Reads the first line of a chapter, `CHAPTERnn=` and a time, where nn are two to four digits.
 #[tactic(auto, unfolding(crate::specs::Pairs::first_line))]
 fn first_line(line: &[u8]) -> Option<FirstLine<'_>>
     ensures { option_map timed_of result ≡ spec.first_line line.now }
@@ -54,7 +54,8 @@ fn first_line(line: &[u8]) -> Option<FirstLine<'_>>
     Some(FirstLine { number, start })
 }
 
-// Returns the text of a line `CHAPTERnnNAME=`, if `number` is its nn.
+// Reads the second line of a chapter, `CHAPTERnnNAME=` and a name in UTF-8, and returns the name. `number` has the
+// digits nn of the first line.
 #[tactic(auto, unfolding(crate::specs::Pairs::second_line))]
 fn second_line<'a>(number: &[u8], line: &'a [u8]) -> Option<&'a str>
     ensures { option_map (λ s. s.now) result ≡ spec.second_line number.now line.now }
@@ -64,7 +65,7 @@ fn second_line<'a>(number: &[u8], line: &'a [u8]) -> Option<&'a str>
     text(behind(b"NAME=", rest)?)
 }
 
-// Makes the chapter that starts at `start` and has the name `words`.
+// Makes the chapter that starts at `start` nanoseconds and has the name `words`.
 fn named(alloc: Global, start: u64, words: &str) -> Result<Chapter, AllocError>
     ensures { IfOk result (λ chapter. chapter ≡ spec.chapter start words.now) }
 {
@@ -73,8 +74,8 @@ fn named(alloc: Global, start: u64, words: &str) -> Result<Chapter, AllocError>
     Ok(Chapter { start, name })
 }
 
-// Reads `line`, which isn't empty: a first line, or, if `due` is a first line, the second line that completes a
-// chapter.
+// Takes `line`, which isn't empty and has the number `number`. If `due` is a first line, it must be the second line,
+// and the chapter is added to `list`. If not, it must be a first line, which is returned.
 fn take_line<'a>(
     alloc: Global,
     list: &mut List<Chapter>,
@@ -99,8 +100,9 @@ fn take_line<'a>(
     Ok(None)
 }
 
-/// Reads the chapters of a file of simple chapters, in the file's order. It fails with the first bad line: one that
-/// is neither empty nor the line that is due. If the last name is missing, that is the line after the last.
+/// Reads the chapters in `bytes`, the content of a file of simple chapters, in the file's order. It fails with the
+/// number, from 1, of the first bad line: one that is neither empty nor the line that is due. If the last name is
+/// missing, that is the line after the last.
 pub fn read_pairs(alloc: Global, bytes: &[u8]) -> Result<List<Chapter>, TextEnd>
     ensures exact { Reads result (spec.simple bytes.now) }
 {

@@ -1,4 +1,4 @@
-//! Writer of simple chapters, in this project's grammar.
+//! Writing of OGM simple chapters, in this project's grammar.
 
 ghost use Rattle.std.specs.Prelude.{◌≡◌, ◌++◌, OnOk, OnErr};
 ghost use Rattle.text_formats.specs.ChapterWriting as spec;
@@ -7,7 +7,8 @@ use crate::pieces::{Piece, put_pieces};
 use mkv_io::Bytes;
 use std::alloc::AllocError;
 
-/// Appends the two lines of chapter `number`, which starts at `start` nanoseconds. On failure nothing is appended.
+/// Appends to `out` the two lines of the chapter with the number `number` and the name `name`, which starts at `start`
+/// nanoseconds. On failure nothing is appended.
 #[tactic(auto, using(crate::proofs::ChapterWritingLemmas::pieces), unfolding(crate::specs::ChapterWriting::put_pair))]
 pub fn put_pair(number: u64, start: u64, name: &[u8], out: &mut Bytes) -> Result<(), AllocError>
     ensures ok { OnOk result (out.new ≡ out.old ++ spec.put_pair number start name.now) }
@@ -27,7 +28,7 @@ pub fn put_pair(number: u64, start: u64, name: &[u8], out: &mut Bytes) -> Result
     put_pieces(&pieces, out)
 }
 
-// Returns a time as simple chapters have it, with a point before its milliseconds.
+// Returns a time in milliseconds as simple chapters write it, with a point before the last three digits.
 fn time(milliseconds: u64) -> Piece<'static>
     ensures { result ≡ spec.time milliseconds }
 {

@@ -1,4 +1,4 @@
-//! Readers of the fields of a line.
+//! The fields of a line of a text file.
 
 ghost use Rattle.std.specs.Prelude.{◌≡◌, ◌<◌, ◌≤◌, ◌^◌, true, false, IfSome, MatchOption, option_map};
 ghost use Rattle.std.specs.Str.{is_utf8};
@@ -8,7 +8,8 @@ ghost use Rattle.text_formats.specs.Fields as spec;
 use crate::lines::place_of;
 use std::str;
 
-/// Splits `word` at the first byte that is `octet`; returns the parts before and after it.
+/// Splits `word` at the first byte that is `octet`; returns the parts before and after it, or None if there is no such
+/// byte.
 #[tactic(auto, unfolding(mkv_io::specs::Octets::cut))]
 pub fn cut(word: &[u8], octet: u8) -> Option<(&[u8], &[u8])>
     ensures { option_map (λ p. (p.0.now, p.1.now)) result ≡ octets.cut octet word.now }
@@ -44,7 +45,7 @@ pub fn digits(least: usize, most: usize, word: &[u8]) -> Option<u64>
     Some(value)
 }
 
-/// Reads minutes or seconds: two digits, below 60.
+/// Reads the minutes or seconds of a time: two digits, below 60.
 #[tactic(auto, unfolding(crate::specs::Fields::minutes_or_seconds))]
 pub fn minutes_or_seconds(word: &[u8]) -> Option<u64>
     ensures same { result ≡ spec.minutes_or_seconds word.now }

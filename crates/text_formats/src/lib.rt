@@ -1,7 +1,7 @@
 #![tactic(auto)]
 
-//! Readers and writers of text files: their lines and fields, SubRip, and simple chapters. An entry of SubRip has a
-//! number, its times and its text; a simple chapter has two lines.
+//! Text files that a merge reads and an extraction writes: their lines and fields, SubRip, and OGM simple chapters. An
+//! entry of SubRip has a number, its times and its text; a simple chapter has two lines.
 
 mod chapter_reading;
 mod chapter_writing;

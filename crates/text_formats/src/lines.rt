@@ -1,11 +1,11 @@
-//! Lines of a text file.
+//! The lines of a text file.
 
 ghost use Rattle.std.specs.Prelude.{◌≡◌, ◌<◌, ◌==◌, [], ◌∷◌, length, MatchOption};
 ghost use Rattle.std.specs.Str.Lines.{lines, strip_carriage_return};
 ghost use Rattle.std.specs.List.{position};
 ghost use Rattle.text_formats.specs.Lines as spec;
 
-/// Byte order mark of UTF-8, which a file may begin with.
+/// Byte order mark of UTF-8, which a text file may begin with.
 const MARK: [u8; 3] = [0xEF, 0xBB, 0xBF];
 
 /// Returns `content` without the byte order mark of UTF-8, if it begins with one.
@@ -19,7 +19,7 @@ pub fn behind_mark(content: &[u8]) -> &[u8]
     }
 }
 
-/// Returns the first line of `rest` without its end, and the bytes after it.
+/// Returns the first line of `rest` without its LF or CRLF, and the bytes after it; None at the end of the file.
 pub fn next_line(rest: &[u8]) -> Option<(&[u8], &[u8])>
     ensures first { MatchOption result (lines rest.now ≡ []) (λ p. lines rest.now ≡ p.0.now ∷ lines p.1.now) }
     ensures less { MatchOption result (length rest.now ≡ 0) (λ p. length p.1.now < length rest.now) }
@@ -36,7 +36,7 @@ pub fn next_line(rest: &[u8]) -> Option<(&[u8], &[u8])>
     }
 }
 
-/// Returns `line` without a CR at its end.
+/// Returns `line` without a CR at its end, if it has one.
 fn without_return(line: &[u8]) -> &[u8]
     ensures { result.now ≡ strip_carriage_return line.now }
 {
@@ -46,7 +46,7 @@ fn without_return(line: &[u8]) -> &[u8]
     }
 }
 
-/// Returns the offset of the first byte of `word` that is `octet`.
+/// Returns the index, from 0, of the first byte of `word` that is `octet`.
 pub(crate) fn place_of(word: &[u8], octet: u8) -> Option<usize>
     ensures { result ≡ position (λ b. b == octet) word.now }
 {

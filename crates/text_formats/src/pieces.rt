@@ -1,4 +1,4 @@
-//! Writer of bytes, numbers and times.
+//! Writing of bytes, numbers and times to a text file.
 
 ghost use Rattle.std.specs.Prelude.{◌≡◌, ◌++◌, length, take, flat_map, OnOk, OnErr};
 ghost use Rattle.std.specs.Fmt.{decimal};
@@ -27,7 +27,7 @@ pub enum Piece<'a> {
     Time { point: u8, milliseconds: u64 },
 }
 
-/// Appends `pieces` in order. On failure nothing is appended.
+/// Appends `pieces` to `out`, in order. On failure nothing is appended.
 pub fn put_pieces(pieces: &[Piece<'_>], out: &mut Bytes) -> Result<(), AllocError>
     ensures ok { OnOk result (out.new ≡ out.old ++ flat_map spec.octets_of pieces.now) }
     ensures err { OnErr result (out.new ≡ out.old) }
@@ -42,7 +42,7 @@ pub fn put_pieces(pieces: &[Piece<'_>], out: &mut Bytes) -> Result<(), AllocErro
     Ok(())
 }
 
-// Appends `piece`. On failure the bytes that `out` had before are still its first bytes.
+// Appends `piece` to `out`. On failure a part may be appended; the bytes that `out` had before stay.
 fn put_piece(piece: &Piece<'_>, out: &mut Bytes) -> Result<(), AllocError>
     ensures ok { OnOk result (out.new ≡ out.old ++ spec.octets_of piece.now) }
     ensures err { OnErr result (take (length out.old) out.new ≡ out.old) }
@@ -58,7 +58,7 @@ fn put_piece(piece: &Piece<'_>, out: &mut Bytes) -> Result<(), AllocError>
     }
 }
 
-// Appends a number in decimal. If memory runs out, nothing is appended.
+// Appends `n` to `out` in decimal. If memory runs out, nothing is appended.
 fn put_number(n: u64, out: &mut Bytes) -> Result<(), AllocError>
     ensures ok { OnOk result (out.new ≡ out.old ++ decimal n) }
     ensures err { OnErr result (out.new ≡ out.old) }
@@ -66,7 +66,7 @@ fn put_number(n: u64, out: &mut Bytes) -> Result<(), AllocError>
     out.append(Buffer::new().format(n).as_bytes())
 }
 
-// Appends a number in decimal, with at least two digits. If memory runs out, nothing is appended.
+// Appends `n` to `out` in decimal, with at least two digits. If memory runs out, nothing is appended.
 fn put_two_or_more(n: u64, out: &mut Bytes) -> Result<(), AllocError>
     ensures ok { OnOk result (out.new ≡ out.old ++ spec.two_or_more n) }
     ensures err { OnErr result (out.new ≡ out.old) }
@@ -78,8 +78,8 @@ fn put_two_or_more(n: u64, out: &mut Bytes) -> Result<(), AllocError>
     }
 }
 
-// Appends a time of `ms` milliseconds as hours, minutes, seconds and milliseconds, with `point` before the last. If
-// memory runs out, a part may be appended.
+// Appends a time of `ms` milliseconds to `out` as hours, minutes, seconds and milliseconds, with the byte `point`
+// before the last. If memory runs out, a part may be appended.
 #[tactic(auto, using(crate::proofs::PiecesLemmas::joins), unfolding(crate::specs::Pieces::stamp))]
 fn put_time(point: u8, ms: u64, out: &mut Bytes) -> Result<(), AllocError>
     ensures ok { OnOk result (out.new ≡ out.old ++ spec.stamp point ms) }
@@ -93,21 +93,21 @@ fn put_time(point: u8, ms: u64, out: &mut Bytes) -> Result<(), AllocError>
     Ok(())
 }
 
-// Returns the last two decimal digits of a number.
+// Returns the last two decimal digits of `n`, as ASCII.
 fn two_digits(n: u64) -> [u8; 2]
     ensures { result ≡ spec.two_digits n }
 {
     [digit(n / 10), digit(n)]
 }
 
-// Returns the last three decimal digits of a number.
+// Returns the last three decimal digits of `n`, as ASCII.
 fn three_digits(n: u64) -> [u8; 3]
     ensures { result ≡ spec.three_digits n }
 {
     [digit(n / 100), digit(n / 10), digit(n)]
 }
 
-// Returns the last decimal digit of `n`.
+// Returns the last decimal digit of `n`, as ASCII.
 fn digit(n: u64) -> u8
     ensures { result ≡ spec.digit n }
 {

@@ -1,5 +1,5 @@
-//! Reader of SubRip, in this project's grammar. The grammar looks for heads in the list of lines; this reader reads
-//! each line once.
+//! Reading of SubRip, in this project's grammar. The head of an entry is its number line and its time line. Each line
+//! is read once.
 
 ghost use Rattle.std.specs.Prelude.{◌≡◌, ◌+◌, ◌<◌, ◌^◌, ◌++◌, length, IfOk, IfErr, OnOk, None, false, true, MatchOption};
 ghost use Rattle.std.specs.Str.Lines.{lines};
@@ -17,7 +17,7 @@ use crate::times::{Times, is_number, times_of};
 use mkv_io::{Entry, List, Text};
 use std::alloc::{AllocError, Global};
 
-/// Head that was read: its times, the bytes after it, and the number of its second line.
+/// Head of an entry that was read: its times, the bytes after it, and the number of its second line, from 1.
 #[derive(Clone, Copy)]
 struct Head<'a> {
     times: Times,
@@ -25,7 +25,7 @@ struct Head<'a> {
     number: u64,
 }
 
-// Checks whether a line of a SubRip file has the arrow between two times.
+// Checks whether `line` has `-->`, the arrow between two times.
 fn has_arrow(line: &[u8]) -> bool
     ensures { result ≡ spec.has_arrow line.now }
 {
@@ -37,7 +37,7 @@ fn has_arrow(line: &[u8]) -> bool
     false
 }
 
-// Returns `line` as text, if it may follow a head.
+// Returns `line` as text, if it may be a line of an entry's text: UTF-8 without `-->`.
 fn plain(line: &[u8]) -> Option<&str>
     ensures { MatchOption result (is_bad_at Behind false line.now ≡ true) (λ text. IsTextLine line.now text.now) }
 {
@@ -47,7 +47,8 @@ fn plain(line: &[u8]) -> Option<&str>
     text(line)
 }
 
-// Returns the head that begins with `line`, whose number is `number`, if one does.
+// Returns the head of an entry that begins with `line`, if one does. `line` has the number `number`, from 1, and the
+// bytes `after` follow it. Fails with `Bad` if the end is before the start.
 fn read_head<'a>(line: &[u8], after: &'a [u8], number: u64) -> Result<Option<Head<'a>>, TextEnd>
     requires room { number + length after.now < 2 ^ 64 }
     ensures is { HeadRead line.now (lines after.now) number result }
@@ -76,7 +77,8 @@ fn read_head<'a>(line: &[u8], after: &'a [u8], number: u64) -> Result<Option<Hea
     }))
 }
 
-// Reads the empty lines before the first entry, and the head of that entry; returns None if there is no entry.
+// Reads the empty lines before the first entry in `text`, and the head of that entry; returns None if there is no
+// entry. Fails with `Bad` for another line.
 fn skip_front(text: &[u8]) -> Result<Option<Head<'_>>, TextEnd>
     ensures ok { IfOk result (GoesOn (first_bad (lines text.now)) (lines text.now)) }
     ensures err { IfErr result (λ e. Blames e (first_bad (lines text.now))) }
@@ -102,7 +104,7 @@ fn skip_front(text: &[u8]) -> Result<Option<Head<'_>>, TextEnd>
     Ok(None)
 }
 
-// Appends `count` line feeds and then `line` to the text of an entry.
+// Appends `count` line feeds and then `line` to `text`, the text of an entry.
 fn add_line(text: &mut Text, count: u64, line: &str) -> Result<(), AllocError>
     ensures { OnOk result (text.new ≡ text.old ++ (breaks count ++ line.now)) }
 {
@@ -112,7 +114,8 @@ fn add_line(text: &mut Text, count: u64, line: &str) -> Result<(), AllocError>
     text.append(line)
 }
 
-// Reads the text of an entry and the next head.
+// Reads the text of an entry in `from`, the bytes after its head, and the next head, if there is one. `before` is the
+// number of lines before `from`.
 fn read_text<'a>(
     alloc: Global,
     from: &'a [u8],
@@ -149,7 +152,7 @@ fn read_text<'a>(
     Ok((text, None))
 }
 
-// Reads the entries in the file's order.
+// Reads the entries in `bytes`, the content of a SubRip file, in the file's order.
 fn read_entries(alloc: Global, bytes: &[u8]) -> Result<Vec<Entry>, TextEnd>
     ensures ok { IfOk result (λ es. entries (lines_of bytes.now) ≡ es.items) }
     ensures good { OnOk result (first_bad (lines_of bytes.now) ≡ None) }
@@ -170,10 +173,10 @@ fn read_entries(alloc: Global, bytes: &[u8]) -> Result<Vec<Entry>, TextEnd>
     Ok(list)
 }
 
-/// Reads the entries of a SubRip file, sorted by start; entries with the same start keep their order. Times are in
-/// nanoseconds. It fails with the first bad line. A line is bad if it isn't UTF-8. It is bad if it has `-->` but
-/// isn't the second line of a head, or if its end is before its start. A line before the first entry is bad unless it
-/// is empty.
+/// Reads the entries in `bytes`, the content of a SubRip file, sorted by start; entries with the same start keep their
+/// order. Times are in nanoseconds. It fails with the number, from 1, of the first bad line. A line is bad if it isn't
+/// UTF-8. It is bad if it has `-->` but isn't the second line of a head, or if its end is before its start. A line
+/// before the first entry is bad unless it is empty.
 pub fn read_srt(alloc: Global, bytes: &[u8]) -> Result<List<Entry>, TextEnd>
     ensures exact { Reads result (spec.srt bytes.now) }
     ensures within { IfOk result (AreWithin (length bytes.now)) }

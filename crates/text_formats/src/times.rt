@@ -1,4 +1,4 @@
-//! Reader of the two lines that begin an entry: its number and its times.
+//! Reading of the two lines that begin an entry of SubRip: its number and its times.
 
 ghost use Rattle.std.specs.Prelude.{◌≡◌, ◌<◌, ◌≤◌, length, IfSome, option_map};
 ghost use Rattle.std.specs.Char.{is_ascii_digit};
@@ -16,7 +16,7 @@ pub(crate) struct Times {
     pub end: u64,
 }
 
-/// Reads `SS,mmm` or `SS.mmm` at the start of `word`, in milliseconds.
+/// Reads `SS,mmm` or `SS.mmm` at the start of `word`; returns milliseconds.
 #[tactic(auto, unfolding(crate::specs::Times::seconds))]
 fn seconds(word: &[u8]) -> Option<u64>
     ensures same { result ≡ spec.seconds word.now }
@@ -35,7 +35,8 @@ fn seconds(word: &[u8]) -> Option<u64>
     }
 }
 
-/// Reads a time at the start of `word`; returns it in nanoseconds, with the bytes after it.
+/// Reads a time `HH:MM:SS,mmm`, whose hours have two to four digits, at the start of `word`. Returns it in nanoseconds,
+/// with the bytes after it.
 #[tactic(auto, unfolding(crate::specs::Times::clock))]
 fn clock(word: &[u8]) -> Option<(u64, &[u8])>
     ensures same { option_map (λ p. (p.0, p.1.now)) result ≡ spec.clock word.now }
@@ -50,7 +51,7 @@ fn clock(word: &[u8]) -> Option<(u64, &[u8])>
     Some((time, &rest[6..]))
 }
 
-/// Reads two times with ` --> ` between them and a tail.
+/// Reads the second line of a head: two times with ` --> ` between them, and anything after a space.
 #[tactic(auto, unfolding(crate::specs::Times::times))]
 pub(crate) fn times_of(line: &[u8]) -> Option<Times>
     ensures same { result ≡ spec.times line.now }
@@ -66,14 +67,14 @@ pub(crate) fn times_of(line: &[u8]) -> Option<Times>
     }
 }
 
-/// Checks whether the rest of a line after an end time is empty or begins with a space.
+/// Checks whether `word`, the rest of a line after its end time, is empty or begins with a space.
 fn is_tail(word: &[u8]) -> bool
     ensures { result ≡ spec.is_tail word.now }
 {
     word.is_empty() || word[0] == b' '
 }
 
-/// Checks whether `line` consists of 1 to 9 digits, followed by spaces and tabs.
+/// Checks whether `line` is the first line of a head: 1 to 9 digits, followed by spaces and tabs.
 #[tactic(auto, unfolding(crate::specs::Times::is_number))]
 pub(crate) fn is_number(line: &[u8]) -> bool
     ensures { result ≡ spec.is_number line.now }
@@ -85,14 +86,14 @@ pub(crate) fn is_number(line: &[u8]) -> bool
     all_blank(&line[n..])
 }
 
-/// Checks whether all bytes are spaces or tabs.
+/// Checks whether all bytes of `word` are spaces or tabs.
 fn all_blank(word: &[u8]) -> bool
     ensures { result ≡ list_all spec.is_blank word.now }
 {
     word.iter().all(|b| *b == b' ' || *b == b'\t')
 }
 
-/// Returns the number of digits at the start of the line.
+/// Returns the number of digits that `line` begins with.
 fn digits_in_front(line: &[u8]) -> usize
     ensures same { result ≡ prefix_len is_ascii_digit line.now }
     ensures within { result ≤ length line.now }
