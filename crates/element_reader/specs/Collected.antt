@@ -1,4 +1,4 @@
--- Elements of level 1 that a reader keeps.
+-- The Elements at level 1 that an outline keeps while a file is read.
 use Rattle.std.specs.Prelude.{◌≡◌, ℕ, ◌+◌, ◌≤◌, ◌==◌, not, false, if◌then◌else◌, List, [], ◌∷◌, ◌++◌, filter, Option, None}
 use Rattle.std.specs.List.{last_or}
 use Rattle.mkv_schema.specs.declared.ids.TheConstants.{CLUSTER}
@@ -17,38 +17,38 @@ others_of list = filter (λ h. not (h.id == CLUSTER)) list
 abbrev pub unless_cluster : Header → List Header
 unless_cluster h = if not (h.id == CLUSTER) then h ∷ [] else []
 
--- the last Element of a list
+-- the last Element in `list`, if there is one
 abbrev pub last_element : List Header → Option Header
 last_element list = last_or None list
 
--- The body of the Element `h` can be read from a file of `total` bytes: its size is known, and it ends in the file.
+-- The data of the Element `h` can be read from a file of `total` bytes: its size is known, and it ends in the file.
 pub record IsInFile (total : ℕ) (h : Header) : Type 0 where
   pub known : is_unknown h.size ≡ false
   pub inside : stated_end h ≤ total
 
--- the number of bytes of an Info, Tracks, Chapters or Tags, or 0
+-- the length of the data of the Element `h` in bytes if it is an Info, Tracks, Chapters or Tags, or else 0
 abbrev pub described_octets : Header → ℕ
 described_octets h = if is_described h.id then known h.size else 0
 
--- The collection `kept` has what is kept of the Elements in `list`; earlier inputs have `held` bytes of limited Elements.
+-- The collection `kept` has what an outline keeps of the Elements in `list`. Earlier inputs have `held` bytes of Info, Tracks, Chapters and Tags.
 pub record Keeps (held : ℕ) (list : List Header) (kept : Collected) : Type 0 where
   pub others : kept.others.items ≡ others_of list
   pub first : kept.cluster ≡ first_of CLUSTER list
   pub last : kept.last ≡ last_element list
   pub octets : kept.held ≡ held + described list
 
--- `P` holds for each list with this collection.
+-- `P` holds for each count `held` and list of Elements that give the collection `kept`.
 abbrev pub OfKept : Collected → (ℕ → List Header → Type 0) → Type 0
 OfKept kept P = (held : ℕ) (list : List Header) → Keeps held list kept → P held list
 
--- An Element without a refusal is kept after the Elements of a list; unless it is a Cluster, it is one of the others.
+-- Unless the Element `h` is refused, the collection `old` became `new`, which keeps `h` after the Elements before it.
 abbrev pub KeepsAlso : Header → Collected → Collected → Option Damage → Type 0
 KeepsAlso h old new refusal = refusal ≡ None → OfKept old (λ held list. Keeps held (list ++ h ∷ []) new)
 
--- An Element `h` without a refusal is added to the list of Elements that aren't Clusters, unless it is one.
+-- Unless the Element `h` is refused, the collection `old` became `new`: `h` is one of its Elements other than Clusters, unless it is a Cluster.
 abbrev pub AddsOther : Header → Collected → Collected → Option Damage → Type 0
 AddsOther h old new refusal = refusal ≡ None → new.others.items ≡ old.others.items ++ unless_cluster h
 
--- The result is the damage of the Element `h` if it passes a limit after the Elements of a list.
+-- The refusal is the damage of the Element `h` if it passes a limit, by itself or with the Elements that `kept` has.
 abbrev pub RefusesAs : Header → Collected → Option Damage → Type 0
 RefusesAs h kept refusal = OfKept kept (λ held list. refusal ≡ first_damage (limit_causes held list h))

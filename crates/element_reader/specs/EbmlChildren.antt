@@ -1,4 +1,4 @@
--- The children of an EBML header, and the damage that refuses them: RFC 8794, section 11.2 (EBML Header Elements).
+-- The children of an EBML header, and the damage for which they are refused: RFC 8794, section 11.2 (EBML Header Elements).
 use Rattle.std.specs.Prelude.{◌≡◌, true, ℕ, ◌+◌, ◌≤◌, List, [], ◌∷◌, length, Option, None}
 use Rattle.mkv_schema.specs.declared.ids.TheConstants.{DOC_TYPE, DOC_TYPE_READ_VERSION, EBML, EBML_MAX_ID_LENGTH, EBML_MAX_SIZE_LENGTH, EBML_READ_VERSION}
 use Rattle.mkv_io.specs.declared.damage.Damage.{Damage}
@@ -10,19 +10,19 @@ use Rattle.mkv_schema.specs.Value.{is_known_value, text_in}
 use Rattle.mkv_schema.specs.Outline.{above, bad_value, first_damage, header_causes, header_children, wrong_doc_type}
 use Rattle.elements.specs.Body.{IsBody}
 
--- the children of the EBML header from the offset `p` up to `e`
+-- the children of the EBML header in the content `bytes`, from the offset `p` up to `e`
 abbrev pub children : List ℕ → ℕ → ℕ → Run
 children bytes p e = children_in (in_tree EBML) bytes p e
 
--- the damage of the first child that isn't a value of its kind, or the damage that ends the children
+-- the damage of the first child in `run` that isn't a value of its kind, or the damage that ends the children
 abbrev pub child_refusal : List ℕ → Run → Option Damage
 child_refusal bytes run = first_damage (bad_value bytes EBML run.list ∷ run.damage ∷ [])
 
--- A value of `id` in an EBML header has at most 8 bytes.
+-- A value with the ID `id` in an EBML header has at most 8 bytes.
 abbrev pub IsShortValue : ℕ → Type 0
 IsShortValue id = (body : List ℕ) → is_known_value EBML id body ≡ true → length body ≤ 8
 
--- the causes that may refuse the values of an EBML header's children, in the order of the checks
+-- the causes that may refuse the values of the children `list` of an EBML header, in the order of the checks
 abbrev pub value_causes : List ℕ → List Header → List (Option Damage)
 value_causes bytes list =
     wrong_doc_type bytes list ∷
@@ -32,22 +32,22 @@ value_causes bytes list =
     above bytes EBML_MAX_SIZE_LENGTH 8 MaxLengths list ∷
     []
 
--- the children in a body of an EBML header at the offset `base`
+-- the children in `body`, the data of an EBML header at the offset `base` of the content `bytes`
 abbrev pub in_body : List ℕ → ℕ → List ℕ → Run
 in_body bytes base body = children bytes base (base + length body)
 
--- `P` holds for each file that has `body` at the offset `base`, if nothing refuses the children in it.
+-- `P` holds for each content of `total` bytes that has `body` at the offset `base`, if the children in it aren't refused.
 abbrev pub IfSound : ℕ → ℕ → List ℕ → (List ℕ → Type 0) → Type 0
 IfSound base total body P = (bytes : List ℕ) → IsBody bytes base total body → child_refusal bytes (in_body bytes base body) ≡ None → P bytes
 
--- the damage that refuses the values of the children, and the document type among them
+-- the damage for which the values of the children `run` are refused, the DocType first
 abbrev pub value_refusal : List ℕ → Run → Option Damage
 value_refusal bytes run = first_damage (value_causes bytes run.list)
 
--- the document type among the children `run` of an EBML header, or the table's default
+-- the DocType among the children `run` of an EBML header, or its default
 abbrev pub doc_type_in : List ℕ → Run → Option (List ℕ)
 doc_type_in bytes run = text_in bytes DOC_TYPE run.list
 
--- the damage that refuses an EBML header
+-- the damage for which the EBML header `h` of the content `bytes` is refused, if any
 abbrev pub header_refusal : List ℕ → Header → Option Damage
 header_refusal bytes h = first_damage (header_causes bytes h (header_children bytes h))

@@ -1,4 +1,4 @@
--- The Elements of level 1 of a Segment in sequence.
+-- An iterator over the Elements at level 1 of a Segment.
 use Rattle.std.specs.Prelude.{◌≡◌, true, ℕ, ◌<◌, ◌≤◌, if◌then◌else◌, List, [], ◌∷◌, length, Option, Some, None, Result}
 use Rattle.ebml_numbers.specs.declared.number.Size.{Size}
 use Rattle.mkv_io.specs.declared.outside.FileId.{FileId}
@@ -13,8 +13,8 @@ use Rattle.elements.specs.Window.{ReadAhead, Holds, nothing_at}
 use Rattle.mkv_schema.specs.Outline.{segment_run}
 use Rattle.element_reader.specs.declared.outline.Outline.{Outline}
 
--- the state of an iterator over the Elements of level 1. It has its file, the size in the Segment's header, the next Element's offset, the
--- greatest offset of the Segment, and the bytes that are held.
+-- The state of an iterator over the Elements at level 1. It has its file, the size in the Segment's header, and the next Element's offset. Then come
+-- the greatest offset of the Segment, and the bytes that are buffered.
 pub record Listing : Type 0 where
   pub file : FileId
   pub size : Size
@@ -22,11 +22,11 @@ pub record Listing : Type 0 where
   pub end : ℕ
   pub ahead : ReadAhead
 
--- the Elements of level 1 in the content `bytes` that the walk has left
+-- the Elements at level 1 in the content `bytes` that the iterator `p` has left
 abbrev pub left : List ℕ → Listing → List Header
 left bytes p = (level_1 bytes p.size p.at p.end).list
 
--- the state at the start of a Segment of a file of `total` bytes; nothing is held yet
+-- the state at the start of `segment` in `file`, which has `total` bytes; nothing is buffered yet
 abbrev pub first_place : Header → ℕ → FileId → Listing
 first_place segment total file = record {
   file = file;
@@ -36,42 +36,42 @@ first_place segment total file = record {
   ahead = nothing_at 0;
 }
 
--- The file of the iterator is live, and the bytes that are held are this file's.
+-- The iterator `p` can go on: its file is open among `files`, and the buffered bytes are this file's.
 pub record CanRead (files : LiveFiles) (p : Listing) : Type 0 where
   pub live : files.live p.file.n ≡ true
   pub inside : p.end ≤ files.size p.file.n
   pub holds : IfVisible (files.content p.file.n) (λ bytes. Holds bytes p.ahead)
 
--- The result is the first of the Elements `old`, and `new` are left; or there is none.
+-- The result is the first of the Elements `old`, and `new` are left; or both are empty.
 abbrev pub Gives : Option Header → List Header → List Header → Type 0
 Gives (Some h) old new = old ≡ h ∷ new
 Gives None old new = (old ≡ []) × (new ≡ [])
 
--- The result is the first Element that `old` has left in the content `bytes`, or there is none. `new` has the others left.
+-- The result is the first Element that the iterator `old` has left in the content `bytes`, if there is one. The iterator `new` has the others left.
 abbrev pub GivesNext : List ℕ → Listing → Listing → Option Header → Type 0
 GivesNext bytes old new found = Gives found (left bytes old) (left bytes new)
 
--- The offset grows if there is an Element, and stays if there is none.
+-- The offset grows from `old` to `new` if there is an Element, and stays if there is none.
 abbrev pub GoesOn : Option Header → ℕ → ℕ → Type 0
 GoesOn (Some h) old new = old < new
 GoesOn None old new = new ≡ old
 
--- Both states are in the same Segment.
+-- The iterators `old` and `new` are in the same Segment of the same file.
 pub record IsSameSegment (old new : Listing) : Type 0 where
   pub file : new.file ≡ old.file
   pub size : new.size ≡ old.size
   pub end : new.end ≡ old.end
 
--- The state `new` is in the same Segment, and the iterator can go on.
+-- The iterator `old` became `new`, which is in the same Segment and can go on.
 pub record StandsOn (files : LiveFiles) (old new : Listing) : Type 0 where
   pub segment : IsSameSegment old new
   pub inside : new.at ≤ new.end
   pub reads : CanRead files new
 
--- The move from one offset to another pays for the bytes that were read.
+-- The iterator moved from `old` to `new`. From the state `before` to `now` of the files, at most the bytes of that move were read.
 abbrev pub GoesAlong : {S T E : Type 0} → Ghosts S → Listing → Listing → S → S → Result T E → Type 0
 GoesAlong r old new before now result = GoesTo r old.file old.at new.at old.ahead new.ahead before now result
 
--- All Elements of level 1 of a file with this outline are left.
+-- The iterator `p` has all Elements at level 1 left, in each content with the length of this outline.
 abbrev pub HasAllElementsLeft : Outline → Listing → Type 0
 HasAllElementsLeft outline p = (bytes : List ℕ) → outline.total ≡ length bytes → left bytes p ≡ (segment_run bytes outline.segment).list

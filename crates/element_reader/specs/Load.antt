@@ -1,4 +1,4 @@
--- Results of `load`.
+-- Results of the call that loads the data of an Element.
 use Rattle.std.specs.Prelude.{ℕ, Bool, true, false, ◌==◌, ◌||◌, if◌then◌else◌, Option, Some, None}
 use Rattle.std.specs.Option.{option_map_or}
 use Rattle.mkv_schema.specs.declared.ids.TheConstants.{EBML, SEEK_HEAD, CUES}
@@ -9,7 +9,7 @@ use Rattle.mkv_schema.specs.Outline.{over, is_described}
 use Rattle.element_reader.specs.declared.loading.LoadEnd.{LoadEnd}
 use Rattle.element_reader.specs.declared.loading.LoadEnd.TheVariants as load_end
 
--- the maximum length of a loaded Element with this ID, if there is a limit
+-- the greatest length in bytes of the data that is loaded for an Element with the ID `id`, if there is a limit
 abbrev pub limit_of : ℕ → Option ℕ
 limit_of id =
     if id == EBML then Some MAX_HEADER_LEN else
@@ -17,11 +17,11 @@ limit_of id =
     if id == CUES then Some MAX_CUES_LEN else
     None
 
--- the damage of an Element that is longer than the limit for its ID
+-- the damage of the Element with the given header, if its data is longer than the limit for its ID
 abbrev pub too_large : Header → Option Damage
 too_large h = option_map_or (λ limit. over limit h) (limit_of h.id) None
 
--- Reading an Element into memory ended with a failed read.
+-- The data of an Element wasn't loaded because a read failed.
 abbrev pub is_load_fault : LoadEnd → Bool
 is_load_fault (load_end.TooLarge d) = false
 is_load_fault load_end.ReadFault = true

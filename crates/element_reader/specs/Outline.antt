@@ -10,8 +10,9 @@ use Rattle.element_reader.specs.Collected.{last_element, others_of}
 use Rattle.element_reader.specs.declared.outline_end.OutlineEnd.{OutlineEnd}
 use Rattle.element_reader.specs.declared.outline_end.OutlineEnd.TheVariants as outline_end
 
--- the length of a file, its EBML header and its Segment; its Elements of level 1 other than Clusters, its first Cluster, and its last Element.
--- Then the number of bytes of all Info, Tracks, Chapters and Tags, the damage that ends level 1, if any, and the end of the Segment.
+-- The outline of a file. It has the length of the file, its EBML header and its Segment. It has its Elements at level 1 other than Clusters, its
+-- first Cluster, and its last Element. Then comes the number of bytes of all Info, Tracks, Chapters and Tags. The last two are the damage that ends
+-- level 1, if any, and the end of the Segment.
 pub record FileOutline : Type 0 where
   pub total : ℕ
   pub ebml : Header
@@ -23,7 +24,7 @@ pub record FileOutline : Type 0 where
   pub damage : Option Damage
   pub end : ℕ
 
--- the parts of an outline that are kept
+-- the outline of a file with the content `bytes`, whose Elements are `o`
 abbrev pub shown : List ℕ → Outlined → FileOutline
 shown bytes o = record {
   total = length bytes;
@@ -37,22 +38,23 @@ shown bytes o = record {
   end = o.end;
 }
 
--- the outline of a file, or the damage that refuses it; earlier inputs have `held` bytes of limited Elements
+-- the outline of a file with the content `bytes`, or the damage for which it is refused. Earlier inputs have `held` bytes of Info, Tracks, Chapters
+-- and Tags.
 abbrev pub outline_in : ℕ → List ℕ → Result FileOutline Damage
 outline_in held bytes = and_then (outline_of held bytes) (λ o. Ok (shown bytes o))
 
--- the first Element of level 1 with the ID `id`
+-- the first Element at level 1 with the ID `id` in the outline `o`
 abbrev pub first_in : ℕ → FileOutline → Option Header
 first_in id o = if id == CLUSTER then o.cluster else first_of id o.others
 
--- The result is the outline or the refusal `found`, unless a read failed or memory ran out.
+-- The result has `found`, the outline or the refusal by the definitions, unless a read failed or memory ran out.
 abbrev pub IsOutline : Result FileOutline Damage → Result FileOutline OutlineEnd → Type 0
 IsOutline found (Ok o) = found ≡ Ok o
 IsOutline found (Err (outline_end.Refused d)) = found ≡ Err d
 IsOutline found (Err outline_end.ReadFault) = ⊤
 IsOutline found (Err outline_end.Memory) = ⊤
 
--- Reading an outline ended with a failed read.
+-- An outline wasn't read because a read failed.
 abbrev pub is_outline_fault : OutlineEnd → Bool
 is_outline_fault (outline_end.Refused d) = false
 is_outline_fault outline_end.ReadFault = true

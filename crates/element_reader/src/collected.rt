@@ -1,4 +1,4 @@
-//! Elements of level 1 that a reader keeps.
+//! The Elements at level 1 that an outline keeps while a file is read.
 
 ghost use Rattle.std.specs.Prelude.{◌≡◌, ℕ, ◌+◌, ◌^◌, ◌<◌, ◌++◌, ◌∷◌, [], List, IfOk, false};
 ghost use Rattle.mkv_schema.specs.declared.element.Header.{Header as Placed};
@@ -14,7 +14,7 @@ use mkv_schema::ids::{CHAPTERS, CLUSTER, INFO, TAGS, TRACKS};
 use mkv_schema::limits::{MAX_ELEMENTS, MAX_MASTER_LEN, MAX_MASTERS_LEN};
 use std::alloc::{AllocError, Global};
 
-/// Elements of level 1 that were read and kept up to now.
+/// Elements at level 1 that were read and kept until now.
 #[derive(Drop)]
 pub struct Collected {
     /// The Elements other than Clusters, in the order of the file.
@@ -23,25 +23,25 @@ pub struct Collected {
     pub cluster: Option<Header>,
     /// The last of all Elements.
     pub last: Option<Header>,
-    /// Number of bytes of all Info, Tracks, Chapters and Tags, including earlier inputs.
+    /// Number of bytes of all Info, Tracks, Chapters and Tags, earlier inputs of a merge included.
     pub held: u64,
 }
 
-/// Checks whether `id` is Info, Tracks, Chapters or Tags.
+/// Checks whether `id` is the ID of Info, Tracks, Chapters or Tags, whose bytes are limited.
 pub fn is_described(id: u32) -> bool
     ensures { result ≡ is_described id }
 {
     id == INFO || id == TRACKS || id == CHAPTERS || id == TAGS
 }
 
-/// Returns the first Element with the ID `id`.
+/// Returns the first Element in `list` with the ID `id`.
 pub fn first_of(list: &[Header], id: u32) -> Option<Header>
     ensures { result ≡ first_of id list.now }
 {
     list.iter().copied().find(|header| header.id == id)
 }
 
-// Returns the number of bytes of an Info, Tracks, Chapters or Tags, or 0 for another Element.
+// Returns the length of the data of `header` in bytes if it is an Info, Tracks, Chapters or Tags, or else 0.
 fn described_octets(header: &Header) -> u64
     ensures { result ≡ described_octets header.now }
 {
@@ -55,7 +55,7 @@ fn described_octets(header: &Header) -> u64
 impl Collected {
     ghost use Rattle.element_reader.specs.Collected.{AddsOther, Keeps, KeepsAlso, OfKept, RefusesAs, unless_cluster};
 
-    /// Returns an empty collection; `held` is the number of such bytes in earlier inputs.
+    /// Returns an empty collection. `held` is the number of bytes of Info, Tracks, Chapters and Tags in earlier inputs.
     pub fn new(alloc: Global, held: u64) -> Collected
         ensures none { result.others.items ≡ [] }
         ensures kept { Keeps held [] result }
@@ -68,7 +68,8 @@ impl Collected {
         }
     }
 
-    /// Keeps the Element `header`, or returns the damage if it passes a limit.
+    /// Keeps the Element `header`, the next at level 1. If it passes a limit, it isn't kept, and the damage is
+    /// returned.
     pub fn add(&mut self, header: Header) -> Result<Option<Damage>, AllocError>
         ensures refusal { IfOk result (RefusesAs header self.old) }
         ensures others { IfOk result (AddsOther header self.old self.new) }
@@ -87,7 +88,7 @@ impl Collected {
         Ok(None)
     }
 
-    // Returns the damage of `header` if it passes a limit, by itself or with the Elements before it.
+    // Returns the damage of `header` if it passes a limit, by itself or with the Elements that were kept before.
     fn refusal(&self, header: &Header) -> Option<Damage>
         ensures exact { RefusesAs header.now self.now result }
         ensures room { result ≡ None → self.now.held + described_octets header.now < 2 ^ 64 }
@@ -101,7 +102,7 @@ impl Collected {
         None
     }
 
-    // Checks whether the element passes a limit of size, by itself or with the elements before it.
+    // Checks whether `header` passes a limit of size, by itself or with the Elements that were kept before.
     fn passes_size(&self, header: &Header) -> bool
         ensures exact { OfKept self.now (λ held list. result ≡ passes_size held list header.now) }
         ensures room { result ≡ false → self.now.held + described_octets header.now < 2 ^ 64 }
@@ -111,7 +112,7 @@ impl Collected {
         is_described(header.id) && (size > MAX_MASTER_LEN || held > MAX_MASTERS_LEN)
     }
 
-    // Checks whether the element passes the limit on the number of elements of level 1 that aren't Clusters.
+    // Checks whether `header` passes the limit on the number of Elements at level 1 other than Clusters.
     fn passes_count(&self, header: &Header) -> bool
         ensures { (held : ℕ) (list : List Placed) → Keeps held list self.now → result ≡ passes_count list header.now }
     {

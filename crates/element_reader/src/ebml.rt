@@ -24,10 +24,11 @@ use mkv_schema::ids::{
 use mkv_schema::limits::{MAX_ELEMENT_HEADER_LEN, MAX_HEADER_LEN};
 use std::alloc::Global;
 
-/// Bytes of the EBML header's ID, which begin a file.
+/// Element ID of the EBML header, the first bytes of a file.
 const EBML_MARK: [u8; 4] = [0x1A, 0x45, 0xDF, 0xA3];
 
-// Returns the damage that refuses the values of an EBML header. Its body is `body`, at the offset `base`.
+// Returns the damage for which the values of an EBML header are refused. Its data is `body`, at the offset `base` of a
+// file of `total` bytes.
 fn value_refusal(body: &[u8], base: u64, total: u64) -> Option<Damage>
     requires { base + length body.now ≤ LONGEST_FILE }
     ensures { IfSound base total body.now (λ bytes. result ≡ value_refusal bytes (in_body bytes base body.now)) }
@@ -51,7 +52,8 @@ fn value_refusal(body: &[u8], base: u64, total: u64) -> Option<Damage>
         .or(size_length)
 }
 
-/// Returns the damage that refuses an EBML header with the body `body`, which isn't longer than the limit.
+/// Returns the damage for which an EBML header is refused. Its data is `body`, which isn't longer than the limit, and
+/// `total` is the length of the file.
 pub fn header_refusal(body: &[u8], header: &Header, total: u64) -> Option<Damage>
     requires few { header.now.body + length body.now ≤ LONGEST_FILE }
     requires whole { length body.now ≡ known header.now.size }
@@ -64,7 +66,8 @@ pub fn header_refusal(body: &[u8], header: &Header, total: u64) -> Option<Damage
     value_refusal(body, header.body, total)
 }
 
-// Returns the Element at the start of a file of `total` bytes, if the file begins with the EBML header's ID.
+// Returns the header of the Element at the start of `file`, which has `total` bytes. It is refused unless the file
+// begins with the EBML header's ID.
 fn first_element<R: Reads>(
     window: &mut Window,
     src: &mut R,
@@ -91,7 +94,8 @@ fn first_element<R: Reads>(
     Ok(read_header(octets, Parent::File, total, 0, total))
 }
 
-/// Returns the EBML header of a file of `total` bytes, or the damage that refuses the file there.
+/// Reads the EBML header of `file`, which has `total` bytes, and returns its header. The inner error is the damage for
+/// which the file is refused there.
 pub fn ebml_header<R: Reads>(
     alloc: Global,
     window: &mut Window,

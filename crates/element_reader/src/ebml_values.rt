@@ -16,7 +16,8 @@ use mkv_io::{Damage, Kind};
 use mkv_schema::ids::DOC_TYPE;
 use mkv_schema::{text_default, uint_default};
 
-/// Returns the unsigned integer `id` of an EBML header with the body `body`, or its default, or 0.
+/// Returns the unsigned integer with the ID `id` in an EBML header, or its default, or 0. The header's data is `body`,
+/// at the offset `base` of a file of `total` bytes.
 pub fn uint_in(body: &[u8], base: u64, total: u64, id: u32) -> u64
     requires few { base + length body.now ≤ LONGEST_FILE }
     requires short { IsShortValue id }
@@ -36,14 +37,15 @@ pub fn uint_in(body: &[u8], base: u64, total: u64, id: u32) -> u64
     }
 }
 
-/// Checks whether `text` is a document type that is read.
+/// Checks whether `text` is a DocType that is read: `matroska` or `webm`.
 pub fn is_doc_type(text: &[u8]) -> bool
     ensures { result ≡ is_doc_type (Some text.now) }
 {
     text == "matroska".as_bytes() || text == "webm".as_bytes()
 }
 
-/// Checks whether the document type of an EBML header with the body `body` is read.
+/// Checks whether the DocType of an EBML header is one that is read. The header's data is `body`, at the offset `base`
+/// of a file of `total` bytes.
 pub fn has_doc_type(body: &[u8], base: u64, total: u64) -> bool
     requires { base + length body.now ≤ LONGEST_FILE }
     ensures { IfBody base total body.now (λ bytes. result ≡ is_doc_type (doc_type_in bytes (in_body bytes base body.now))) }
@@ -57,7 +59,8 @@ pub fn has_doc_type(body: &[u8], base: u64, total: u64) -> bool
     }
 }
 
-/// Returns the offset of the first child with the ID `id`, or 0 if there is none.
+/// Returns the offset in the file of the first child with the ID `id`, or 0 if there is none; damage of its value is
+/// reported there. The header's data is `body`, at the offset `base` of a file of `total` bytes.
 fn place_of(body: &[u8], base: u64, total: u64, id: u32) -> u64
     requires { base + length body.now ≤ LONGEST_FILE }
     ensures { IfBody base total body.now (λ bytes. result ≡ place_of id (in_body bytes base body.now).list) }
@@ -68,8 +71,8 @@ fn place_of(body: &[u8], base: u64, total: u64, id: u32) -> u64
     }
 }
 
-/// Returns the damage that refuses a file whose document type is neither `matroska` nor `webm`. `body` is the body of
-/// its EBML header at the offset `base`, and `total` the length of the file.
+/// Returns the damage for which a file is refused whose DocType is neither `matroska` nor `webm`. Its EBML header has
+/// the data `body`, at the offset `base` of a file of `total` bytes.
 pub fn wrong_doc_type(body: &[u8], base: u64, total: u64) -> Option<Damage>
     requires { base + length body.now ≤ LONGEST_FILE }
     ensures { IfBody base total body.now (λ bytes. result ≡ wrong_doc_type bytes (in_body bytes base body.now).list) }
@@ -81,7 +84,8 @@ pub fn wrong_doc_type(body: &[u8], base: u64, total: u64) -> Option<Damage>
     Some(damage(Kind::DocType, DOC_TYPE, offset))
 }
 
-/// Returns the damage `kind` if the integer `id` is above `limit`.
+/// Returns damage of the kind `kind` if the unsigned integer with the ID `id` in an EBML header is above `limit`. The
+/// header's data is `body`, at the offset `base` of a file of `total` bytes.
 pub fn above(body: &[u8], base: u64, total: u64, id: u32, limit: u64, kind: Kind) -> Option<Damage>
     requires few { base + length body.now ≤ LONGEST_FILE }
     requires short { IsShortValue id }

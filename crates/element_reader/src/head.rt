@@ -1,4 +1,4 @@
-//! The header of the Element at a place.
+//! The header of an Element at any offset of a file.
 
 ghost use Rattle.std.specs.Prelude.{◌≤◌, IfOk};
 ghost use Rattle.mkv_io.specs.Bounds.{ReadsUpTo};
@@ -14,8 +14,8 @@ use mkv_io::{FileId, Reads};
 use mkv_schema::Header;
 use mkv_schema::limits::MAX_ELEMENT_HEADER_LEN;
 
-/// Reads the header of the Element at the offset `at` of a file, in a parent that ends at `end`. Every Segment and
-/// every Cluster may be open. Reads at most `MAX_ELEMENT_HEADER_LEN` bytes.
+/// Reads the header of the Element at the offset `at` of `file`, in a parent that ends at the offset `end`. Every
+/// Segment and every Cluster may have an unknown size. Reads at most `MAX_ELEMENT_HEADER_LEN` bytes.
 pub fn header_at<R: Reads>(src: &mut R, file: FileId, at: u64, end: u64) -> Result<Header, HeadEnd>
     requires live { IsLive R.Reads src.old file }
     requires place { at ≤ end }

@@ -1,11 +1,11 @@
-//! Reasons why no header is read.
+//! Reasons why a header isn't read.
 
 use mkv_io::Damage;
 
-/// Reason why no header is read.
+/// Reason why a header isn't read.
 #[derive(Clone, Copy, Debug, PartialEq, Eq)]
 pub enum HeadEnd {
-    /// There is no valid Element of this file.
+    /// There is no valid Element at the offset.
     Damage(Damage),
     /// A read failed.
     ReadFault,

@@ -1,7 +1,7 @@
-//! Laws on files that are read.
+//! Laws on the data that were read of a file.
 ghost use Rattle.element_reader.specs.Kept.{ReadingsStay};
 
-/// Law: results of reading a file stay true as long as the file is the same, whatever happens to other files.
+/// States that what was read of a file stays true as long as the file is unchanged, whatever happens to other files.
 pub fn readings_stay()
     ensures { ReadingsStay }
 {}

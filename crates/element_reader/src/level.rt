@@ -1,4 +1,4 @@
-//! The Elements of level 1 of a Segment: RFC 9559, section 5.1 (Segment Element).
+//! The Elements at level 1 of a Segment, collected for an outline: RFC 9559, section 5.1 (Segment Element).
 
 ghost use Rattle.std.specs.Prelude.{All, ◌≡◌, ℕ, ◌≤◌, List, length, if◌then◌else◌, IfOk};
 ghost use Rattle.std.specs.Option.{option_map_or};
@@ -18,7 +18,7 @@ use mkv_io::{Damage, FileId, ReadEnd, Reads};
 use mkv_schema::Header;
 use std::alloc::Global;
 
-/// The Elements of level 1 of a Segment.
+/// Elements at level 1 of a Segment, as they were collected.
 #[derive(Drop)]
 pub struct Level {
     /// Elements that are kept.
@@ -29,7 +29,8 @@ pub struct Level {
     pub end: u64,
 }
 
-// Returns the end of a Segment whose Elements end at `at`, by a damage or without one.
+// Returns the offset of the end of `segment`, whose Elements end at the offset `at`, with or without damage. The file
+// has `total` bytes.
 fn segment_end(segment: &Header, total: u64, at: u64, damage: Option<Damage>) -> u64
     ensures { result ≡ end_met total segment.now at damage }
 {
@@ -40,7 +41,8 @@ fn segment_end(segment: &Header, total: u64, at: u64, damage: Option<Damage>) ->
     }
 }
 
-// Returns the level of a Segment whose Elements end at `at`, by a damage or without one.
+// Returns what was collected of `segment`, whose Elements end at the offset `at`, with or without damage. The file has
+// `total` bytes.
 fn ended(kept: Collected, segment: &Header, total: u64, at: u64, damage: Option<Damage>) -> Level
     ensures kept { result.kept ≡ kept }
     ensures level { EndsWay total segment.now at damage kept result }
@@ -49,7 +51,7 @@ fn ended(kept: Collected, segment: &Header, total: u64, at: u64, damage: Option<
     Level { kept, damage, end }
 }
 
-/// Returns the greatest offset that a Segment may reach in a file of `total` bytes.
+/// Returns the greatest offset that `segment` may reach in a file of `total` bytes.
 pub fn segment_bound(segment: &Header, total: u64) -> u64
     ensures { result ≡ (if is_unknown segment.now.size then total else end_in total segment.now) }
 {
@@ -59,8 +61,8 @@ pub fn segment_bound(segment: &Header, total: u64) -> u64
     }
 }
 
-/// Collects the Elements of level 1 of a Segment, or returns the damage of the first one that passes a limit. The
-/// file has `total` bytes, and earlier inputs have `held` bytes of Info, Tracks, Chapters and Tags.
+/// Collects the Elements at level 1 of `segment` in `file`, which has `total` bytes. The inner error is the damage of
+/// the first one that passes a limit. Earlier inputs have `held` bytes of Info, Tracks, Chapters and Tags.
 pub fn collect<R: Reads>(
     alloc: Global,
     window: &mut Window,

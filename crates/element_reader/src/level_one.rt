@@ -1,4 +1,4 @@
-//! The Elements of level 1 in sequence: RFC 9559, section 5.1 (Segment Element).
+//! An iterator over the Elements at level 1: RFC 9559, section 5.1 (Segment Element).
 
 ghost use Rattle.std.specs.Prelude.{◌≡◌, ℕ, ◌≤◌, List, length, IfOk, OnErr};
 ghost use Rattle.mkv_io.specs.Faults.{HasCause, is_failure};
@@ -15,8 +15,7 @@ use mkv_io::{Failed, FileId, Reads};
 use mkv_schema::Header;
 use std::marker::Model;
 
-/// Iterator over the Elements of level 1 of a Segment, including Clusters, in the order of the file. It doesn't
-/// allocate.
+/// Iterator over the Elements at level 1 of a Segment, Clusters included, in the order of the file. It takes no memory.
 #[derive(Drop)]
 pub struct LevelOne {
     window: SmallWindow,
@@ -38,7 +37,7 @@ impl Model for LevelOne {
 }
 
 impl LevelOne {
-    /// Returns an iterator over the Elements of level 1 of the file `file` with the outline `outline`.
+    /// Returns an iterator over the Elements at level 1 of `file`, which has the outline `outline`.
     pub fn start(outline: &Outline, file: FileId) -> LevelOne
         ensures place { result ≡ first_place outline.now.segment outline.now.total file }
         ensures left { HasAllElementsLeft outline.now result }
@@ -46,7 +45,7 @@ impl LevelOne {
         LevelOne::over(&outline.segment(), outline.total(), file)
     }
 
-    // Returns an iterator over the Elements of a Segment in a file of `total` bytes.
+    // Returns an iterator over the Elements of `segment` in `file`, which has `total` bytes.
     fn over(segment: &Header, total: u64, file: FileId) -> LevelOne
         requires { segment.now.body ≤ total }
         ensures place { result ≡ first_place segment.now total file }
@@ -61,8 +60,8 @@ impl LevelOne {
         }
     }
 
-    /// Returns the next Element, or None at the Segment's end or at a damage, and again after that. After `Failed`
-    /// nothing is held, and the next call looks for the same Element again.
+    /// Returns the header of the next Element, or None at the Segment's end or at damage, and None again after that.
+    /// After `Failed` nothing is buffered, and the next call looks for the same Element again.
     pub fn next<R: Reads>(&mut self, src: &mut R) -> Result<Option<Header>, Failed>
         requires { CanRead (live_files R.Reads src.old) self.old }
         ensures ok { IfRead R.Reads src.old self.old.file result (λ found bytes. GivesNext bytes self.old self.new found) }

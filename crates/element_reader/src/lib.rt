@@ -1,6 +1,7 @@
 #![tactic(auto)]
 
-//! The outline of a Matroska file: its EBML header, its Segment, and the Elements of level 1.
+//! The outline of a Matroska file: its EBML header, its Segment, and its Elements at level 1. Each command that reads a
+//! file begins with it.
 
 mod collected;
 mod ebml;

@@ -1,4 +1,4 @@
-//! Limits of a reader.
+//! Limits on the length of Elements.
 
 ghost use Rattle.std.specs.Prelude.{◌≡◌};
 ghost use Rattle.mkv_schema.specs.Outline.{over};
@@ -7,7 +7,7 @@ use elements::{damage_at, known};
 use mkv_io::{Damage, Kind};
 use mkv_schema::Header;
 
-/// Returns the damage of an Element whose body has more than `limit` bytes.
+/// Returns the damage of the Element `header` if its data has more than `limit` bytes.
 pub fn over(limit: u64, header: &Header) -> Option<Damage>
     ensures { result ≡ over limit header.now }
 {

@@ -1,4 +1,4 @@
-//! Bodies of Elements that are read whole.
+//! Reading of the whole data of an Element.
 
 ghost use Rattle.std.specs.Prelude.{length, ◌≡◌, ◌≤◌, ◌↔◌, false, Some, IfOk, IsErrOf};
 ghost use Rattle.mkv_io.specs.Bounds.{ReadsUpTo};
@@ -18,10 +18,10 @@ use mkv_schema::limits::{MAX_CUES_LEN, MAX_HEADER_LEN, MAX_MASTER_LEN};
 use std::alloc::Global;
 use thiserror::Error;
 
-/// Reason why a body isn't loaded.
+/// Reason why the data of an Element isn't loaded.
 #[derive(Debug, Drop, Error)]
 pub enum LoadEnd {
-    /// The body is longer than the limit for its ID.
+    /// The data is longer than the limit for the Element's ID.
     #[error("TooLarge")]
     TooLarge(Damage),
     /// A read failed.
@@ -32,7 +32,7 @@ pub enum LoadEnd {
     Memory,
 }
 
-// Returns the maximum length of a loaded Element with this ID, if there is a limit.
+// Returns the greatest length in bytes of the data that is loaded for an Element with the ID `id`, if there is a limit.
 fn limit_of(id: u32) -> Option<u64>
     ensures { result ≡ limit_of id }
 {
@@ -45,7 +45,7 @@ fn limit_of(id: u32) -> Option<u64>
     }
 }
 
-// Returns the damage of an element that is longer than a tree may be.
+// Returns the damage of the Element `header` if its data is longer than the limit for its ID.
 fn too_large(header: &Header) -> Option<Damage>
     ensures { result ≡ too_large header.now }
 {
@@ -53,8 +53,8 @@ fn too_large(header: &Header) -> Option<Damage>
     over(limit, header)
 }
 
-/// Reads the body of an Element with a known size. Refuses a body that is longer than the limit for its ID: 65,536
-/// bytes for EBML, 64 MiB for Cues, 16 MiB for Info, Tracks, Chapters, Tags and SeekHead.
+/// Reads the data of the Element `header` of `file`, whose size is known. Refuses data that is longer than the limit
+/// for its ID: 65,536 bytes for EBML, 64 MiB for Cues, 16 MiB for Info, Tracks, Chapters, Tags and SeekHead.
 pub fn load<R: Reads>(
     alloc: Global,
     src: &mut R,

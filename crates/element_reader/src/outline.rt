@@ -19,8 +19,8 @@ use mkv_schema::ids::CLUSTER;
 use std::alloc::Global;
 use std::marker::Model;
 
-/// Outline of a file: its EBML header, its Segment, and its Elements of level 1. Only the first Cluster is kept,
-/// besides the last Element of all.
+/// Outline of a file: its EBML header, its Segment, and its Elements at level 1. Clusters are left out, except the
+/// first one and the last Element, which may be one.
 #[derive(Drop)]
 pub struct Outline {
     total: u64,
@@ -57,11 +57,11 @@ impl Outline {
     ghost use Rattle.element_reader.specs.Collected.{IsInFile, last_element};
     ghost use Rattle.element_reader.specs.Outline.{IsOutline, first_in, is_outline_fault, outline_in, shown};
 
-    /// Reads the outline of a file. Refuses a file that isn't a Matroska or WebM file, has no Segment, or passes a
+    /// Reads the outline of `file`. Refuses a file that isn't a Matroska or WebM file, has no Segment, or passes a
     /// limit of level 1.
     ///
-    /// The limits are 16 MiB for one Info, Tracks, Chapters or Tags, 64 MiB for all of them, and 4,096 Elements
-    /// besides Clusters. Damage at level 1 ends the list there.
+    /// The limits are 16 MiB for one Info, Tracks, Chapters or Tags, 64 MiB for all of them, and 4,096 Elements besides
+    /// Clusters. Damage at level 1 ends the list there.
     pub fn read<R: Reads>(alloc: Global, src: &mut R, file: FileId) -> Result<Outline, OutlineEnd>
         requires { IsLive R.Reads src.old file }
         ensures exact { IfTold R.Reads src.old file (λ bytes. IsOutline (outline_in 0 bytes) result) }
@@ -73,8 +73,8 @@ impl Outline {
         Outline::read_after(alloc, src, file, 0)
     }
 
-    /// Reads the outline of a file after other inputs. Their Info, Tracks, Chapters and Tags have `held` bytes, and
-    /// at most 64 MiB together with this file's.
+    /// Reads the outline of `file`, an input of a merge after other inputs. Their Info, Tracks, Chapters and Tags have
+    /// `held` bytes, and may have 64 MiB together with this file's.
     pub fn read_after<R: Reads>(
         alloc: Global,
         src: &mut R,
@@ -111,14 +111,14 @@ impl Outline {
         self.total
     }
 
-    /// Returns the header of the EBML header.
+    /// Returns the header of the file's EBML header.
     pub fn ebml(&self) -> Header
         ensures { result ≡ self.now.ebml }
     {
         self.ebml
     }
 
-    /// Returns the header of the Segment.
+    /// Returns the header of the file's Segment.
     pub fn segment(&self) -> Header
         ensures exact { result ≡ self.now.segment }
         ensures inside { result.body ≤ self.now.total }
@@ -133,14 +133,14 @@ impl Outline {
         self.held
     }
 
-    /// Returns the number of Elements of level 1 besides Clusters.
+    /// Returns the number of Elements at level 1 besides Clusters.
     pub fn count(&self) -> usize
         ensures { result ≡ length self.now.others }
     {
         self.level.kept.others.len()
     }
 
-    /// Returns the Element of level 1 with the number `k`, counted from 0 in the order of the file without Clusters.
+    /// Returns the Element at level 1 with the index `k`, counted from 0 in the order of the file, without Clusters.
     pub fn at(&self, k: usize) -> Header
         requires { k < length self.now.others }
         ensures exact { slice_get self.now.others k ≡ Some result }
@@ -149,7 +149,7 @@ impl Outline {
         self.level.kept.others[k]
     }
 
-    /// Returns the first Element of level 1 with the ID `id`.
+    /// Returns the first Element at level 1 with the ID `id`, if there is one.
     pub fn first(&self, id: u32) -> Option<Header>
         ensures kept { result ≡ first_in id self.now }
         ensures inside { id ≢ CLUSTER_ID → IfSome result (IsInFile self.now.total) }
@@ -161,14 +161,14 @@ impl Outline {
         first_of(&self.level.kept.others, id)
     }
 
-    /// Returns the offset of the first Cluster, in bytes from the start of the file.
+    /// Returns the offset of the first Cluster, in bytes from the start of the file, if there is one.
     pub fn first_cluster(&self) -> Option<u64>
         ensures { result ≡ option_map (λ h. h.offset) self.now.cluster }
     {
         self.level.kept.cluster.map(|header| header.offset)
     }
 
-    /// Returns the last Element of level 1, which may be a Cluster.
+    /// Returns the last Element at level 1, which may be a Cluster, if there is one.
     pub fn last(&self) -> Option<Header>
         ensures kept { result ≡ self.now.last }
         ensures exact { (bytes : List ℕ) (o : Outlined) → self.now ≡ shown bytes o → result ≡ last_element o.list }
@@ -184,7 +184,7 @@ impl Outline {
         self.level.end
     }
 
-    /// Returns the damage that ends the Elements of level 1, if any.
+    /// Returns the damage that ends the Elements at level 1, if any.
     pub fn damage(&self) -> Option<Damage>
         ensures { result ≡ self.now.damage }
     {
@@ -197,10 +197,12 @@ impl HasSegment for Outline {
 
     ghost total = { λ o. o.total };
 
+    /// Returns the header of the file's Segment, for a reader of level 1.
     fn segment(&self) -> Header {
         Outline::segment(self)
     }
 
+    /// Returns the length of the file in bytes, for a reader of level 1.
     fn total(&self) -> u64 {
         Outline::total(self)
     }

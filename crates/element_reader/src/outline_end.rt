@@ -1,4 +1,4 @@
-//! Reasons why no outline is read.
+//! Reasons why an outline isn't read.
 
 ghost use Rattle.std.specs.Prelude.{◌≡◌};
 ghost use Rattle.element_reader.specs.declared.outline_end.OutlineEnd.TheVariants as outline_end;
@@ -7,7 +7,7 @@ use mkv_io::{Damage, Failed, ReadEnd};
 use std::alloc::AllocError;
 use thiserror::Error;
 
-/// Reason why no outline is read.
+/// Reason why an outline, or a record of the file, isn't read.
 #[derive(Debug, Drop, Error)]
 pub enum OutlineEnd {
     /// The file is refused: it isn't Matroska, or passes a limit.

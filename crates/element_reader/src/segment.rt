@@ -1,4 +1,4 @@
-//! The Segment of a file: RFC 9559, section 5.1 (Segment Element).
+//! The search for the Segment of a file: RFC 9559, section 5.1 (Segment Element).
 
 ghost use Rattle.std.specs.Prelude.{◌≡◌, ◌≤◌, ◌<◌, IfOk, OnErr};
 ghost use Rattle.mkv_io.specs.Faults.{HasCause, is_failure};
@@ -12,8 +12,8 @@ use mkv_io::{Damage, Failed, FileId, Kind, Reads};
 use mkv_schema::Header;
 use mkv_schema::ids::SEGMENT;
 
-/// Returns the Segment of a file of `total` bytes, from the offset `from` at level 0 on, or the damage that refuses
-/// the file before it.
+/// Returns the header of the first Segment of `file`, which has `total` bytes, from the offset `from` at level 0 on.
+/// The inner error is the damage for which the file is refused before it.
 #[tactic(auto, using(crate::proofs::SegmentLemmas::ways))]
 pub fn find_segment<R: Reads>(
     window: &mut Window,

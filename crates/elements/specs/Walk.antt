@@ -1,17 +1,18 @@
--- Results of a walk over the Elements of a file.
+-- Results of steps over Elements of unknown size.
 use Rattle.std.specs.Prelude.{ℕ, ◌≤◌, List, Result, Ok, Err}
 use Rattle.mkv_io.specs.declared.damage.Damage.{Damage}
 use Rattle.mkv_schema.specs.Elements.{Run, end_of_run, open_cluster}
 
--- the end of a run of Elements, or the damage that ends it
+-- the offset of the end of the run `run` of Elements, or the damage that ends it
 abbrev pub run_end : Run → Result ℕ Damage
 run_end run = end_of_run run run.damage
 
--- the end of the children of a Cluster of unknown size, from the offset `p` on
+-- the offset of the end of the children of a Cluster of unknown size, or the damage among them. They begin at the offset `p` in the content `bytes`,
+-- and end at `e` at the latest.
 abbrev pub cluster_end : List ℕ → ℕ → ℕ → Result ℕ Damage
 cluster_end bytes p e = run_end (open_cluster bytes p e)
 
--- the offset that was found, or the end `end` of the walk if a damage ended it
+-- the offset that was found, or the end `end` of the walk if damage ended it
 abbrev pub place_or : ℕ → Result ℕ Damage → ℕ
 place_or end (Ok at) = at
 place_or end (Err d) = end

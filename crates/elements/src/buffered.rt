@@ -1,4 +1,4 @@
-//! The part of a file that a buffer holds.
+//! The part of a file that a buffer holds, and reading ahead into it.
 
 ghost use Rattle.std.specs.Prelude.{◌≡◌, ◌+◌, ◌-◌, ◌≤◌, ◌⊎◌, length, take, IfOk, OnOk, OnErr, IsTrue, ◌↔◌};
 ghost use Rattle.mkv_io.specs.Contents.{octets_from};
@@ -50,7 +50,7 @@ impl BufferedRange {
         &buffer[start..start + len]
     }
 
-    /// Returns the bytes that `buffer` holds from the offset `at` of the file, at most `most`.
+    /// Returns the bytes that `buffer` holds from the offset `at` of the file on, at most `most` of them.
     pub fn front_at(self, at: u64, most: usize, buffer: &[u8]) -> &[u8]
         requires { self.len ≤ length buffer.now }
         ensures exact { result.now ≡ take most (front_from (held_in self buffer.now) at) }
@@ -63,8 +63,8 @@ impl BufferedRange {
         &buffer[start..start + count]
     }
 
-    // Returns the number of bytes to hold from the offset `at` on if `len` bytes are requested. The buffer has `room`
-    // bytes.
+    // Returns the number of bytes to hold from the offset `at` on if `len` bytes are requested, for a buffer of `room`
+    // bytes. A walk in small steps gets more with each read, and a long jump only a few.
     fn wanted_at(self, room: usize, at: u64, len: usize, buffer: &[u8]) -> usize
         requires { self.len ≤ length buffer.now }
         ensures exact { result ≡ wanted_at room (held_in self buffer.now) at len }
@@ -80,7 +80,8 @@ impl BufferedRange {
         }
     }
 
-    /// Returns the number of bytes that `buffer` holds from the offset `at` of a file of `total` bytes.
+    /// Returns the number of bytes that `buffer` holds from the offset `at` of a file of `total` bytes on, and so
+    /// needn't be read again.
     pub fn kept_at(self, at: u64, total: u64, buffer: &[u8]) -> usize
         requires fits { self.len ≤ length buffer.now }
         requires inside { at ≤ total }
@@ -95,7 +96,8 @@ impl BufferedRange {
         if kept > total - at { 0 } else { kept as usize }
     }
 
-    // Moves the range to the offset `at`, and keeps the bytes that `buffer` holds from there on.
+    // Moves the range to the offset `at` of a file of `total` bytes, and keeps the bytes that `buffer` holds from there
+    // on.
     fn move_to(&mut self, at: u64, total: u64, buffer: &mut [u8])
         requires fits { self.old.len ≤ length buffer.old }
         requires inside { at ≤ total }
@@ -113,7 +115,8 @@ impl BufferedRange {
         *self = BufferedRange { at, len: kept };
     }
 
-    // Reads bytes after the range until it has `wanted` bytes, or reaches the end of the file.
+    // Reads bytes of `file` after the range into `buffer`, until it has `wanted` bytes or reaches the end of the file.
+    // After a failed read nothing is held.
     fn read_on<R: Reads>(
         &mut self,
         buffer: &mut [u8],
@@ -144,7 +147,7 @@ impl BufferedRange {
         Ok(())
     }
 
-    /// Copies `octets` to the start of `buffer`. They are at the offset `at` of the file.
+    /// Copies `octets`, which are at the offset `at` of the file, to the start of `buffer`, and returns their range.
     pub fn put(at: u64, octets: &[u8], buffer: &mut [u8]) -> BufferedRange
         requires { length octets.now ≤ length buffer.old }
         ensures exact { held_in result buffer.new ≡ record { at = at; octets = octets.now } }
@@ -158,7 +161,8 @@ impl BufferedRange {
         }
     }
 
-    /// Makes `buffer` hold the `len` bytes from the offset `at` of the file.
+    /// Makes `buffer` hold the `len` bytes from the offset `at` of `file`. Bytes that it holds already aren't read
+    /// again.
     pub fn hold<R: Reads>(
         &mut self,
         buffer: &mut [u8],
@@ -185,7 +189,8 @@ impl BufferedRange {
         self.read_on(buffer, src, file, wanted)
     }
 
-    /// Returns the Element at the offset `at`, in a parent that ends at `end`, or its damage.
+    /// Returns the header of the Element at the offset `at` of `file`, in a parent that ends at the offset `end`. The
+    /// inner error is its damage.
     pub fn element<R: Reads>(
         &mut self,
         buffer: &mut [u8],
@@ -216,7 +221,7 @@ impl BufferedRange {
     }
 }
 
-// Returns the maximum length of a header at the offset `at`, in a parent that ends at `end`.
+// Returns the greatest length in bytes of a header at the offset `at`, in a parent that ends at the offset `end`.
 fn header_room(at: u64, end: u64) -> u64
     requires { at ≤ end }
     ensures { result ≡ header_room at end }
@@ -224,7 +229,8 @@ fn header_room(at: u64, end: u64) -> u64
     (end - at).min(MAX_ELEMENT_HEADER_LEN)
 }
 
-// Fills `buffer` from the offset `at` of the file, up to the end of the file at most. Returns the number of bytes.
+// Fills `buffer` with bytes of `file` from the offset `at` on, up to the end of the file at most. Returns the number of
+// bytes.
 #[tactic(auto, using(std::proofs::lemmas::List::take_at))]
 fn read_ahead<R: Reads>(
     src: &mut R,

@@ -1,4 +1,4 @@
-//! The children of a master: RFC 8794, section 7.7 (Master Element).
+//! The children of a master whose data is in memory: RFC 8794, section 7.7 (Master Element).
 
 ghost use Rattle.std.specs.Prelude.{◌≡◌, ℕ, ◌+◌, ◌^◌, ◌<◌, ◌≤◌, List, length, IfOk};
 ghost use Rattle.mkv_schema.specs.Element.{known, stated_end};
@@ -13,8 +13,8 @@ use ebml_numbers::Size;
 use mkv_io::Damage;
 use mkv_schema::Header;
 
-/// Returns the child at the offset `at` of a file of `total` bytes, or its damage. The master's body is `body`, at
-/// the offset `base`.
+/// Returns the header of the child at the offset `at` of a file of `total` bytes, or its damage. The master's data is
+/// `body`, at the offset `base` of the file.
 pub fn child_at(
     parent: Parent,
     body: &[u8],
@@ -33,7 +33,7 @@ pub fn child_at(
     read_header(&body[(at - base) as usize..], parent, total, at, end)
 }
 
-/// Returns the bytes of the body of `child`. Its master's body is `body`, at the offset `base`.
+/// Returns the bytes of the data of `child`. Its master's data is `body`, at the offset `base` of the file.
 pub fn body_in<'a>(body: &'a [u8], base: u64, child: &Header) -> &'a [u8]
     requires from { base ≤ child.now.body }
     requires inside { stated_end child.now ≤ base + length body.now }
@@ -43,7 +43,7 @@ pub fn body_in<'a>(body: &'a [u8], base: u64, child: &Header) -> &'a [u8]
     &body[start..start + known(child.size) as usize]
 }
 
-/// Returns the number of bytes of a body with a known size, or 0.
+/// Returns the number of bytes of an Element's data, or 0 if its size is unknown.
 pub fn known(size: Size) -> u64
     ensures { result ≡ known size }
 {

@@ -1,4 +1,4 @@
-//! The header of the Element at a place.
+//! The header of an Element, parsed from bytes: its ID, its size, and the damage that it may have.
 
 ghost use Rattle.std.specs.Prelude.{◌≡◌, ◌<◌, ◌≤◌, ◌+◌, ◌^◌, length, drop, nat_lt, IfOk};
 ghost use Rattle.mkv_schema.specs.Element.{body_damage, cut_header, element_in, id_in, stated_end, with_size};
@@ -12,7 +12,7 @@ use mkv_io::{Damage, Kind};
 use mkv_schema::Header;
 use mkv_schema::ids::{CHAPTER_DISPLAY, CLUSTER, SEGMENT};
 
-/// Reads the header of the Element at the start of `octets`, or returns its damage.
+/// Parses the header of the Element at the start of `octets`, or returns its damage.
 ///
 /// The bytes are at the offset `at` of a file of `total` bytes, and reach to `end`, the parent's end. The first
 /// `MAX_ELEMENT_HEADER_LEN` of them are enough.
@@ -31,8 +31,8 @@ pub fn read_header(
     first_header(octets, parent, total, at, end)
 }
 
-// Reads the header at the start of `octets`, or returns its damage. The bytes are at the offset `at` of a file of
-// `total` bytes, and reach to the end `end` of the parent.
+// Parses the header at the start of `octets`, or returns its damage. The bytes are at the offset `at` of a file of
+// `total` bytes, and reach to the offset `end` of the parent's end.
 #[tactic(auto, unfolding(mkv_schema::specs::Element::element_in))]
 fn first_header(
     octets: &[u8],
@@ -71,7 +71,7 @@ fn first_header(
     }
 }
 
-// Reads the ID at the start of `octets`. ChapterDisplay's is valid only in a ChapterAtom.
+// Reads the Element ID at the start of `octets`. ChapterDisplay's one-byte ID is valid only in a ChapterAtom.
 fn id_at(octets: &[u8], parent: Parent) -> Result<IdRead, NumFault>
     ensures exact { result ≡ id_in (setting_of parent) octets.now }
     ensures inside { IfOk result (λ read. read.len ≤ length octets.now) }
@@ -85,21 +85,22 @@ fn id_at(octets: &[u8], parent: Parent) -> Result<IdRead, NumFault>
     read_id(octets)
 }
 
-/// Returns the damage `kind` at the Element `header`.
+/// Returns damage of the kind `kind` at the Element `header`.
 pub fn damage_at(kind: Kind, header: &Header) -> Damage
     ensures { result ≡ record { kind = kind; id = header.now.id; offset = header.now.offset } }
 {
     damage(kind, header.id, header.offset)
 }
 
-/// Returns the damage `kind` of an Element `id` at the offset `offset`.
+/// Returns damage of the kind `kind` at an Element with the ID `id` and the offset `offset` in the file.
 pub fn damage(kind: Kind, id: u32, offset: u64) -> Damage
     ensures { result ≡ record { kind = kind; id = id; offset = offset } }
 {
     Damage { kind, id, offset }
 }
 
-// Returns the damage of a header that ends at `end`, after its parent's end.
+// Returns the damage of an Element with the ID `id` at the offset `at`, whose header ends at `end`, after its parent's
+// end. The file has `total` bytes.
 fn cut_header(parent: Parent, total: u64, id: u32, at: u64, end: u64) -> Damage
     ensures { result ≡ cut_header (setting_of parent) total id at end }
 {
@@ -110,7 +111,8 @@ fn cut_header(parent: Parent, total: u64, id: u32, at: u64, end: u64) -> Damage
     }
 }
 
-// Returns the damage of the body of `header`, if any.
+// Returns the kind of damage of the data of `header`, if any. Its parent ends at the offset `end`, and the file has
+// `total` bytes.
 fn body_damage(header: &Header, parent: Parent, total: u64, end: u64) -> Option<Kind>
     requires { stated_end header.now < 2 ^ 64 }
     ensures { result ≡ body_damage (setting_of parent) total end header.now }

@@ -1,4 +1,4 @@
-//! The Elements of level 1: RFC 9559, section 5.1 (Segment Element).
+//! Steps over the Elements at level 1: RFC 9559, section 5.1 (Segment Element).
 
 ghost use Rattle.std.specs.Prelude.{◌≡◌, ◌≤◌, IfOk, OnErr};
 ghost use Rattle.mkv_io.specs.Faults.{HasCause, is_failure};
@@ -15,21 +15,22 @@ use ebml_numbers::Size;
 use mkv_io::{Damage, Failed, FileId, Reads};
 use mkv_schema::{Header, is_level0};
 
-/// Result of a step in a Segment.
+/// Result of a step over the Elements of a Segment.
 #[derive(Clone, Copy, Debug, PartialEq, Eq)]
 pub enum Level1Step {
-    /// Element of level 1, and the offset after it, or the damage inside it.
+    /// Element at level 1, and the offset after it, or the damage inside it.
     Element {
         header: Header,
         next: Result<u64, Damage>,
     },
-    /// Damage: there is no valid Element of level 1.
+    /// Damage: there is no valid Element at level 1.
     Damaged(Damage),
     /// End of the Segment.
     End,
 }
 
-/// Checks whether a Segment of the size `size` ends before an Element `id`. Only a Segment of unknown size does.
+/// Checks whether a Segment of the size `size` ends before an Element with the ID `id`. Only a Segment of unknown size
+/// does.
 pub fn ends_segment(size: Size, id: u32) -> bool
     ensures { result ≡ ends_segment size id }
 {
@@ -39,7 +40,8 @@ pub fn ends_segment(size: Size, id: u32) -> bool
     }
 }
 
-/// Returns the next step at the offset `at` of a Segment of the size `size`, which ends at `end` or before.
+/// Returns the next step over a Segment of the size `size` in `file`, from the offset `at` on. The Segment ends at the
+/// offset `end` or before.
 #[tactic(auto, using(crate::proofs::LevelOneLemmas::steps))]
 pub fn next_of_segment<W: Lookahead, R: Reads>(
     window: &mut W,

@@ -1,8 +1,7 @@
 #![tactic(auto)]
 
-//! Elements that are read in sequence: the header of an Element, the values of leaves, the window for reading a file,
-//! and the steps over level 1. The standards are RFC 8794, sections 5 to 7, and RFC 9559, section 5.1 (Segment
-//! Element).
+//! Reading of Elements in sequence: headers, the values of leaves, the window that a file is read through, and the
+//! steps over level 1. The standards are RFC 8794, sections 5 to 7, and RFC 9559, section 5.1 (Segment Element).
 
 mod buffered;
 mod child;
@@ -27,5 +26,5 @@ pub use value::{is_known_value, is_value, text_of};
 pub use walk::{behind, cluster_end, end_in, ends_cluster, id_of};
 pub use window::Window;
 
-/// Number of bytes that are read at once for a few headers.
+/// Number of bytes that are read at once for a few headers, and after the data of a block.
 pub const LITTLE: usize = 1024;

@@ -1,4 +1,4 @@
-//! Read-ahead for walks over the Elements of a file.
+//! Read-ahead of a file for walks over its Elements.
 
 ghost use Rattle.std.specs.Prelude.{◌≡◌, ℕ, ◌*◌, ◌≤◌, IfOk};
 ghost use Rattle.mkv_io.specs.Faults.{HasCause, is_failure};
@@ -12,7 +12,7 @@ use crate::parent::Parent;
 use mkv_io::{Damage, Failed, FileId, Reads};
 use mkv_schema::Header;
 
-/// Read-ahead of one file: bytes that were read at once, to look up its Elements.
+/// Read-ahead of one file: a buffer of bytes that are read at once, so that its Elements are looked up there.
 pub trait Lookahead {
     /// Bytes of the file that are held.
     ghost ahead: { Self → ReadAhead };
@@ -20,8 +20,8 @@ pub trait Lookahead {
     /// Number of bytes that can be held.
     ghost room: { ℕ };
 
-    /// Returns the Element at the offset `at`, in a parent that ends at `end`, or its damage. Bytes that are held
-    /// aren't read again. After a failed read nothing is held.
+    /// Returns the header of the Element at the offset `at` of `file`, in a parent that ends at the offset `end`. The
+    /// inner error is its damage. Bytes that are held aren't read again. After a failed read nothing is held.
     fn element<R: Reads>(
         &mut self,
         src: &mut R,

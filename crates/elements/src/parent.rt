@@ -1,10 +1,10 @@
-//! Parents of Elements, as they affect headers.
+//! Parents of Elements, which decide what headers are valid.
 
 ghost use Rattle.std.specs.Prelude.{◌≡◌, ◌==◌};
 
 use mkv_schema::ids::{CHAPTER_ATOM, CLUSTER, SEGMENT};
 
-/// Parent of an Element, which determines its valid headers.
+/// Parent of an Element, which decides whether its header is valid.
 #[derive(Clone, Copy, Debug, PartialEq, Eq)]
 pub enum Parent {
     /// The file: a Segment may have an unknown size, and the end of the file may cut it.
@@ -22,7 +22,8 @@ pub enum Parent {
 impl Parent {
     ghost use Rattle.elements.specs.Parent.{setting_of};
 
-    /// Checks whether an Element `id` may have an unknown size here, or be cut by the end of the file.
+    /// Checks whether an Element with the ID `id` may have an unknown size in this parent, or be cut by the end of the
+    /// file.
     pub fn may_open(self, id: u32) -> bool
         ensures { result ≡ (setting_of self).may_open id }
     {
@@ -34,14 +35,14 @@ impl Parent {
         }
     }
 
-    /// Checks whether the byte `80` is ChapterDisplay's ID here (RFC 9559, section 5.1.7, Chapters Element).
+    /// Checks whether the byte `80` is ChapterDisplay's ID in this parent (RFC 9559, section 5.1.7, Chapters Element).
     pub fn has_display(self) -> bool
         ensures { result ≡ (setting_of self).display }
     {
         self == Parent::Tree(CHAPTER_ATOM)
     }
 
-    /// Checks whether the parent is read whole.
+    /// Checks whether the parent's data is read whole before its children are parsed.
     pub fn is_tree(self) -> bool
         ensures { result ≡ (setting_of self).read_whole }
     {

@@ -1,13 +1,13 @@
-//! The Segment of a file, for readers of level 1.
+//! The Segment of a file, as readers of level 1 need it.
 
 ghost use Rattle.std.specs.Prelude.{◌≡◌, ◌≤◌, ℕ};
 ghost use Rattle.mkv_schema.specs.declared.element.Header.{Header as HeaderRecord};
 
 use mkv_schema::Header;
 
-/// Type with the Segment of a file, such as an outline. A reader of level 1 needs no more of it.
+/// Type that has the Segment of a file, such as an outline. A reader of level 1 needs no more of it.
 pub trait HasSegment {
-    /// The header of the Segment.
+    /// Header of the Segment.
     ghost segment: { Self → HeaderRecord };
 
     /// Length of the file, in bytes.

@@ -1,4 +1,4 @@
-//! A window that doesn't allocate.
+//! A window that takes no memory.
 
 ghost use Rattle.std.specs.Prelude.{◌≡◌};
 ghost use Rattle.elements.specs.Window.{nothing_at};
@@ -11,7 +11,7 @@ use mkv_io::{Damage, Failed, FileId, Reads};
 use mkv_schema::Header;
 use std::marker::Model;
 
-/// Window of 1,024 bytes, enough for a few headers.
+/// Window of 1,024 bytes of one file, enough for a few headers.
 #[derive(Drop)]
 pub struct SmallWindow {
     buffer: [u8; LITTLE],
@@ -32,7 +32,7 @@ impl Model for SmallWindow {
 }
 
 impl SmallWindow {
-    /// Returns a window that holds nothing.
+    /// Returns an empty window.
     pub fn new() -> SmallWindow
         ensures { result ≡ nothing_at 0 }
     {
@@ -57,8 +57,8 @@ impl Lookahead for SmallWindow {
 
     ghost room = { LITTLE };
 
-    // Reads the header of the element at the offset `at`, in a parent that ends at `end`, through the window, or
-    // returns its damage.
+    // Returns the header of the Element at the offset `at` of `file`, in a parent that ends at the offset `end`, read
+    // through the window. The inner error is its damage.
     fn element<R: Reads>(
         &mut self,
         src: &mut R,

@@ -1,4 +1,4 @@
-//! Forward walks over Elements through a window.
+//! Steps over Elements of unknown size, and the ends of Elements.
 
 ghost use Rattle.std.specs.Prelude.{◌≡◌, ◌≤◌, IfOk, OnErr};
 ghost use Rattle.mkv_io.specs.Faults.{HasCause, is_failure};
@@ -15,7 +15,7 @@ use ebml_numbers::Size;
 use mkv_io::{Damage, Failed, FileId, Reads};
 use mkv_schema::{Header, is_level0, is_level1};
 
-/// Returns the ID of an Element or of a damage, or 0 if it couldn't be read.
+/// Returns the Element ID of a header or of a damage, or 0 if it couldn't be read.
 pub fn id_of(found: &Result<Header, Damage>) -> u32
     ensures { result ≡ id_of found.now }
 {
@@ -25,14 +25,14 @@ pub fn id_of(found: &Result<Header, Damage>) -> u32
     }
 }
 
-/// Checks whether a Cluster of unknown size ends before an Element `id`.
+/// Checks whether a Cluster of unknown size ends before an Element with the ID `id`.
 pub fn ends_cluster(id: u32) -> bool
     ensures { result ≡ ends_cluster id }
 {
     is_level1(id) || is_level0(id)
 }
 
-/// Returns the offset after the Element `header`, or `end` if its parent ends before.
+/// Returns the offset after the Element `header`, or `end`, its parent's end, if that is before.
 pub fn end_in(header: &Header, end: u64) -> u64
     ensures { result ≡ end_in end header.now }
 {
@@ -42,8 +42,8 @@ pub fn end_in(header: &Header, end: u64) -> u64
     }
 }
 
-/// Returns the offset after the children of a Cluster of unknown size, from the offset `from` on, or the damage among
-/// them.
+/// Returns the offset after the children of a Cluster of unknown size, whose data begins at the offset `from` of
+/// `file`. Its parent ends at the offset `end`. The inner error is the damage among the children.
 #[tactic(auto, using(crate::proofs::WalkLemmas::ends))]
 pub fn cluster_end<W: Lookahead, R: Reads>(
     window: &mut W,
@@ -78,8 +78,8 @@ pub fn cluster_end<W: Lookahead, R: Reads>(
     Ok(Ok(at))
 }
 
-/// Returns the offset after the Element `header` of a Segment, or the damage inside it. A Cluster of unknown size
-/// ends with its children.
+/// Returns the offset after `header`, an Element of a Segment that ends at the offset `end`. The inner error is the
+/// damage inside it. A Cluster of unknown size ends with its children.
 pub fn behind<W: Lookahead, R: Reads>(
     window: &mut W,
     src: &mut R,

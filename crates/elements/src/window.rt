@@ -1,4 +1,4 @@
-//! The window with 65,536 bytes.
+//! The window of 65,536 bytes that files are read through.
 
 ghost use Rattle.std.specs.Prelude.{◌≡◌, ℕ, List, ◌+◌, ◌-◌, ◌≤◌, ◌⊎◌, length, take, OnOk, IsTrue, IsOk, IfOk, ◌↔◌};
 ghost use Rattle.mkv_io.specs.Bounds.{ReadsUpTo};
@@ -20,10 +20,10 @@ use std::marker::Model;
 /// Number of bytes that the window can hold.
 const WINDOW: usize = 65536;
 
-/// Maximum length in bytes of a body that is read into the window.
+/// Greatest length in bytes of an Element's data that is read into the window.
 const SHORT_BODY: usize = 4096;
 
-/// Window of 65,536 bytes of one file, from an offset on.
+/// Window of up to 65,536 bytes of one file, from an offset on.
 #[derive(Drop)]
 pub struct Window {
     buffer: Vec<u8>,
@@ -44,7 +44,7 @@ impl Model for Window {
 }
 
 impl Window {
-    /// Returns a window that holds nothing, with room for 65,536 bytes.
+    /// Returns an empty window, with room for 65,536 bytes.
     pub fn new(alloc: Global) -> Result<Window, AllocError>
         ensures { IfOk result (λ w. w ≡ nothing_at 0) }
     {
@@ -54,7 +54,7 @@ impl Window {
         })
     }
 
-    /// Checks whether the window holds the `len` bytes from the offset `at` of the file.
+    /// Checks whether the window holds the `len` bytes from the offset `at` of its file.
     pub fn has(&self, at: u64, len: usize) -> bool
         ensures { IsTrue result ↔ HasRange self.now at len }
     {
@@ -69,12 +69,12 @@ impl Window {
         self.held.octets_at(at, len, &self.buffer)
     }
 
-    /// Makes the window hold the `len` bytes from the offset `at` of the file. Reads nothing if it holds them.
+    /// Makes the window hold the `len` bytes from the offset `at` of `file`. Reads nothing if it holds them.
     ///
-    /// Otherwise it keeps the bytes that it holds from `at` on, and reads the bytes after them. It then holds twice
-    /// the earlier number, but at least 1,024 more than `len`, at most 65,536, and none past the end of the file.
-    /// After a jump that is longer than the held range, it holds only 1,024 more than `len`. After a failed read the
-    /// window is at `at` and holds nothing.
+    /// Otherwise it keeps the bytes that it holds from `at` on, and reads the bytes after them. It then holds twice the
+    /// earlier number, but at least 1,024 more than `len`, at most 65,536, and none past the end of the file. After a
+    /// jump that is longer than the held range, it holds only 1,024 more than `len`. After a failed read the window is
+    /// at `at` and holds nothing.
     pub fn hold<R: Reads>(
         &mut self,
         src: &mut R,
@@ -96,8 +96,8 @@ impl Window {
             .hold(&mut self.buffer, src, file, at, usize::from(len))
     }
 
-    /// Fills `into` with the bytes of a body from the offset `at`. Takes them from the window if it holds all, and
-    /// otherwise reads them.
+    /// Fills `into` with the bytes from the offset `at` of `file` on, which are an Element's data. Takes them from the
+    /// window if it holds all, and otherwise reads them.
     pub fn fill<R: Reads>(
         &self,
         src: &mut R,
@@ -121,11 +121,11 @@ impl Window {
         src.read_at(file, at, into)
     }
 
-    /// Reads a body of `len` bytes to the start of `into`, which has room for 1,024 more. Bytes that the window holds
-    /// aren't read again.
+    /// Reads the `len` bytes of an Element's data at the offset `at` of `file` to the start of `into`, which has room
+    /// for 1,024 more. Bytes that the window holds aren't read again.
     ///
-    /// A short body is read into the window. The rest of a long one is read at once, with up to 1,024 bytes after it.
-    /// The window then holds these, since the next header is there.
+    /// Short data is read into the window. The rest of a long one is read at once, with up to 1,024 bytes after it. The
+    /// window then holds these, since the next header is there.
     pub fn read_body<R: Reads>(
         &mut self,
         src: &mut R,
@@ -157,7 +157,7 @@ impl Window {
         self.read_through(src, file, at, len, into)
     }
 
-    // Copies the `len` held bytes from the offset `at` to the start of `into`.
+    // Copies the `len` bytes from the offset `at` of the file, which the window holds, to the start of `into`.
     fn copy(&self, at: u64, len: usize, into: &mut [u8])
         requires range { HasRange self.now at len }
         requires room { len ≤ length into.old }
@@ -174,7 +174,7 @@ impl Window {
         self.held = BufferedRange { at: 0, len: 0 };
     }
 
-    /// Returns the bytes that the window holds from the offset `at` of the file, at most `most`.
+    /// Returns the bytes that the window holds from the offset `at` of its file on, at most `most` of them.
     pub fn front_at(&self, at: u64, most: usize) -> &[u8]
         ensures exact { result.now ≡ take most (front_from self.now at) }
         ensures held { (bytes : List ℕ) → Holds bytes self.now → result.now ≡ octets_from bytes at (length result.now) }
@@ -183,8 +183,8 @@ impl Window {
         self.held.front_at(at, most, &self.buffer)
     }
 
-    // Copies the bytes that the window holds from the offset `at` of a file of `total` bytes on to `into`, and
-    // returns their number.
+    // Copies the bytes that the window holds from the offset `at` on to the start of `into`, and returns their number.
+    // The file has `total` bytes.
     fn copy_held(&self, at: u64, total: u64, into: &mut [u8]) -> usize
         requires inside { at ≤ total }
         requires room { length (kept_from self.now total at) ≤ length into.old }
@@ -201,7 +201,7 @@ impl Window {
         kept
     }
 
-    // Holds the bytes `octets`, which are at the offset `at` of the file.
+    // Makes the window hold `octets`, which are at the offset `at` of the file, and nothing else.
     fn set(&mut self, at: u64, octets: &[u8])
         requires { length octets.now ≤ WINDOW }
         ensures { self.new ≡ record { at = at; octets = octets.now } }
@@ -209,7 +209,8 @@ impl Window {
         self.held = BufferedRange::put(at, octets, &mut self.buffer);
     }
 
-    // Reads the bytes of a body that aren't held, and up to 1,024 bytes after it, at once.
+    // Reads the `len` bytes of an Element's data at the offset `at` to the start of `into`, as far as they aren't held.
+    // It reads up to 1,024 bytes after them at once. The window then holds the latter.
     fn read_through<R: Reads>(
         &mut self,
         src: &mut R,
@@ -247,8 +248,8 @@ impl Lookahead for Window {
 
     ghost room = { WINDOW };
 
-    // Reads the header of the element at the offset `at`, in a parent that ends at `end`, through the window, or
-    // returns its damage.
+    // Returns the header of the Element at the offset `at` of `file`, in a parent that ends at the offset `end`, read
+    // through the window. The inner error is its damage.
     fn element<R: Reads>(
         &mut self,
         src: &mut R,
