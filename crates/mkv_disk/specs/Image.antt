@@ -1,19 +1,19 @@
--- The state of a file on a disk: the content that reads return, and the contents that a crash may leave.
+-- The state of one file on a disk: the content that reads return, and the contents that a crash may leave.
 use Rattle.std.specs.Prelude.{◌≡◌, ◌⊎◌, ℕ, ◌+◌, ◌<◌, ◌≤◌, max, min, List, [], ◌∷◌, length, take, slice_index}
 use Rattle.mkv_io.specs.Contents.{overwritten}
 
--- the offsets from `from` on and below `to`
+-- the offsets in a file from `from` on and below `to`
 pub record Range : Type 0 where
   pub from : ℕ
   pub to : ℕ
 
--- The offset `k` is in one of the ranges.
+-- The offset `k` is in one of the ranges of the list.
 abbrev pub InRanges : List Range → ℕ → Type 0
 InRanges [] k = ⊥
 InRanges (r ∷ rs) k = ((r.from ≤ k) × (k < r.to)) ⊎ InRanges rs k
 
--- the content that reads return, and the content at the last good sync. The other fields are about the time since that sync: the least and the
--- greatest length, and the ranges that were written.
+-- A file on a disk: the content that reads return, and the content at the last good sync. The other fields are about the time since that sync: the
+-- least and the greatest length in bytes, and the ranges that were written.
 pub record DiskFile : Type 0 where
   pub reads : List ℕ
   pub synced : List ℕ
@@ -28,13 +28,13 @@ pub record IsImage (f : DiskFile) (c : List ℕ) : Type 0 where
   pub no_longer : length c ≤ f.greatest
   pub elsewhere : (k : ℕ) → k < f.least → (InRanges f.written k → ⊥) → slice_index c k ≡ slice_index f.synced k
 
--- the file without pending writes: a crash leaves what reads return
+-- a file with the content `bytes` without pending writes: a crash leaves what reads return
 abbrev pub clean : List ℕ → DiskFile
 clean bytes = record { reads = bytes; synced = bytes; least = length bytes; greatest = length bytes; written = [] }
 
 -- ---- the effects of the calls on a file
 
--- the file after `bytes` were written from the offset `at`, over its bytes and past its end
+-- the file `f` after `bytes` were written from the offset `at` on, over its bytes and past its end
 abbrev pub written_at : ℕ → List ℕ → DiskFile → DiskFile
 written_at at bytes f = record {
   reads = overwritten f.reads at bytes;
@@ -44,7 +44,7 @@ written_at at bytes f = record {
   written = record { from = at; to = at + length bytes } ∷ f.written;
 }
 
--- the file after it was truncated to `len` bytes
+-- the file `f` after it was truncated to `len` bytes
 abbrev pub cut_to : ℕ → DiskFile → DiskFile
 cut_to len f = record {
   reads = take len f.reads;
@@ -54,6 +54,6 @@ cut_to len f = record {
   written = f.written;
 }
 
--- the file after a sync: a crash leaves what reads return
+-- the file `f` after a sync: a crash leaves what reads return
 abbrev pub all_synced : DiskFile → DiskFile
 all_synced f = clean f.reads

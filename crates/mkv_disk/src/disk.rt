@@ -10,43 +10,44 @@ ghost use Rattle.mkv_io.specs.Sources.{file_size, live_files};
 
 use mkv_io::{Failed, FileId, OpenFault, Reads};
 
-/// File that is edited.
+/// File that is edited in place.
 pub const MEDIA: FileId = FileId { n: 0 };
 
-/// Journal beside it (FILE.mkvedit), to which an edit is written before it is made.
+/// Journal beside it (FILE.mkvedit), which an edit is written to before it is made.
 pub const SIDECAR: FileId = FileId { n: 1 };
 
-/// Two files that are changed in place.
+/// A file that is edited in place, and its journal.
 ///
 /// A write is safe only after a sync. Until then a crash may leave the file at any length that it had since its last
-/// good sync. The ranges that were written may have any bytes. A call that fails has done any part of its work, so
-/// the pair must be opened again before use.
+/// good sync. The ranges that were written may have any bytes. A call that fails has done any part of its work, so the
+/// pair must be opened again before use.
 ///
 /// The contents of a disk in memory are visible to the proof. The contents of a real disk aren't: its clauses only
-/// promise counts, live files and lengths.
+/// promise counts, open files and lengths.
 pub trait Disk: Reads {
     /// True if contents of this type of disk are visible to the proof.
     ghost told: { Bool };
 
-    /// Contents of the two files as reads return them, and as a crash may leave them now.
+    /// Contents of the file and its journal as reads return them, and as a crash may leave them now.
     ghost pair: { Self → Pair };
 
-    /// Name of the file that was opened last.
+    /// Name of the file that was opened last, if one was.
     ghost opened: { Self → Option (List ℕ) };
 
-    /// Predicate of the names that have a file.
+    /// True for a name that has a file.
     ghost is_there: { Self → List ℕ → Bool };
 
     /// Current moment, as a number that doesn't fall.
     ghost moment: { Self → ℕ };
 
-    /// Contents that a crash at any moment from the given one on might have left, during a call or between two calls.
+    /// Contents of the two files that a crash at any moment since the given one might have left, during a call or
+    /// between calls.
     ghost left_since: { Self → ℕ → List ℕ → List ℕ → Type 0 };
 
     /// Number of calls that failed to write, truncate or sync.
     ghost writing_faults: { Self → ℕ };
 
-    /// Opens the file `name` and its journal, `name` with `.mkvedit` appended. Makes an empty journal if there is
+    /// Opens the file `name` and its journal, `name` with `.mkvedit` appended. Creates an empty journal if there is
     /// none.
     fn open_pair(&mut self, name: &str) -> Result<(), OpenFault>
         ensures missing { IsTrue told → IsErrOf result OpenFault.Missing ↔ (is_there self.old name.now ≡ false) }
@@ -60,7 +61,7 @@ pub trait Disk: Reads {
         ensures cause { HasCause is_open_failure (Self.reading_faults self.old) (Self.reading_faults self.new) result }
         ensures counts { KeepsOtherCounts Self.Reads writing_faults self.old self.new };
 
-    /// Writes `bytes` to `file` from the offset `at`, over its bytes and past its end.
+    /// Writes `bytes` to `file` from the offset `at` on, over its bytes and past its end.
     fn write_at(&mut self, file: FileId, at: u64, bytes: &[u8]) -> Result<(), Failed>
         requires live { IsTrue ((Self.files (Self.standing self.old)).live file.n) }
         requires inside { IsTrue told → at ≤ length (file_of file.n (pair self.old)).reads }
@@ -86,7 +87,7 @@ pub trait Disk: Reads {
         ensures cause { HasCause is_failure (writing_faults self.old) (writing_faults self.new) result }
         ensures unread { ReadsNothing Self.Reads self.old self.new };
 
-    /// Syncs `file`: after Ok a crash leaves exactly what reads return.
+    /// Syncs `file`: after Ok a crash leaves exactly the bytes that reads return.
     fn sync(&mut self, file: FileId) -> Result<(), Failed>
         requires { IsTrue ((Self.files (Self.standing self.old)).live file.n) }
         ensures ok { IsTrue told → OnOk result (pair self.new ≡ on file.n all_synced (pair self.old)) }

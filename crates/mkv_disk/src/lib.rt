@@ -1,7 +1,7 @@
 #![tactic(auto)]
 
-//! A disk with two files, as an edit in place uses it: the file that is edited, and a journal beside it. Its
-//! definition includes their possible contents after a crash at any moment.
+//! A disk with two files, as an edit in place uses it: the file that is edited, and its journal. Its definition
+//! includes the contents that a crash at any moment may leave. The commands use a real disk, and tests one in memory.
 
 mod disk;
 

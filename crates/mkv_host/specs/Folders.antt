@@ -2,7 +2,7 @@
 use Rattle.std.specs.Prelude.{ℕ, List, [], ◌∷◌, Option, Some, None, codes}
 use Rattle.std.specs.Path.{path_parent}
 
--- a folder as it is opened: `.` if the name has none
+-- the folder as it is opened: `.` if a name has none
 abbrev pub or_here : Option (List ℕ) → List ℕ
 or_here None = codes "."
 or_here (Some []) = codes "."

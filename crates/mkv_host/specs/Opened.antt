@@ -1,4 +1,4 @@
--- The open files of the system, as far as they are known.
+-- The open files of the system, as far as the code knows them: numbers, names and lengths.
 use Rattle.std.specs.Prelude.{◌≡◌, ℕ, ◌≤◌, ◌<◌, zero, suc, List, [], ◌∷◌, length, Bool, true, ◌&&◌, ◌==◌, Option, Some, None, is_some, get_or}
 use Rattle.std.proofs.Common.{arith}
 use Rattle.mkv_io.specs.LiveFiles.{LiveFiles}
@@ -6,7 +6,7 @@ use Rattle.mkv_host.specs.declared.opened.Opened.{Opened}
 use Rattle.mkv_host.specs.declared.system.Node.{Node}
 use Rattle.mkv_io.specs.declared.outside.TheConstants.{LONGEST_FILE}
 
--- the open file with the number `file`, or None if it was closed
+-- the open file with the number `file` in the list `opened`, or None if it was closed
 abbrev pub opened_at : List (Option Opened) → ℕ → Option Opened
 opened_at opened file = get_or opened file None
 
@@ -20,11 +20,11 @@ abbrev pub name_of : Option Opened → List ℕ
 name_of None = []
 name_of (Some opened) = opened.name
 
--- the length in bytes of the file with the number `file`
+-- the length in bytes of the file with the number `file` in the list `opened`, 0 if it was closed
 abbrev pub size_at : List (Option Opened) → ℕ → ℕ
 size_at opened file = size_of (opened_at opened file)
 
--- the open files with their lengths; their contents aren't visible to the proof
+-- the files in the list `opened` with their lengths; their contents aren't visible to the proof
 abbrev pub live_in : List (Option Opened) → LiveFiles
 live_in opened = record {
   live = λ file. is_some (opened_at opened file);
@@ -32,11 +32,11 @@ live_in opened = record {
   content = λ _. None;
 }
 
--- the name under which the file with the number `file` was opened
+-- the name under which the file with the number `file` in the list `opened` was opened
 abbrev pub holder_in : List (Option Opened) → ℕ → List ℕ
 holder_in opened file = name_of (opened_at opened file)
 
--- `node` and `other` are the same file of the system.
+-- The identities `node` and `other` belong to the same file of the system.
 abbrev pub is_node : Node → Node → Bool
 is_node node other = (other.device == node.device) && (other.inode == node.inode)
 

@@ -1,4 +1,4 @@
-//! Calls of the system that open a film, which is edited in place, and its journal (FILE.mkvedit).
+//! Calls of the system that open a film, the file that is edited in place, and its journal (FILE.mkvedit).
 
 ghost use Rattle.std.specs.Prelude.{◌≡◌, ◌↔◌, pos, ◌<ℤ◌, IfOk, IsTrue};
 ghost use Rattle.std.specs.Fd.{file_raw_fd};
@@ -16,12 +16,12 @@ use std::io::ErrorKind;
 use std::os::unix::fs::MetadataExt;
 use std::{fs, io};
 
-/// Name of this process in the file system; its owner is the user who runs it.
+/// Folder of this process in /proc; its owner is the user who runs the program.
 const THIS_PROCESS: &str = "/proc/self";
 
-/// Opens the regular file `name` to read and write it, and locks it. Refuses a link, a file that another process has
-/// locked, one that has lost the name meanwhile, and one that is open as standard output. Anything but a regular file
-/// isn't opened, since that may wait for ever.
+/// Opens the regular file `name`, a film, to read and write it, and locks it. Refuses a link, a file that another
+/// process has locked, one that has lost the name meanwhile, and one that is open as standard output. Anything but a
+/// regular file isn't opened, since that may wait for ever.
 pub fn open_media<R: fs::Files<File = File>>(
     system: &R,
     name: Text,
@@ -39,8 +39,8 @@ pub fn open_media<R: fs::Files<File = File>>(
     Ok((measured(file, name, &found)?, found))
 }
 
-/// Checks whether `name` isn't a link and is the file `node`. Call it after the file was opened: on an overlay,
-/// opening a file to write it makes it another file.
+/// Checks whether `name` isn't a link and is the file with the identity `node`. Call it after the file was opened: on
+/// an overlay, opening a file to write it makes it another file.
 pub fn has_name<R: fs::Files<File = File>>(system: &R, name: &str, node: Node) -> bool {
     match fs::symlink_metadata(system, name) {
         Ok(found) => node_of(&found).is_ok_and(|named| named == node),
@@ -48,7 +48,7 @@ pub fn has_name<R: fs::Files<File = File>>(system: &R, name: &str, node: Node) -
     }
 }
 
-/// Returns the open file with its length. Refuses a file longer than `LONGEST_FILE`.
+/// Returns the open file with its name and its length, by `found`. Refuses a file longer than `LONGEST_FILE`.
 fn measured(file: File, name: Text, found: &Metadata) -> io::Result<OpenFile>
     requires { pos 2 <ℤ file_raw_fd file }
     ensures { IfOk result (λ opened. opened.name ≡ name) }
@@ -60,9 +60,9 @@ fn measured(file: File, name: Text, found: &Metadata) -> io::Result<OpenFile>
     Ok(OpenFile { file, name, size })
 }
 
-/// Opens the journal `name` of the film `media` to read and write it, or makes it, empty, with the film's owner and
-/// mode (`share_new`). An existing journal must be a regular file with no other name. It must not be the film itself,
-/// nor a stranger's.
+/// Opens the journal `name` of the film `media` to read and write it. If there is none, it makes an empty one with the
+/// film's owner and mode (`share_new`). An existing journal must be a regular file with no other name. It must not be
+/// the film itself, nor a stranger's.
 pub fn open_sidecar<R: fs::Files<File = File>>(
     system: &R,
     name: Text,
@@ -83,7 +83,8 @@ pub fn open_sidecar<R: fs::Files<File = File>>(
     }
 }
 
-/// Opens the existing journal `name` of the film `media`.
+/// Opens the journal `name` of the film `media`, which exists. Refuses a link, a file with several names, the film
+/// itself, and a stranger's file.
 fn open_existing<R: fs::Files<File = File>>(
     system: &R,
     name: Text,
@@ -104,8 +105,8 @@ fn open_existing<R: fs::Files<File = File>>(
     measured(file, name, &found)
 }
 
-/// Checks whether neither the film's owner nor the user of this process owns the journal `sidecar`. Whoever may write
-/// the folder may have made such a journal, and its record would be written into the film.
+/// Checks whether neither the owner of the film `media` nor the user of this process owns the journal `sidecar`.
+/// Whoever may write the folder may have made such a journal, and its record would be written into the film.
 fn is_strangers<R: fs::Files<File = File>>(
     system: &R,
     sidecar: &Metadata,
@@ -120,7 +121,7 @@ fn is_strangers<R: fs::Files<File = File>>(
     }
 }
 
-/// Returns the node of the file `found`. Refuses a file with several names.
+/// Returns the identity of the file `found`. Refuses a file with several names.
 fn only_name(found: &Metadata) -> io::Result<Node> {
     if found.nlink() != 1 {
         return Err(ErrorKind::InvalidInput.into());
@@ -128,7 +129,8 @@ fn only_name(found: &Metadata) -> io::Result<Node> {
     node_of(found)
 }
 
-/// Syncs the folder of `name`, so that it has the name. Ignores that a file system can't sync a folder.
+/// Syncs the folder of the file `name`, so that a crash can't take the name. Ignores that a file system can't sync a
+/// folder.
 pub fn settle_folder<R: fs::Files<File = File>>(system: &R, name: &str) -> io::Result<()> {
     match above_streams(File::open(system, folder_of(name))?)?.sync_all() {
         Err(error) if is_unsynced(error.kind()) => Ok(()),

@@ -1,7 +1,8 @@
 #![tactic(auto)]
 
-//! The files of the system, a film and its journal that are changed in place, and standard output. Contents of files
-//! and folders aren't visible to the proof. It is trusted that the system keeps the bytes that are written.
+//! The program's access to the system: the files that it reads and writes, a film and its journal for edits in place,
+//! and standard output. Contents of files and folders aren't visible to the proof. It is trusted that the system keeps
+//! the bytes that are written.
 
 mod disk_system;
 mod locks;

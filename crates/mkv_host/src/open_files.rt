@@ -11,7 +11,8 @@ use crate::system::Node;
 use mkv_io::{FileId, Text};
 use std::alloc::{AllocError, Global};
 
-/// Returns a copy of `name` for a file that will be opened, and reserves room for the file and its node.
+/// Returns a copy of `name` for a file that will be opened. It reserves room for the file in `opened` and for its
+/// identity in `seen`, so that nothing can fail after the file is opened.
 pub fn prepare(
     opened: &mut Vec<Option<Opened>>,
     seen: &mut Vec<Node>,
@@ -31,8 +32,8 @@ pub fn prepare(
     Ok(holder)
 }
 
-/// Adds the file `one`, for which `prepare` has reserved room, and returns its number. Its node stays known after it
-/// is closed.
+/// Adds the file `one`, for which `prepare` has reserved room, and returns its number. Its identity stays in `seen`
+/// after it is closed.
 pub fn add(opened: &mut Vec<Option<Opened>>, seen: &mut Vec<Node>, one: Opened) -> FileId
     requires room { length opened.old.items < vec_capacity opened.old }
     requires seen_room { length seen.old.items < vec_capacity seen.old }
@@ -46,7 +47,7 @@ pub fn add(opened: &mut Vec<Option<Opened>>, seen: &mut Vec<Node>, one: Opened) 
     FileId { n: number }
 }
 
-/// Returns the open file with the number `file`.
+/// Returns the open file with the number `file` in `opened`.
 pub fn open_at(opened: &Vec<Option<Opened>>, file: FileId) -> &Opened
     requires { IsTrue (is_some (opened_at opened.now.items file.n)) }
     ensures { opened_at opened.now.items file.n ≡ Some result.now }
@@ -57,14 +58,14 @@ pub fn open_at(opened: &Vec<Option<Opened>>, file: FileId) -> &Opened
     }
 }
 
-/// Checks whether `node` was opened or made before, under any name.
+/// Checks whether the file with the identity `node` was opened or created before, under any name.
 pub fn is_seen(seen: &Vec<Node>, node: Node) -> bool
     ensures { result ≡ list_any (is_node node) seen.now.items }
 {
     seen.iter().any(|one| *one == node)
 }
 
-/// Adds `count` bytes to the noted length of an open file.
+/// Adds `count` bytes to the noted length of the open file `file`.
 pub fn lengthen(opened: &mut Vec<Option<Opened>>, file: FileId, count: u64)
     requires live { IsTrue (is_some (opened_at opened.old.items file.n)) }
     requires room { size_at opened.old.items file.n + count ≤ LONGEST_FILE }

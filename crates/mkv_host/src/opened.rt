@@ -8,7 +8,7 @@ use crate::system::Node;
 use mkv_io::Text;
 use std::fs::File;
 
-/// Open file with its node, the name under which it was opened, and its length in bytes.
+/// Open file with its identity, the name under which it was opened, and its length in bytes.
 #[derive(Drop)]
 pub struct Opened {
     pub file: File,

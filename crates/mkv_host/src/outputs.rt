@@ -1,4 +1,4 @@
-//! Calls of the system that make outputs.
+//! Calls of the system that create or replace outputs.
 
 ghost use Rattle.std.specs.Prelude.{◌≡◌, ◌↔◌, pos, ◌<ℤ◌, true, IfOk, IsTrue};
 ghost use Rattle.std.specs.Fd.{file_raw_fd};
@@ -15,7 +15,7 @@ use std::{fs, io};
 /// Number of temporary names that are tried for a file that replaces another.
 const MAX_TRIES: u32 = 100;
 
-/// Output file, and whether this run has made it.
+/// Output file, its identity, and whether this run has created it.
 #[derive(Drop)]
 pub struct Output {
     pub file: File,
@@ -33,7 +33,7 @@ pub fn node_at<R: fs::Files<File = File>>(system: &R, name: &str) -> io::Result<
     }
 }
 
-/// Opens the file `name` to read and write it if `is_there`, or else makes it. Also returns whether it is certainly
+/// Opens the file `name` to read and write it if `is_there`, or else creates it. Also returns whether it is certainly
 /// new. An existing file keeps its bytes.
 pub fn open_or_make<R: fs::Files<File = File>>(
     system: &R,
@@ -49,8 +49,8 @@ pub fn open_or_make<R: fs::Files<File = File>>(
     Ok((above_streams(file)?, is_new))
 }
 
-/// Makes the file `name`, and returns whether it is certainly new. If `name` is a link to a missing file, that file
-/// is made.
+/// Creates the file `name`, and returns whether it is certainly new. If `name` is a link to a missing file, that file
+/// is created.
 fn make_new<R: fs::Files<File = File>>(system: &R, name: &str) -> io::Result<(File, bool)> {
     match File::create_new(system, name) {
         Ok(file) => Ok((file, true)),
@@ -66,9 +66,9 @@ fn make_new<R: fs::Files<File = File>>(system: &R, name: &str) -> io::Result<(Fi
     }
 }
 
-/// Replaces the regular file `name` by a new file with the mode and owner of `was`. Other names of the old file keep
-/// its bytes, and it isn't flushed when it is closed. A link is followed to its file. If this fails, the old file is
-/// unchanged.
+/// Replaces the regular file `name` by a new, empty file with the mode and owner of `was`. Other names of the old file
+/// keep its bytes, and it isn't flushed when it is closed. A link is followed to its file. If this fails, the old file
+/// is unchanged.
 pub fn replaced<R: fs::Files<File = File>>(
     alloc: Global,
     system: &R,
@@ -84,7 +84,8 @@ pub fn replaced<R: fs::Files<File = File>>(
     replaced_at(alloc, system, place.as_str(), was)
 }
 
-/// Replaces the regular file `place`, which isn't a link, by a new file.
+/// Replaces the regular file `place`, which isn't a link, by a new, empty file with the mode and owner of `was`. The
+/// new file first gets a temporary name in the same folder.
 fn replaced_at<R: fs::Files<File = File>>(
     alloc: Global,
     system: &R,
@@ -122,8 +123,9 @@ pub fn is_irreplaceable(kind: ErrorKind) -> bool
     )
 }
 
-/// Truncates `output` to no bytes. Refuses a file that another run writes or edits; it keeps its bytes. Also refuses
-/// a file that isn't `name` any more: the bytes would be under another name, or under none.
+/// Truncates `output`, the file `name`, to no bytes, if it can't be replaced. Refuses a file that another run writes or
+/// edits; it keeps its bytes. Also refuses a file that isn't `name` any more: the bytes would be under another name, or
+/// under none.
 pub fn emptied<R: fs::Files<File = File>>(
     system: &R,
     name: &str,
@@ -139,8 +141,8 @@ pub fn emptied<R: fs::Files<File = File>>(
     Ok(output)
 }
 
-/// Gives the new file `beside` the mode and owner of `was`, and then the name `place`. If this fails, removes the new
-/// file.
+/// Gives the new file `file`, with the name `beside`, the mode and owner of `was`, and then the name `place`. If this
+/// fails, it removes the new file.
 fn put_in_place<R: fs::Files<File = File>>(
     system: &R,
     file: File,
@@ -162,7 +164,7 @@ fn put_in_place<R: fs::Files<File = File>>(
     moved
 }
 
-/// Gives a new file the mode and owner of `was`, and checks that it has them.
+/// Gives the new file `file` a shared lock, and the mode and owner of `was`, and checks that it has them.
 fn copy_permissions(file: File, was: &Metadata) -> io::Result<Output>
     requires { pos 2 <ℤ file_raw_fd file }
     ensures { IfOk result (λ made. made.is_new ≡ true) }
@@ -189,13 +191,13 @@ pub fn copy_owner(file: &File, was: &Metadata) -> io::Result<()> {
     unless_refused(fchown(file, Some(was.uid()), None))
 }
 
-/// Sets the mode of `file`, if the system permits.
+/// Sets the mode bits of `file` to `mode`, if the system permits.
 pub fn set_mode(file: &File, mode: u32) -> io::Result<()> {
     unless_refused(file.set_permissions(Permissions::from_mode(mode)))
 }
 
-/// Ignores that the process may not set this, that the file system doesn't keep it, or that the owner doesn't exist
-/// here.
+/// Ignores that the process may not set an owner or mode, that the file system doesn't keep it, or that the owner
+/// doesn't exist here.
 fn unless_refused(outcome: io::Result<()>) -> io::Result<()> {
     match outcome {
         Err(error) if is_refusal(error.kind()) => Ok(()),

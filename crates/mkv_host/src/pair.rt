@@ -1,4 +1,4 @@
-//! A film, open with its journal.
+//! A film, the file that is edited in place, open with its journal.
 
 ghost use Rattle.std.specs.Prelude.{◌≡◌, ◌≤◌, pos, ◌<ℤ◌};
 ghost use Rattle.std.specs.Fd.{file_raw_fd};

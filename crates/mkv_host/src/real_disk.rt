@@ -1,4 +1,4 @@
-//! A film and its journal, as the disk of an edit.
+//! A film and its journal on the system's disk, for edits in place.
 
 ghost use Rattle.std.specs.Prelude.{◌≡◌, ◌≢◌, ◌≤◌, ℕ, ◌+◌, max, Option, Some, None, IsTrue, IfOk};
 ghost use Rattle.mkv_io.specs.Faults.{HasIncreased, counted};
@@ -19,8 +19,8 @@ use std::fs::{File, Metadata};
 use std::os::unix::fs::FileExt;
 use std::{fs, io};
 
-/// Film and its journal. A sync makes a file's bytes and its length durable. When a pair is opened, both files are
-/// synced before anything is read, so that the bytes that are read are on the disk.
+/// Film and its journal on the system's disk. A sync makes a file's bytes and its length durable. When a pair is
+/// opened, both files are synced before anything is read, so that the bytes that are read are on the disk.
 #[derive(Drop)]
 pub struct RealDisk<'a, R: fs::Files<File = File>> {
     alloc: Global,
@@ -47,7 +47,7 @@ impl<'a, R: fs::Files<File = File>> RealDisk<'a, R> {
     }
 }
 
-/// Adds 1 to `count`, a number of failures.
+/// Adds 1 to `count`, a number of failed calls, up to 2^64 - 1.
 fn note_failure(count: &mut u64)
     ensures exact { count.new ≡ counted count.old 1 }
     ensures risen { HasIncreased count.old count.new }
@@ -55,7 +55,7 @@ fn note_failure(count: &mut u64)
     *count = count.saturating_add(1);
 }
 
-/// Returns the film or the journal of an open pair.
+/// Returns the film or the journal of the open pair, by its number `file`.
 fn file_of(pair: &Option<OpenPair>, file: FileId) -> &OpenFile
     requires { IsTrue (is_live pair.now file.n) }
     ensures { result.now.size ≡ size_in pair.now file.n }
@@ -67,9 +67,9 @@ fn file_of(pair: &Option<OpenPair>, file: FileId) -> &OpenFile
     }
 }
 
-/// Checks whether `file` may be written. Until this run changes the film, the film must have the length with which it
-/// was opened, and its name. After the journal has its record, the film is changed even if another file has its name
-/// by then.
+/// Checks whether `file` of the pair may be written. Until this run changes the film, the film must have the length
+/// with which it was opened, and its name. After the journal has its record, the film is changed even if another file
+/// has its name by then.
 fn is_as_opened<R: fs::Files<File = File>>(
     system: &R,
     pair: &Option<OpenPair>,
@@ -84,7 +84,7 @@ fn is_as_opened<R: fs::Files<File = File>>(
     }
 }
 
-/// Checks whether an open file has its noted length, and its name, if `counts_name`.
+/// Checks whether the open file `open` has its noted length, and its name, if `counts_name`.
 fn is_same<R: fs::Files<File = File>>(system: &R, open: &OpenFile, counts_name: bool) -> bool {
     match open.file.metadata() {
         Ok(found) => {
@@ -95,13 +95,14 @@ fn is_same<R: fs::Files<File = File>>(system: &R, open: &OpenFile, counts_name: 
     }
 }
 
-/// Checks whether `name` is still the open file `open`.
+/// Checks whether `name` is still the name of the open file `open`.
 fn is_named<R: fs::Files<File = File>>(system: &R, name: &str, open: &Metadata) -> bool {
     node_of(open).is_ok_and(|node| has_name(system, name, node))
 }
 
-/// Lets only the owner read the journal before a write to it that ends at the offset `end`, if this is the first one
-/// of a record.
+/// Lets only the owner read the journal before the first write of a record to it. The write is to `file` and ends at
+/// the offset `end`; any other changes nothing. The record has bytes of the film, which others may not be allowed to
+/// read.
 fn hide_record(pair: &Option<OpenPair>, file: FileId, end: u64) -> io::Result<()> {
     match pair {
         Some(open) if file != MEDIA && open.sidecar.size <= 1 && end > 1 => {
@@ -111,15 +112,15 @@ fn hide_record(pair: &Option<OpenPair>, file: FileId, end: u64) -> io::Result<()
     }
 }
 
-/// Lets others read the journal `sidecar` if it has no record: they look there for a pending edit. Call it after a
-/// sync, so that the disk has no record either. Ignores a failure.
+/// Lets others read the journal `sidecar` of `media` if it has no record: they look there for a pending edit. Call it
+/// after a sync, so that the disk has no record either. Ignores a failure.
 fn show_quiet(sidecar: &OpenFile, media: &OpenFile) {
     if sidecar.size <= 1 {
         let _ = share_bits(&sidecar.file, &media.file, QUIET);
     }
 }
 
-/// Notes the length `size` of the film or the journal.
+/// Notes that `file` of the pair, the film or the journal, now has `size` bytes.
 fn resize(pair: &mut Option<OpenPair>, file: FileId, size: u64)
     requires live { IsTrue (is_live pair.old file.n) }
     requires short { size ≤ LONGEST_FILE }
@@ -139,7 +140,7 @@ fn resize(pair: &mut Option<OpenPair>, file: FileId, size: u64)
     }
 }
 
-/// Returns the name of a film, and the name of its journal.
+/// Returns a copy of `name`, a film's, and the name of its journal.
 fn names(alloc: Global, name: &str) -> Result<(Text, Text), AllocError>
     ensures { IfOk result (λ names. (names.0 ≡ name.now) × (names.1 ≡ sidecar_of name.now)) }
 {
@@ -148,7 +149,8 @@ fn names(alloc: Global, name: &str) -> Result<(Text, Text), AllocError>
     Ok((media, sidecar_name(alloc, name)?))
 }
 
-/// Opens a film and its journal, which is made if it doesn't exist, and syncs both and their folder.
+/// Opens the film `name` and the journal `sidecar`, which is created if it doesn't exist, and syncs both and their
+/// folder.
 fn open_both<R: fs::Files<File = File>>(
     system: &R,
     name: Text,
@@ -199,12 +201,12 @@ impl<'a, R: fs::Files<File = File>> Reads for RealDisk<'a, R> {
 
     ghost short = { λ disk file live. short-of_size disk.pair file };
 
-    /// Returns the length of a file that is open.
+    /// Returns the length of the film or the journal, in bytes.
     fn size(&self, file: FileId) -> u64 {
         file_of(&self.pair, file).size
     }
 
-    /// Fills `into` with the bytes of the file from the offset `at` on, by reads of the system.
+    /// Fills `into` with the bytes of the film or the journal from the offset `at` on, by reads of the system.
     fn read_at(&mut self, file: FileId, at: u64, into: &mut [u8]) -> Result<(), Failed> {
         let length = into.len() as u64;
         if file_of(&self.pair, file)
@@ -258,7 +260,7 @@ impl<'a, R: fs::Files<File = File>> Disk for RealDisk<'a, R> {
 
     ghost writing_stands = { λ a b same. ap (λ (s : Option OpenPair × ℕ). s.1) same };
 
-    /// Opens the file `name` and its journal, which is made if there is none.
+    /// Opens the film `name` and its journal, which is created if there is none. Another pair that is open is closed.
     fn open_pair(&mut self, name: &str) -> Result<(), OpenFault> {
         let (media, sidecar) = names(self.alloc, name)?;
         match open_both(self.system, media, sidecar) {
@@ -274,7 +276,7 @@ impl<'a, R: fs::Files<File = File>> Disk for RealDisk<'a, R> {
         }
     }
 
-    /// Writes `bytes` to the file from the offset `at` on. Fails if its name has become another file.
+    /// Writes `bytes` to the film or the journal from the offset `at` on. Fails if its name has become another file.
     fn write_at(&mut self, file: FileId, at: u64, bytes: &[u8]) -> Result<(), Failed> {
         let open = file_of(&self.pair, file);
         let len = bytes.len() as u64;
@@ -295,7 +297,7 @@ impl<'a, R: fs::Files<File = File>> Disk for RealDisk<'a, R> {
         Ok(())
     }
 
-    /// Truncates the file to `len` bytes. Fails if its name has become another file.
+    /// Truncates the film or the journal to `len` bytes. Fails if its name has become another file.
     fn cut(&mut self, file: FileId, len: u64) -> Result<(), Failed> {
         if len > LONGEST_FILE
             || !is_as_opened(self.system, &self.pair, file)
@@ -308,7 +310,7 @@ impl<'a, R: fs::Files<File = File>> Disk for RealDisk<'a, R> {
         Ok(())
     }
 
-    /// Syncs the file with the device.
+    /// Syncs the film or the journal with the device.
     fn sync(&mut self, file: FileId) -> Result<(), Failed> {
         if file_of(&self.pair, file).file.sync_all().is_err() {
             note_failure(&mut self.writing_faults);

@@ -1,4 +1,4 @@
-//! The files of the system.
+//! The system's files, which a run reads and writes.
 
 ghost use Rattle.std.specs.Prelude.{◌≡◌, ◌≢◌, ◌↔◌, ℕ, ◌+◌, ◌-◌, ◌<◌, ◌≤◌, ◌^◌, List, [], ◌∷◌, ◌++◌, length, Option, Some, None, is_some, false, vec_capacity, IfOk, OnOk, IsTrue};
 ghost use Rattle.mkv_io.specs.Faults.{HasIncreased, counted, last_count};
@@ -20,15 +20,15 @@ use std::io::ErrorKind;
 use std::os::unix::fs::FileExt;
 use std::{fs, io};
 
-/// Files of the system. An opened file is only read; a created one is written, too. The nodes and names of all files
-/// that a run has opened or made stay known after they are closed.
+/// Files of the system that a run reads and writes. An opened file is only read; a created one is written, too. The
+/// identities and names of all files that a run has opened or created stay known after they are closed.
 #[derive(Drop)]
 pub struct RealFiles<'a, R: fs::Files<File = File>> {
     alloc: Global,
     system: &'a R,
     opened: Vec<Option<Opened>>,
     seen: Vec<Node>,
-    // The contracts speak of these names; no code reads them.
+    // Names that the contracts speak of; no code reads them.
     asked: Vec<Asked>,
     reading_faults: u64,
     writing_faults: u64,
@@ -38,7 +38,7 @@ pub struct RealFiles<'a, R: fs::Files<File = File>> {
 }
 
 impl<'a, R: fs::Files<File = File>> RealFiles<'a, R> {
-    /// Returns the files of the system; none is opened or made.
+    /// Returns the files of the system; none is opened or created yet.
     pub fn new(alloc: Global, system: &'a R) -> RealFiles<'a, R>
         ensures none_open { result.opened.items ≡ [] }
         ensures none_asked { result.asked.items ≡ [] }
@@ -62,15 +62,15 @@ impl<'a, R: fs::Files<File = File>> RealFiles<'a, R> {
         self.opened.len() as u64 == u64::MAX
     }
 
-    /// Checks whether `node` can't be an output: this run has opened or made it, under any name, or it is standard
-    /// output.
+    /// Checks whether the file with the identity `node` can't be an output. This run has opened or created it, under
+    /// any name, or it is standard output.
     fn is_taken(&self, node: Node) -> bool
         ensures { result ≡ false → list_any (is_node node) self.now.seen.items ≡ false }
     {
         is_seen(&self.seen, node) || is_standard_output(self.system, node)
     }
 
-    /// Makes the empty output `name`, or replaces the file of that name. An empty file is replaced, too: another run
+    /// Creates the empty output `name`, or replaces the file of that name. An empty file is replaced, too: another run
     /// may be about to write it. A file that is taken, or that another run edits, is refused and keeps its bytes. An
     /// open output holds a shared lock.
     fn make(&self, name: &str) -> io::Result<Output>
@@ -99,7 +99,7 @@ impl<'a, R: fs::Files<File = File>> RealFiles<'a, R> {
     }
 }
 
-/// Adds 1 to `count`, a number of failures.
+/// Adds 1 to `count`, a number of failed calls, up to 2^64 - 1.
 fn note_failure(count: &mut u64)
     ensures exact { count.new ≡ counted count.old 1 }
     ensures risen { HasIncreased count.old count.new }
@@ -127,12 +127,12 @@ impl<'a, R: fs::Files<File = File>> Reads for RealFiles<'a, R> {
 
     ghost short = { λ files file live. short-of_size (opened_at files.opened.items file) };
 
-    /// Returns the length of a live file, as it was when it was opened or has grown since.
+    /// Returns the length in bytes of the open file `file`, as it was when it was opened or has grown since.
     fn size(&self, file: FileId) -> u64 {
         open_at(&self.opened, file).size
     }
 
-    /// Fills `into` with the bytes of the live file from the offset `at` on, by reads of the system.
+    /// Fills `into` with the bytes of the open file `file` from the offset `at` on, by reads of the system.
     fn read_at(&mut self, file: FileId, at: u64, into: &mut [u8]) -> Result<(), Failed> {
         let length = into.len() as u64;
         if open_at(&self.opened, file)
@@ -183,7 +183,7 @@ impl<'a, R: fs::Files<File = File>> Files for RealFiles<'a, R> {
 
     ghost asked_stands = { λ a b same. ap (λ (s : List (Option Opened) × ℕ × List Asked). s.2) same };
 
-    /// Opens the file `name` for reading.
+    /// Opens the file `name` for reading, and returns its number.
     fn open_file(&mut self, name: &str) -> Result<FileId, OpenFault> {
         if self.is_full() {
             note_failure(&mut self.reading_faults);
@@ -210,7 +210,7 @@ impl<'a, R: fs::Files<File = File>> Files for RealFiles<'a, R> {
         }
     }
 
-    /// Opens the file `name` with an empty content, for writing.
+    /// Creates or replaces the file `name`, with an empty content, for writing, and returns its number.
     fn create(&mut self, name: &str) -> Result<FileId, MakeFault> {
         if self.is_full() {
             note_failure(&mut self.writing_faults);
@@ -239,7 +239,7 @@ impl<'a, R: fs::Files<File = File>> Files for RealFiles<'a, R> {
         }
     }
 
-    /// Appends `bytes` to the live file, by writes of the system.
+    /// Appends `bytes` to the open file `file`, by writes of the system.
     fn append(&mut self, file: FileId, bytes: &[u8]) -> Result<(), MakeFault> {
         let open = open_at(&self.opened, file);
         if bytes.len() as u64 > LONGEST_FILE - open.size {
@@ -255,7 +255,7 @@ impl<'a, R: fs::Files<File = File>> Files for RealFiles<'a, R> {
         Ok(())
     }
 
-    /// Writes `bytes` over the live file from the offset `at` on.
+    /// Writes `bytes` over the open file `file` from the offset `at` on.
     fn overwrite(&mut self, file: FileId, at: u64, bytes: &[u8]) -> Result<(), Failed> {
         let open = open_at(&self.opened, file);
         if write_from(&mut &open.file, at, bytes) < bytes.len() {
@@ -265,7 +265,7 @@ impl<'a, R: fs::Files<File = File>> Files for RealFiles<'a, R> {
         Ok(())
     }
 
-    /// Closes the live file.
+    /// Closes the open file `file`.
     fn close(&mut self, file: FileId) {
         self.opened[file.n as usize] = None;
     }

@@ -1,11 +1,12 @@
-//! Standard output.
+//! Standard output, as the report of a run.
 
 ghost use Rattle.std.specs.Prelude.{◌≡◌, ℕ};
 
 use mkv_io::{Failed, Report};
 use std::io::Print;
 
-/// Standard output. Its lines aren't visible to the proof, since the system doesn't report what becomes of them.
+/// Standard output, which a run prints its lines to. They aren't visible to the proof, since the system doesn't report
+/// what becomes of them.
 #[derive(Drop)]
 pub struct RealReport<'a, R: Print> {
     system: &'a R,

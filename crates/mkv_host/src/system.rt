@@ -1,4 +1,4 @@
-//! Calls of the system that examine and open files.
+//! Calls of the system that examine and open files, for outputs and for edits in place.
 
 ghost use Rattle.std.specs.Prelude.{◌≡◌, ◌↔◌, ℕ, ◌≤◌, pos, ◌<ℤ◌, IfOk, IsOk, IsTrue};
 ghost use Rattle.std.specs.Fd.{file_raw_fd};
@@ -19,7 +19,7 @@ use std::{fs, io};
 /// Name in the file system of the file that is open as standard output.
 const STANDARD_OUTPUT: &str = "/proc/self/fd/1";
 
-/// Identity of a file of the system, whatever its name.
+/// Identity of a file of the system, whatever its name: its device and inode.
 #[derive(Clone, Copy, Debug, PartialEq, Eq)]
 pub struct Node {
     pub device: u64,
@@ -37,7 +37,8 @@ pub fn is_missing(error: &io::Error) -> bool
     )
 }
 
-/// Returns the node of the file `found`. Refuses a folder, pipe, socket, device or link, since these have no length.
+/// Returns the identity of the file `found`. Refuses a folder, pipe, socket, device or link, since these have no
+/// length.
 pub fn node_of(found: &Metadata) -> io::Result<Node>
     ensures { IsOk result ↔ IsFile (file_type found.now) }
 {
@@ -50,8 +51,8 @@ pub fn node_of(found: &Metadata) -> io::Result<Node>
     })
 }
 
-/// Checks whether standard output is the file `node`. Returns false if standard output isn't a regular file or can't
-/// be examined.
+/// Checks whether standard output is the file with the identity `node`. Returns false if standard output isn't a
+/// regular file or can't be examined.
 pub fn is_standard_output<R: fs::Files<File = File>>(system: &R, node: Node) -> bool {
     match fs::metadata(system, STANDARD_OUTPUT) {
         Ok(found) => node_of(&found).is_ok_and(|output| output == node),
@@ -59,7 +60,7 @@ pub fn is_standard_output<R: fs::Files<File = File>>(system: &R, node: Node) -> 
     }
 }
 
-/// Returns the folder that contains the file `name`.
+/// Returns the folder that contains the file `name`, `.` if the name has none.
 pub fn folder_of(name: &str) -> &str
     ensures { result.now ≡ folder_in name.now }
 {
@@ -69,8 +70,8 @@ pub fn folder_of(name: &str) -> &str
     }
 }
 
-/// Moves `file` above the descriptors of the standard streams. If one of them was closed, the system gives its number
-/// to the next file that is opened. Output to the stream would then be written into that file.
+/// Returns `file` with a descriptor above 2, the last one of the standard streams. If one of them was closed, the
+/// system gives its number to the next file that is opened. Output to the stream would then be written into that file.
 pub fn above_streams(file: File) -> io::Result<File>
     ensures { IfOk result (λ moved. pos 2 <ℤ file_raw_fd moved) }
 {
@@ -84,7 +85,7 @@ pub fn above_streams(file: File) -> io::Result<File>
     Ok(moved)
 }
 
-/// Opens the file `name` to read and write it. The file keeps its bytes.
+/// Opens the file `name`, which exists, to read and write it. The file keeps its bytes.
 pub fn open_again<R: fs::Files<File = File>>(system: &R, name: &str) -> io::Result<File>
     ensures { IfOk result (λ file. pos 2 <ℤ file_raw_fd file) }
 {
@@ -92,8 +93,8 @@ pub fn open_again<R: fs::Files<File = File>>(system: &R, name: &str) -> io::Resu
     above_streams(opened?)
 }
 
-/// Makes the file `name`, which only its owner may read or write. Fails if the name is taken. If the file is made, but
-/// can't be kept open, removes it.
+/// Creates the file `name`, which only its owner may read or write. Fails if the name is taken. If the file is created,
+/// but can't be kept open, it is removed.
 pub fn make_private<R: fs::Files<File = File>>(system: &R, name: &str) -> io::Result<File>
     ensures { IfOk result (λ file. pos 2 <ℤ file_raw_fd file) }
 {
@@ -110,8 +111,8 @@ pub fn make_private<R: fs::Files<File = File>>(system: &R, name: &str) -> io::Re
     moved
 }
 
-/// Opens the regular file `name` to read it, and returns it with its length and its node. Refuses a file longer than
-/// `LONGEST_FILE`. Anything but a regular file isn't opened, since that may wait for ever.
+/// Opens the regular file `name` to read it, and returns it with its length in bytes and its identity. Refuses a file
+/// longer than `LONGEST_FILE`. Anything but a regular file isn't opened, since that may wait for ever.
 pub fn open_to_read<R: fs::Files<File = File>>(
     system: &R,
     name: &str,

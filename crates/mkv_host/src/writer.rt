@@ -1,4 +1,4 @@
-//! Writing at an offset of a file, although the system may write less than was passed.
+//! Writing of all bytes at an offset of a file, although the system may write less than was passed.
 
 ghost use Rattle.std.specs.Prelude.{◌≡◌, ℕ, ◌≤◌, List, length, take, Option, unwrap_or, IfOk, IfSome, OnErr};
 ghost use Rattle.mkv_io.specs.Contents.{with_overwritten};
@@ -11,12 +11,12 @@ use std::io;
 use std::io::ErrorKind;
 use std::os::unix::fs::FileExt;
 
-/// File that can be written at an offset. A call may write only a first part.
+/// File that can be written at an offset. A call may write only the first of the bytes.
 pub trait WriteAt {
     /// Bytes of the file, if they are visible to the proof.
     ghost content: { Self → Option (List ℕ) };
 
-    /// Writes a first part of `bytes` at offset `at`, and returns its length.
+    /// Writes the first of `bytes` at the offset `at`, and returns their number.
     fn write_at(&mut self, bytes: &[u8], at: u64) -> io::Result<usize>
         ensures most { IfOk result (λ count. count ≤ length bytes.now) }
         ensures ok { IfOk result (λ count. content self.new ≡ with_overwritten at (take count bytes.now) (content self.old)) }
@@ -34,8 +34,8 @@ impl<'a> WriteAt for &'a File {
     }
 }
 
-/// Writes a first part of `bytes`, and returns its length: 0 if the call was interrupted, and `None` if another call
-/// would be in vain.
+/// Writes the first of `bytes` to `file` at the offset `at`, and returns their number. It is 0 if the call was
+/// interrupted, and None if another call would be in vain.
 fn write_some<W: WriteAt>(file: &mut W, at: u64, bytes: &[u8]) -> Option<usize>
     ensures most { IfSome result (λ count. count ≤ length bytes.now) }
     ensures first { W.content file.new ≡ with_overwritten at (take (unwrap_or result 0) bytes.now) (W.content file.old) }
@@ -48,7 +48,8 @@ fn write_some<W: WriteAt>(file: &mut W, at: u64, bytes: &[u8]) -> Option<usize>
     }
 }
 
-/// Writes `bytes` at offset `at` until the system fails or writes nothing, and returns the number of written bytes.
+/// Writes `bytes` to `file` at the offset `at` until the system fails or writes nothing, and returns the number of
+/// written bytes. All were written only if it is the length of `bytes`.
 pub fn write_from<W: WriteAt>(file: &mut W, at: u64, bytes: &[u8]) -> usize
     requires { at ≤ LONGEST_FILE }
     ensures most { result ≤ length bytes.now }

@@ -26,53 +26,53 @@ magic = 77 ∷ 75 ∷ 86 ∷ 69 ∷ 68 ∷ 73 ∷ 84 ∷ []
 
 -- ---- reading: the fields before the bytes of the writes
 
--- the number in the eight bytes from the offset `at`
+-- the big-endian number in the eight bytes of `s` from the offset `at` on
 unfoldable pub number_at : List ℕ → ℕ → ℕ
 number_at s at = big_number 8 (drop at s)
 
--- the length of the record in bytes, including the gate, as the journal states
+-- the length of the record in bytes, including the gate, as the journal `s` states
 abbrev pub total_in : List ℕ → ℕ
 total_in s = number_at s 8
 
--- the length of the edited file, as the journal states
+-- the length of the file after the edit, as the journal `s` states
 abbrev pub new_len_in : List ℕ → ℕ
 new_len_in s = number_at s 16
 
--- the version of the journal
+-- the version of the record in the journal `s`
 abbrev pub version_in : List ℕ → ℕ
 version_in s = slice_index s 24
 
--- the number of writes, as the journal states
+-- the number of writes in the record, as the journal `s` states
 abbrev pub count_in : List ℕ → ℕ
 count_in s = slice_index s 25
 
--- the place of the write number `k`, counted from 0
+-- the place of the write with the index `k`, counted from 0, in the journal `s`
 abbrev pub place_in : List ℕ → ℕ → Place
 place_in s k = record { at = number_at s (32 + 16 * k); len = number_at s (40 + 16 * k) }
 
--- all eight places of writes in the journal, used or not
+-- all eight places of writes in the journal `s`, used or not
 abbrev pub places_in : List ℕ → List Place
 places_in s =
     place_in s 0 ∷ place_in s 1 ∷ place_in s 2 ∷ place_in s 3
     ∷ place_in s 4 ∷ place_in s 5 ∷ place_in s 6 ∷ place_in s 7 ∷ []
 
--- the places of the writes that the journal uses
+-- the places of the writes in the journal `s` that are used
 abbrev pub used_in : List ℕ → List Place
 used_in s = take (count_in s) (places_in s)
 
--- the length of the file before the edit, as the journal states
+-- the length of the file before the edit, as the journal `s` states (version 2)
 abbrev pub old_len_in : List ℕ → ℕ
 old_len_in s = number_at s 160
 
--- the first bytes of the file before the edit, as the journal keeps them
+-- the first bytes of the file before the edit, as the journal `s` has them (version 2)
 abbrev pub first_in : List ℕ → List ℕ
 first_in s = octets_from s 168 KEPT
 
--- the number of bytes before the bytes of the writes
+-- the number of bytes before the bytes of the writes, in a record of this version
 abbrev pub head_len : ℕ → ℕ
 head_len version = if version == 1 then HEAD_1 else HEAD
 
--- the first bytes of a journal, which have all fields before the bytes of the writes
+-- the first bytes of a journal, which include all fields before the bytes of the writes
 abbrev pub head_of : List ℕ → List ℕ
 head_of sidecar = take HEAD sidecar
 
@@ -81,7 +81,7 @@ abbrev pub cut_up : List Place → List ℕ → List Write
 cut_up [] bytes = []
 cut_up (p ∷ ps) bytes = record { at = p.at; bytes = take p.len bytes } ∷ cut_up ps (drop p.len bytes)
 
--- the writes in a journal
+-- the writes in a journal, each with its place and its bytes
 abbrev pub writes_in : List ℕ → List Write
 writes_in sidecar =
     let head = head_of sidecar in
@@ -93,11 +93,11 @@ writes_in sidecar =
 abbrev pub no_place : Place
 no_place = record { at = 0; len = 0 }
 
--- the sixteen bytes of a place
+-- the sixteen bytes of a place in a record
 abbrev pub spelled : Place → List ℕ
 spelled p = big_bytes 8 p.at ++ big_bytes 8 p.len
 
--- the bytes of the place number `k`, or zeros if there are fewer
+-- the bytes of the place with the index `k`, counted from 0, in a record, or zeros if there are fewer
 abbrev pub slot : List Place → ℕ → List ℕ
 slot ps k = spelled (get_or ps k no_place)
 
@@ -106,7 +106,8 @@ abbrev pub sum_of : List Place → ℕ
 sum_of [] = 0
 sum_of (p ∷ ps) = p.len + sum_of ps
 
--- the file before an edit, and the places of the writes: all fields before the bytes of the writes
+-- All fields of a record before the bytes of the writes. They are the file's length before and after, its first bytes before, and the places of the
+-- writes.
 pub record Head : Type 0 where
   pub old_len : ℕ
   pub new_len : ℕ
@@ -115,18 +116,18 @@ pub record Head : Type 0 where
 
 -- ---- writes that an edit may have
 
--- Each place has bytes. It begins at or after the end of the previous one. It begins at most at the end of the file of `old` bytes or of the
--- previous place.
+-- The places in the list are in order, for a file of `old` bytes. Each has bytes. It begins at or after the end of the previous one, which is `from`
+-- for the first. It begins at most at the end of the file or of the previous place.
 abbrev pub AreInOrder : ℕ → ℕ → List Place → Type 0
 AreInOrder old from [] = Unit {0}
 AreInOrder old from (p ∷ ps) = (1 ≤ p.len) × (from ≤ p.at) × (p.at ≤ max old from) × AreInOrder old (p.at + p.len) ps
 
--- the end of the last place, or `from` if there is none
+-- the offset after the last place in the list, or `from` if there is none
 abbrev pub last_end : ℕ → List Place → ℕ
 last_end from [] = from
 last_end from (p ∷ ps) = last_end (p.at + p.len) ps
 
--- The places may be the places of an edit of this file, and the length after it is right.
+-- The fields `h` are ones of an edit: its places are in order, and the length after it is right.
 pub record IsSound (h : Head) : Type 0 where
   pub few : length h.places ≤ MAX_WRITES
   pub order : AreInOrder h.old_len 0 h.places
@@ -135,7 +136,7 @@ pub record IsSound (h : Head) : Type 0 where
   pub new_len : h.new_len ≡ max h.old_len (last_end 0 h.places)
   pub first : length h.first ≡ min KEPT h.old_len
 
--- The record was made for the file `file`.
+-- The record with the fields `h` was made for a file with the content `file`.
 pub record IsMadeFor (h : Head) (file : List ℕ) : Type 0 where
   pub len : h.old_len ≡ length file
   pub first : h.first ≡ take KEPT file
@@ -144,40 +145,40 @@ pub record IsMadeFor (h : Head) (file : List ℕ) : Type 0 where
 abbrev pub zeros : ℕ → List ℕ
 zeros n = replicate n 0
 
--- the bytes before the places, in version 2
+-- the bytes of a record of version 2 before the places. It has `total` bytes in all and `count` writes, and gives the file `new_len` bytes.
 abbrev pub front_octets : ℕ → ℕ → ℕ → List ℕ
 front_octets total new_len count =
     magic ++ (big_bytes 8 total ++ (big_bytes 8 new_len ++ (2 ∷ count ∷ 0 ∷ 0 ∷ 0 ∷ 0 ∷ 0 ∷ 0 ∷ [])))
 
--- the first `n` of the eight places
+-- the bytes of the places of a record with an index below the first argument
 abbrev pub slots : ℕ → List Place → List ℕ
 slots zero ps = []
 slots (suc n) ps = slots n ps ++ slot ps n
 
--- the bytes of a journal of version 2 that identify the file for which it was made: its length and its first bytes
+-- the bytes of a record of version 2 that identify its file, by the length and the first bytes before the edit
 abbrev pub mark_octets : ℕ → List ℕ → List ℕ
 mark_octets old_len first = big_bytes 8 old_len ++ (first ++ zeros (KEPT - length first))
 
--- the bytes after the gate up to the bytes of the writes, in version 2
+-- the bytes of a record of version 2 after the gate, up to the bytes of the writes, with the fields `h`
 abbrev pub head_octets : Head → List ℕ
 head_octets h =
     front_octets (HEAD + sum_of h.places) h.new_len (length h.places)
     ++ (slots MAX_WRITES h.places ++ mark_octets h.old_len h.first)
 
--- a plan of an edit: the fields before the bytes of its writes, and these bytes, concatenated
+-- A plan of an edit: the fields before the bytes of its writes, and these bytes, in sequence.
 pub record Planned : Type 0 where
   pub head : Head
   pub payload : List ℕ
 
--- the writes of a plan, each with its own bytes
+-- the writes of the plan `p`, each with its own bytes
 abbrev pub writes_of : Planned → List Write
 writes_of p = cut_up p.head.places p.payload
 
--- the bytes of the record after the gate
+-- the bytes of the record of the plan `p`, after the gate
 abbrev pub body_of : Planned → List ℕ
 body_of p = head_octets p.head ++ p.payload
 
--- The plan may be made, if it has a write.
+-- The plan `p` is one of an edit: its fields are, and the bytes of its writes are as many as its places have.
 pub record IsPlan (p : Planned) : Type 0 where
   pub sound : IsSound p.head
   pub full : length p.payload ≡ sum_of p.head.places

@@ -4,18 +4,18 @@ use Rattle.sidecar_edit.specs.declared.place.Place.{Place}
 use Rattle.sidecar_edit.specs.declared.place.TheConstants.{HEAD}
 use Rattle.sidecar_edit.specs.Fields.{IsPlan, Planned, body_of}
 
--- the plan of an edit with these lengths, first bytes, places and bytes of writes
+-- the plan of an edit with these lengths of the file before and after, its first bytes, the places, and the bytes of the writes
 abbrev pub planned : ℕ → ℕ → List ℕ → List Place → List ℕ → Planned
 planned old_len new_len first places payload = record {
   head = record { old_len = old_len; new_len = new_len; first = first; places = places };
   payload = payload;
 }
 
--- the plan that is stored as `octets`
+-- the plan of an edit with these lengths, first bytes and places, whose record has the bytes `octets` after the gate
 abbrev pub planned_in : ℕ → ℕ → List ℕ → List Place → List ℕ → Planned
 planned_in old_len new_len first places octets = planned old_len new_len first places (drop (HEAD - 1) octets)
 
--- The plan may be made, and `octets` are the bytes of its record.
+-- The plan `p` is one of an edit, and `octets` are the bytes of its record after the gate.
 pub record IsRecorded (p : Planned) (octets : List ℕ) : Type 0 where
   pub plan : IsPlan p
   pub is : octets ≡ body_of p

@@ -1,4 +1,4 @@
--- The file that a file and its journal recover to. The rule is this project's.
+-- The file that a file and its journal recover to, and the reasons to refuse a recovery. The rule is this project's.
 use Rattle.std.specs.Prelude.{◌≢◌, ◌⊎◌, ℕ, zero, suc, ◌+◌, ◌≤◌, ◌==◌, nat_le, nat_lt, max, Bool, true, false, not, ◌&&◌, ◌||◌, if◌then◌else◌, List, [], ◌∷◌, length, take, slice_index, Option, Some, None, Result, Ok, Err}
 use Rattle.std.specs.List.{list_any}
 use Rattle.sidecar_edit.specs.declared.place.Place.{Place}
@@ -15,81 +15,85 @@ use Rattle.sidecar_edit.specs.Fields.{version_in, new_len_in, used_in, old_len_i
 use Rattle.sidecar_edit.specs.Gate.{state}
 use Rattle.mkv_io.specs.Results.{unless}
 
--- the first of `n` offsets from `at` on that passes the test
+-- the first of the offsets from `at` on that passes `test`, among the number given last
 abbrev pub first_place : (ℕ → Bool) → ℕ → ℕ → Option ℕ
 first_place test at zero = None
 first_place test at (suc n) = if test at then Some at else first_place test (at + 1) n
 
--- One of the writes changes the byte at the offset `k`.
+-- A write at one of the places `ps` changes the byte at the offset `k`.
 abbrev pub is_touched : List Place → ℕ → Bool
 is_touched ps k = list_any (λ (p : Place). nat_le p.at k && nat_lt k (p.at + p.len)) ps
 
--- The byte at the offset `k` of the file, which no write changes, differs from the byte in the record.
+-- The byte at the offset `k` of the file, which no write changes, differs from the byte in the record. `head` has the first bytes of the journal, and
+-- `media` of the file.
 abbrev pub differs : List ℕ → List ℕ → ℕ → Bool
 differs head media k =
     nat_lt k (old_len_in head) && not (is_touched (used_in head) k) && not (slice_index media k == slice_index head (168 + k))
 
--- the refusal of a journal that was made for another file. At the offset `k`, if there is one, the byte of the file differs from the byte in the
+-- the refusal of a journal that was made for another file. At the offset that is given, if any, the byte of the file differs from the byte in the
 -- record.
 abbrev pub octet_mark : List ℕ → List ℕ → Option ℕ → Option RecoverEnd
 octet_mark head media None = None
 octet_mark head media (Some k) = Some (Foreign (Octet k) (slice_index head (168 + k)) (slice_index media k))
 
--- the refusal of a record of version 2 for another file: its length is impossible during the edit, or a byte differs
+-- the refusal of a record of version 2, if it was made for another file than the one of `size` bytes with the first bytes `media`. The length is
+-- impossible during the edit, or a byte differs.
 abbrev pub foreign_of : List ℕ → ℕ → List ℕ → Option RecoverEnd
 foreign_of head size media =
     if nat_lt size (old_len_in head) || nat_lt (new_len_in head) size then Some (Foreign Length (old_len_in head) size)
     else octet_mark head media (first_place (differs head media) 0 KEPT)
 
--- the refusal of a record of version 1 if a write begins after the end of the file and the earlier writes. It has the offset of this write's
--- place; the first place is at `octet`.
+-- the refusal of a record of version 1 if a write begins after the end of a file of `size` bytes and the earlier writes. It has the offset of this
+-- write's place in the journal; the first place is at the offset `octet`.
 abbrev pub gap_of : ℕ → ℕ → List Place → Option RecoverEnd
 gap_of octet size [] = None
 gap_of octet size (p ∷ ps) =
     if nat_le p.at size then gap_of (octet + 16) (max size (p.at + p.len)) ps else Some (BadSidecar octet)
 
--- the refusal if the writes of a pending record don't fit a file of `size` bytes with the first bytes `media`
+-- the refusal if the writes of a pending record don't fit a file of `size` bytes with the first bytes `media`. `head` has the first bytes of the
+-- journal.
 abbrev pub unfit : List ℕ → ℕ → List ℕ → Option RecoverEnd
 unfit head size media =
     if version_in head == 1 then gap_of 32 size (used_in head) else foreign_of head size media
 
--- The end is a failure of the disk.
+-- The recovery failed because the disk did.
 abbrev pub is_disk_fault : RecoverEnd → Bool
 is_disk_fault (BadSidecar offset) = false
 is_disk_fault (Foreign mark kept found) = false
 is_disk_fault DiskFault = true
 
--- the result for a pending edit: it is applied, unless it doesn't fit the file
+-- the result of recovery for a pending edit: it is applied, unless it is refused
 abbrev pub applied_unless : Option RecoverEnd → Result Recovered RecoverEnd
 applied_unless why = unless why Applied
 
--- the result of recovery by the state of the journal: a quiet one has nothing to do, and a bad one is refused
+-- the result of recovery by the state of the journal: without a pending edit nothing is done, and an invalid journal is refused. `head` has the first
+-- bytes of the journal, `media` of the file of `size` bytes.
 abbrev pub if_live : Gate → List ℕ → ℕ → List ℕ → Result Recovered RecoverEnd
 if_live Quiet head size media = Ok Nothing
 if_live (Bad offset) head size media = Err (BadSidecar offset)
 if_live Live head size media = applied_unless (unfit head size media)
 
--- the result of recovering a file with a journal: the edit is applied, nothing is pending, or a refusal
+-- the result of recovering the file `media` with the journal `sidecar`: the edit is applied, nothing is pending, or a refusal
 abbrev pub recovery : List ℕ → List ℕ → Result Recovered RecoverEnd
 recovery media sidecar = if_live (state sidecar) (head_of sidecar) (length media) (take KEPT media)
 
--- the content of the file after recovery, by its result: `edited` if the edit is applied, and otherwise `media`
+-- the content of the file after a recovery with this result: `edited` if the edit is applied, and otherwise `media`
 abbrev pub when_applied : Result Recovered RecoverEnd → List ℕ → List ℕ → List ℕ
 when_applied (Ok Applied) media edited = edited
 when_applied (Ok Nothing) media edited = media
 when_applied (Err end) media edited = media
 
--- the file that a file and its journal recover to. It has the journal's writes if there is a pending edit that belongs to the file, and is
--- unchanged otherwise.
+-- the file that the file `media` and the journal `sidecar` recover to. It has the journal's writes if there is a pending edit that belongs to the
+-- file, and is unchanged otherwise.
 abbrev pub recovered : List ℕ → List ℕ → List ℕ
 recovered media sidecar = when_applied (recovery media sidecar) media (applied media (writes_in sidecar))
 
 -- ---- contents that a crash may leave during an edit
 
--- The gate, byte 0 of the journal, is closed.
+-- The gate of the journal `s`, its byte 0, is closed: it isn't `OPEN`.
 abbrev pub IsClosed : List ℕ → Type 0
 IsClosed s = slice_index s 0 ≢ OPEN
 
--- The journal has no pending edit: its gate is closed, or it has at most this one byte.
+-- The journal `s` has no pending edit: its gate is closed, or it has at most this one byte.
 abbrev pub IsQuiet : List ℕ → Type 0
 IsQuiet s = IsClosed s ⊎ (length s ≤ 1)

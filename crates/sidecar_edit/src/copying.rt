@@ -1,4 +1,4 @@
-//! Bytes of the journal are copied to the file.
+//! Copying of bytes from the journal to the file, for `recover`.
 
 ghost use Rattle.std.specs.Prelude.{◌≡◌, ◌<◌, ◌≤◌, ◌+◌, ◌^◌, ℕ, length, min, OnOk, IsTrue};
 ghost use Rattle.mkv_io.specs.Faults.{is_failure};
@@ -11,10 +11,10 @@ use crate::place::Place;
 use mkv_disk::{Disk, MEDIA, SIDECAR};
 use mkv_io::Failed;
 
-/// Maximum number of bytes that are copied at once.
+/// Greatest number of bytes that are copied at once.
 const PIECE: u64 = 4096;
 
-/// Copies bytes of the journal from the offset `from` to the place `place` of the file. They are safe only after the
+/// Copies bytes of the journal from the offset `from` on to the place `place` of the file. They are safe only after the
 /// next sync.
 pub fn copy<D: Disk>(disk: &mut D, from: u64, place: Place) -> Result<(), Failed>
     requires live { IsLive D.Reads disk.old MEDIA × IsLive D.Reads disk.old SIDECAR }
@@ -38,7 +38,8 @@ pub fn copy<D: Disk>(disk: &mut D, from: u64, place: Place) -> Result<(), Failed
     Ok(())
 }
 
-/// Copies the bytes that fit `part` from the offset `from` of the journal to the offset `at` of the file.
+/// Copies bytes from the offset `from` of the journal to the offset `at` of the file, through `part`, whose length is
+/// their number.
 fn copy_piece<D: Disk>(disk: &mut D, from: u64, at: u64, part: &mut [u8]) -> Result<(), Failed>
     requires live { IsLive D.Reads disk.old MEDIA × IsLive D.Reads disk.old SIDECAR }
     requires range { from + length part.old ≤ file_size D.Reads disk.old SIDECAR }

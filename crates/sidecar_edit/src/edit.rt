@@ -1,4 +1,4 @@
-//! An edit that is carried out.
+//! Making of a planned edit: journal first, then the file.
 
 ghost use Rattle.std.specs.Prelude.{◌≡◌, ◌≤◌, ℕ, true, [], ◌∷◌, length, OnOk, IsTrue};
 ghost use Rattle.mkv_io.specs.Faults.{HasCause, is_failure};
@@ -17,7 +17,7 @@ use crate::plan::Plan;
 use mkv_disk::{Disk, MEDIA, SIDECAR};
 use mkv_io::Failed;
 
-/// Writes the record of `plan` after the closed gate of a journal without a pending edit, and syncs it.
+/// Writes the record of `plan` to the journal after its closed gate, and syncs it. The edit isn't pending yet.
 fn write_record<D: Disk>(plan: &Plan, disk: &mut D) -> Result<(), Failed>
     requires live { IsLive D.Reads disk.old SIDECAR }
     requires settled { IsTrue D.told → D.pair disk.old ≡ both (D.pair disk.old).media.reads (0 ∷ []) }
@@ -31,7 +31,7 @@ fn write_record<D: Disk>(plan: &Plan, disk: &mut D) -> Result<(), Failed>
     disk.sync(SIDECAR)
 }
 
-/// Makes the writes of `plan` in the file, and syncs them.
+/// Makes the writes of `plan` in the file, and syncs them. The journal's gate is open meanwhile.
 fn write_media<D: Disk>(plan: &Plan, disk: &mut D) -> Result<(), Failed>
     requires live { IsLive D.Reads disk.old MEDIA }
     requires at_rest { AtRest D.Disk.own disk.old }
@@ -50,8 +50,9 @@ fn write_media<D: Disk>(plan: &Plan, disk: &mut D) -> Result<(), Failed>
     disk.sync(MEDIA)
 }
 
-/// Makes the edit of `plan` with a journal that has no pending edit. A crash at any moment leaves two files that
-/// recover to the file before or after the edit. If the journal has a pending edit then, it is exactly the plan's.
+/// Makes the edit of `plan` in the file of `disk`, whose journal has no pending edit. A crash at any moment leaves a
+/// file and a journal that recover to the file before or after the edit. If the journal has a pending edit then, it is
+/// exactly the plan's.
 pub fn commit<D: Disk>(plan: &Plan, disk: &mut D) -> Result<(), DiskFault>
     requires live { (IsLive D.Reads disk.old MEDIA) × (IsLive D.Reads disk.old SIDECAR) }
     requires settled { IsTrue D.told → D.pair disk.old ≡ both (D.pair disk.old).media.reads (0 ∷ []) }

@@ -1,4 +1,4 @@
-//! Checks that the file beside a pending journal is the one that the record was made for.
+//! The check that a file is the one that the record of its journal was made for.
 
 ghost use Rattle.std.specs.Prelude.{◌≡◌, ◌≢◌, ◌≤◌, ◌<◌, ℕ, ◌+◌, ◌&&◌, ◌||◌, nat_le, nat_lt, min, length, slice_index, Option, IfSome, false};
 ghost use Rattle.sidecar_edit.specs.Fields.{count_in, new_len_in, old_len_in, used_in, version_in};
@@ -15,7 +15,8 @@ fn touches(place: Place, k: u64) -> bool
     place.at <= k && u128::from(k) < u128::from(place.at) + u128::from(place.len)
 }
 
-/// Checks whether a write of the record in `head` changes the byte at the offset `k`.
+/// Checks whether a write of the record in `head`, the journal's first bytes, changes the byte at the offset `k` of the
+/// file.
 fn is_touched(head: &[u8], k: u64) -> bool
     requires long { HEAD_1 ≤ length head.now }
     requires few { count_in head.now ≤ MAX_WRITES }
@@ -30,14 +31,15 @@ fn is_touched(head: &[u8], k: u64) -> bool
     false
 }
 
-/// Returns the byte at the offset `k` of `media`, the file's first bytes, or 0 after their end.
+/// Returns the byte at the offset `k` in `media`, the file's first bytes, or 0 after their end.
 fn octet_at(media: &[u8], k: usize) -> u8
     ensures { result ≡ slice_index media.now k }
 {
     media.get(k).copied().unwrap_or(0)
 }
 
-/// Checks whether the byte at the offset `k`, which the edit doesn't change, differs from the byte in the record.
+/// Checks whether the byte at the offset `k` of the file, in its first bytes `media`, differs from the record in
+/// `head`. A byte that the edit changes doesn't.
 fn differs(head: &[u8], media: &[u8], k: usize) -> bool
     requires head { length head.now ≡ HEAD }
     requires few { count_in head.now ≤ MAX_WRITES }
@@ -68,7 +70,7 @@ fn octet_mark(head: &[u8], media: &[u8]) -> Option<RecoverEnd>
     None
 }
 
-/// Checks whether `size` is a length that the file can't have before, during or after the edit.
+/// Checks whether `size` is a length that the file can't have before, during or after the edit of the record in `head`.
 fn has_other_length(head: &[u8], size: u64) -> bool
     requires { HEAD_1 + 8 ≤ length head.now }
     ensures { result ≡ (nat_lt size (old_len_in head.now) || nat_lt (new_len_in head.now) size) }
@@ -76,8 +78,8 @@ fn has_other_length(head: &[u8], size: u64) -> bool
     size < number_at(head, 160) || number_at(head, 16) < size
 }
 
-/// Returns the refusal if a file of `size` bytes with the first bytes `media` isn't the file of a record of version
-/// 2.
+/// Returns the refusal if a file of `size` bytes with the first bytes `media` isn't the file of the record of version 2
+/// in `head`.
 fn foreign_of(head: &[u8], size: u64, media: &[u8]) -> Option<RecoverEnd>
     requires head { length head.now ≡ HEAD }
     requires few { count_in head.now ≤ MAX_WRITES }
@@ -93,15 +95,15 @@ fn foreign_of(head: &[u8], size: u64, media: &[u8]) -> Option<RecoverEnd>
     octet_mark(head, media)
 }
 
-/// Checks whether a write begins at `end` or before.
+/// Checks whether the write at `place` begins at the offset `end` or before.
 fn begins_within(place: Place, end: u128) -> bool
     ensures { result ≡ nat_le place.at end }
 {
     u128::from(place.at) <= end
 }
 
-/// Returns the refusal if a write of a record of version 1 begins after the end of a file of `size` bytes and the
-/// earlier writes.
+/// Returns the refusal if a write begins after the end of a file of `size` bytes and the earlier writes. `head` has the
+/// record, of version 1.
 fn gap_of(head: &[u8], size: u64) -> Option<RecoverEnd>
     requires long { HEAD_1 ≤ length head.now }
     requires few { count_in head.now ≤ MAX_WRITES }
@@ -120,8 +122,8 @@ fn gap_of(head: &[u8], size: u64) -> Option<RecoverEnd>
     None
 }
 
-/// Returns the refusal if the writes of a pending record don't fit a file of `size` bytes with the first bytes
-/// `media`.
+/// Returns the refusal if the writes of the pending record in `head` don't fit a file of `size` bytes with the first
+/// bytes `media`.
 pub fn unfit(head: &[u8], size: u64, media: &[u8]) -> Option<RecoverEnd>
     requires long { HEAD_1 ≤ length head.now }
     requires few { count_in head.now ≤ MAX_WRITES }

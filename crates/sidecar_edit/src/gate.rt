@@ -1,4 +1,5 @@
-//! The gate of a journal, its first byte, and the record after it.
+//! The gate of a journal: its first byte, which is `OPEN` while an edit is pending. Any other value means a closed
+//! gate.
 
 ghost use Rattle.std.specs.Prelude.{◌≡◌, ◌≤◌, ℕ, [], ◌∷◌, length, drop, take, OnOk, IsTrue};
 ghost use Rattle.mkv_io.specs.Faults.{HasCause, is_failure};
@@ -12,7 +13,7 @@ ghost use Rattle.sidecar_edit.specs.Leaves.{IsGated};
 use mkv_disk::{Disk, SIDECAR};
 use mkv_io::Failed;
 
-/// Writes the gate, byte 0 of the journal, and syncs the journal.
+/// Writes `gate` to byte 0 of the journal, and syncs the journal. That one byte decides whether an edit is pending.
 pub fn set_gate<D: Disk>(disk: &mut D, gate: u8) -> Result<(), Failed>
     requires live { IsLive D.Reads disk.old SIDECAR }
     requires at_rest { AtRest D.Disk.own disk.old }
@@ -25,7 +26,7 @@ pub fn set_gate<D: Disk>(disk: &mut D, gate: u8) -> Result<(), Failed>
     disk.sync(SIDECAR)
 }
 
-/// Truncates a journal with a closed gate to its gate, and syncs it.
+/// Truncates the journal, whose gate is closed, to its first byte, and syncs it.
 pub fn cut_down<D: Disk>(disk: &mut D) -> Result<(), Failed>
     requires live { IsLive D.Reads disk.old SIDECAR }
     requires at_rest { AtRest D.Disk.own disk.old }
@@ -39,7 +40,7 @@ pub fn cut_down<D: Disk>(disk: &mut D) -> Result<(), Failed>
     disk.sync(SIDECAR)
 }
 
-/// Closes the gate, and truncates the journal to it.
+/// Closes the gate of the journal, and truncates the journal to it: no edit is pending any more.
 pub fn close<D: Disk>(disk: &mut D) -> Result<(), Failed>
     requires live { IsLive D.Reads disk.old SIDECAR }
     requires at_rest { AtRest D.Disk.own disk.old }
@@ -52,8 +53,8 @@ pub fn close<D: Disk>(disk: &mut D) -> Result<(), Failed>
     cut_down(disk)
 }
 
-/// Turns a journal without a pending edit into one byte, a closed gate. A longer journal is truncated first: after a
-/// torn write of the gate, an older record would count.
+/// Turns a journal without a pending edit into one byte, a closed gate, before an edit is written to it. A longer
+/// journal is truncated first: after a torn write of the gate, an older record would count.
 pub fn settle<D: Disk>(disk: &mut D) -> Result<(), Failed>
     requires live { IsLive D.Reads disk.old SIDECAR }
     requires at_rest { AtRest D.Disk.own disk.old }

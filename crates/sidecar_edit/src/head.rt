@@ -1,4 +1,4 @@
-//! Fields of a journal's first bytes.
+//! The fields of a journal's first bytes, `head`, and the rules that they must keep.
 
 ghost use Rattle.std.specs.Prelude.{◌≡◌, ◌≤◌, ◌<◌, ◌+◌, ◌*◌, ◌^◌, ◌&&◌, ◌==◌, nat_le, length, min};
 ghost use Rattle.sidecar_edit.specs.Fields.{count_in, head_len, last_end, number_at, place_in, places_in, sum_of, total_in, used_in, version_in};
@@ -8,7 +8,7 @@ use crate::held::Gate;
 use crate::place::{HEAD, HEAD_1, KEPT, MAX_OCTETS, MAX_WRITES, OPEN, Place};
 use byteorder::{BigEndian, ByteOrder};
 
-/// Returns the number in the eight bytes from the offset `at`.
+/// Returns the big-endian number in the eight bytes of `head` from the offset `at` on.
 #[tactic(auto, unfolding(crate::specs::Fields::number_at))]
 pub fn number_at(head: &[u8], at: usize) -> u64
     requires { at + 8 ≤ length head.now }
@@ -17,7 +17,7 @@ pub fn number_at(head: &[u8], at: usize) -> u64
     BigEndian::read_u64(&head[at..])
 }
 
-/// Returns the place of the write number `k`, counted from 0.
+/// Returns the place of the write with the index `k`, counted from 0, in the record.
 pub fn place_in(head: &[u8], k: usize) -> Place
     requires { 48 + 16 * k ≤ length head.now }
     ensures { result ≡ place_in head.now k }
@@ -36,7 +36,7 @@ pub fn count_in(head: &[u8]) -> usize
     usize::from(head[25])
 }
 
-/// Returns the number of bytes before the bytes of the writes.
+/// Returns the number of bytes of the record before the bytes of the writes, which its version determines.
 pub fn head_len(head: &[u8]) -> u64
     requires { HEAD_1 ≤ length head.now }
     ensures { result ≡ head_len (version_in head.now) }
@@ -44,7 +44,7 @@ pub fn head_len(head: &[u8]) -> u64
     if head[24] == 1 { HEAD_1 } else { HEAD }
 }
 
-/// Returns the number of bytes that the writes write.
+/// Returns the number of bytes that the writes of the record write in all.
 #[tactic(auto, using(crate::proofs::ReadingLemmas::sum_next))]
 fn sum_in(head: &[u8]) -> u128
     requires long { HEAD_1 ≤ length head.now }
@@ -58,7 +58,7 @@ fn sum_in(head: &[u8]) -> u128
     sum
 }
 
-/// Returns the offset of the end of the last write.
+/// Returns the offset in the file after the last write of the record.
 #[tactic(auto, using(crate::proofs::ReadingLemmas::end_next))]
 fn end_in(head: &[u8]) -> u128
     requires long { HEAD_1 ≤ length head.now }
@@ -73,7 +73,7 @@ fn end_in(head: &[u8]) -> u128
     end
 }
 
-/// Checks whether all bytes are zero.
+/// Checks whether all bytes of `octets` are zero.
 fn are_zeros(octets: &[u8]) -> bool
     ensures { result ≡ are_zeros octets.now }
 {
@@ -103,7 +103,7 @@ fn is_total(head: &[u8]) -> bool
         && u128::from(number_at(head, 8)) == u128::from(head_len(head)) + sum
 }
 
-/// Checks whether the length after the edit is right.
+/// Checks whether the length after the edit that the record states is right, by its writes and the length before.
 fn is_new_len(head: &[u8]) -> bool
     requires long { HEAD_1 ≤ length head.now }
     requires few { count_in head.now ≤ MAX_WRITES }
@@ -130,7 +130,8 @@ fn is_padded(head: &[u8]) -> bool
     are_zeros(&first[old_len as usize..])
 }
 
-/// Checks whether a used place has bytes, begins at the end of the previous one or after it, and leaves no gap.
+/// Checks whether the place of a write in the record has bytes and leaves no gap. It must begin at the offset `from`,
+/// the end of the previous one, or after it. `old_len` is the file's length before the edit, if the record has it.
 fn is_used(place: Place, from: u128, old_len: Option<u64>) -> bool
     ensures { result ≡ (nat_le 1 place.len && nat_le from place.at && is_joined old_len from place) }
 {
@@ -148,7 +149,7 @@ fn is_zero(place: Place) -> bool
     place.at == 0 && place.len == 0
 }
 
-/// Returns the offset of the first place that breaks a rule, if any.
+/// Returns the offset in the journal of the first place of a write that breaks a rule, if any.
 fn place_breach(head: &[u8], old_len: Option<u64>) -> Option<u64>
     requires long { HEAD_1 ≤ length head.now }
     requires few { count_in head.now ≤ MAX_WRITES }
@@ -165,7 +166,7 @@ fn place_breach(head: &[u8], old_len: Option<u64>) -> Option<u64>
     unused_breach(head)
 }
 
-/// Returns the offset of the first unused place that isn't zero, if any.
+/// Returns the offset in the journal of the first unused place that isn't zero, if any.
 fn unused_breach(head: &[u8]) -> Option<u64>
     requires long { HEAD_1 ≤ length head.now }
     requires few { count_in head.now ≤ MAX_WRITES }
@@ -180,7 +181,8 @@ fn unused_breach(head: &[u8]) -> Option<u64>
     None
 }
 
-/// Returns the offset of the first field that breaks a rule of the record, if any.
+/// Returns the offset in the journal of the first field that breaks a rule of the record, if any. The journal then is
+/// invalid.
 pub fn first_breach(head: &[u8]) -> Option<u64>
     requires { HEAD_1 ≤ length head.now }
     ensures { result ≡ first_breach (rules_of head.now) }
@@ -198,7 +200,8 @@ pub fn first_breach(head: &[u8]) -> Option<u64>
     counted_breach(head)
 }
 
-/// Returns the same for the rules that depend on the number of writes.
+/// Returns the offset of the first field that breaks a rule, among the rules that depend on the number of writes, if
+/// any.
 fn counted_breach(head: &[u8]) -> Option<u64>
     requires long { HEAD_1 ≤ length head.now }
     requires few { count_in head.now ≤ MAX_WRITES }
@@ -220,7 +223,7 @@ fn counted_breach(head: &[u8]) -> Option<u64>
     }
 }
 
-/// Returns the state of a journal of `size` bytes by its first bytes `head`.
+/// Returns the state of a journal of `size` bytes with the first bytes `head`.
 pub fn gate_of(head: &[u8], size: u64) -> Gate
     requires { length head.now ≡ min HEAD size }
     ensures exact { result ≡ gate_of head.now size }

@@ -1,13 +1,13 @@
-//! State of a journal.
+//! The state of a journal.
 
-/// State of a journal.
+/// State of a journal, which decides whether its file may be used, edited or recovered.
 #[derive(Clone, Copy, Debug, PartialEq, Eq)]
 pub enum Gate {
-    /// Pending edit, which must be redone.
+    /// Pending edit, which `recover` must complete.
     Live,
-    /// No pending edit.
+    /// No pending edit: the file is whole.
     Quiet,
-    /// Open gate without a valid record.
+    /// Invalid journal: its gate is open, and no valid record follows.
     Bad {
         /// Offset in bytes of the first error from the start of the journal.
         offset: u64,

@@ -1,7 +1,8 @@
 #![tactic(auto)]
 
-//! Edits of a file in place, with a journal that has the record of the edit. A stop at any moment leaves two files
-//! that recover to the file before or after the edit. This crate also checks whether an edit is pending.
+//! Edits of a file in place, by way of a journal that has the record of the edit. A stop at any moment leaves a file
+//! and a journal that recover to the file before or after the edit. This crate also checks whether an edit is pending,
+//! and completes it.
 
 mod copying;
 mod edit;

@@ -1,23 +1,23 @@
-//! Results of recovering a file.
+//! Results of `recover`.
 
 ghost use Rattle.std.specs.Prelude.{◌≡◌};
 ghost use Rattle.sidecar_edit.specs.declared.outcome.RecoverEnd.TheVariants as recover_end;
 
 use mkv_io::Failed;
 
-/// Difference between a file and the file that a record was made for.
+/// Difference between a file and the file that a journal's record was made for.
 #[derive(Clone, Copy, Debug, PartialEq, Eq)]
 pub enum Mark {
-    /// Length in bytes.
+    /// Other length in bytes.
     Length,
-    /// Byte that the edit doesn't change.
+    /// Other byte, which the edit doesn't change.
     Octet {
         /// Offset in bytes from the start of the file.
         at: u64,
     },
 }
 
-/// Success of recovering a file.
+/// Outcome of a recovery that succeeded.
 #[derive(Clone, Copy, Debug, PartialEq, Eq)]
 pub enum Recovered {
     /// The edit was completed.
@@ -26,7 +26,7 @@ pub enum Recovered {
     Nothing,
 }
 
-/// Reason why a file isn't recovered.
+/// Reason why a file isn't recovered; it stays as it is.
 #[derive(Clone, Copy, Debug, PartialEq, Eq)]
 pub enum RecoverEnd {
     /// The journal should have a record and has no valid one, or its writes leave a gap after the file.
@@ -37,9 +37,9 @@ pub enum RecoverEnd {
     /// The record was made for another file.
     Foreign {
         mark: Mark,
-        /// Length of the file before the edit, or byte in the record.
+        /// Length of the file before the edit, or byte, that the record has.
         kept: u64,
-        /// Length or byte of the file that was found.
+        /// Length or byte of the file that was found instead.
         found: u64,
     },
     /// The disk failed.

@@ -1,4 +1,4 @@
-//! A look at the journal of a file.
+//! The check whether an edit of a file is pending, before the file is read.
 
 ghost use Rattle.std.specs.Prelude.{◌≡◌, [], ◌∷◌, IfOk};
 ghost use Rattle.mkv_io.specs.Bounds.{ReadsUpTo};
@@ -14,8 +14,8 @@ use crate::reading::state;
 use mkv_io::{Files, OpenFault, ReadEnd};
 use std::alloc::Global;
 
-/// Checks whether an edit of the file `name` is pending. No edit is pending if there is no journal. A journal that
-/// can't be opened or read is a `ReadFault`.
+/// Checks whether an edit of the file `name` is pending, by its journal, which is opened, read and closed. No edit is
+/// pending if there is no journal. A journal that can't be opened or read is a `ReadFault`.
 pub fn is_pending<F: Files>(alloc: Global, name: &str, files: &mut F) -> Result<bool, ReadEnd>
     ensures exact { IfVisible (F.names files.old) (λ world. IfOk result (λ pending. pending ≡ is_pending world name.now)) }
     ensures looks { LooksOnly F.Reads F.Files.own (sidecar_of name.now ∷ []) files.old files.new }
@@ -34,7 +34,7 @@ pub fn is_pending<F: Files>(alloc: Global, name: &str, files: &mut F) -> Result<
     Ok(is_begun(held?))
 }
 
-/// Checks whether the state is a pending edit.
+/// Checks whether the state `held` is a pending edit.
 fn is_begun(held: Gate) -> bool
     ensures { result ≡ is_begun held }
 {

@@ -1,6 +1,6 @@
-//! Places of writes, and sizes of a record.
+//! Places of writes in a record, and the sizes of a record.
 
-/// Gate of a record that must be redone.
+/// Value of the gate, the first byte of a journal, while an edit is pending.
 pub const OPEN: u8 = 0xA5;
 
 /// Length in bytes of a record of version 1 before the bytes of its writes.
@@ -9,16 +9,16 @@ pub const HEAD_1: u64 = 160;
 /// Length in bytes of a record of version 2 before the bytes of its writes.
 pub const HEAD: u64 = 232;
 
-/// Number of the file's first bytes that a record has, to identify the file.
+/// Number of the file's first bytes that a record of version 2 has, to identify the file.
 pub const KEPT: u64 = 64;
 
-/// Maximum number of writes of a record.
+/// Greatest number of writes in a record.
 pub const MAX_WRITES: u64 = 8;
 
-/// Maximum number of bytes that the writes of a record write: 16 MiB.
+/// Greatest number of bytes that the writes of a record write in all: 16 MiB.
 pub const MAX_OCTETS: u64 = 1 << 24;
 
-/// Place of a write.
+/// Place of a write in the file
 #[derive(Clone, Copy, Debug, PartialEq, Eq)]
 pub struct Place {
     /// Offset in bytes from the start of the file.

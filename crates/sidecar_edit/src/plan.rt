@@ -1,4 +1,4 @@
-//! The plan of an edit.
+//! The plan of an edit, as its journal stores it.
 
 ghost use Rattle.std.specs.Prelude.{◌≡◌, ◌≤◌, ◌<◌, ℕ, ◌+◌, ◌*◌, ◌++◌, ◌-◌, min, length, List, OnOk, OnErr, IfOk};
 ghost use Rattle.sidecar_edit.specs.Fields.{IsPlan, body_of, front_octets, mark_octets, slot, slots, sum_of, zeros};
@@ -11,8 +11,8 @@ use std::marker::Model;
 
 const ZEROS: [u8; KEPT as usize] = [0; KEPT as usize];
 
-/// Writes over a file, as the record of a journal. The record identifies the file by its length and its first bytes.
-/// It has the bytes that are written, and no copy of the file.
+/// Planned writes over a file, as the record of a journal. The record identifies the file by its length and its first
+/// bytes. It has the bytes that are written, and no copy of the file.
 #[derive(Debug, Drop)]
 pub struct Plan {
     old_len: u64,
@@ -35,8 +35,8 @@ impl Model for Plan {
 }
 
 impl Plan {
-    /// Returns a plan of writes at `places`, with the bytes `payload` in order. The file has the length `old_len`
-    /// before and `new_len` after, and the first bytes `first`.
+    /// Returns a plan of writes at `places`, with the bytes `payload` in this order. The file has the length `old_len`
+    /// before and `new_len` after, and the first bytes `first` before.
     pub fn new(
         alloc: Global,
         old_len: u64,
@@ -81,7 +81,7 @@ impl Plan {
         self.places.as_slice()
     }
 
-    /// Returns the bytes of all writes, concatenated.
+    /// Returns the bytes of all writes, in sequence.
     pub fn payload(&self) -> &[u8]
         ensures same { result.now ≡ self.now.payload }
         ensures full { length result.now ≡ sum_of self.now.head.places }
@@ -89,7 +89,7 @@ impl Plan {
         &self.octets.as_slice()[HEAD as usize - 1..]
     }
 
-    /// Returns the bytes of the journal after the gate.
+    /// Returns the bytes of the record in the journal, after the gate.
     pub fn body(&self) -> &[u8]
         ensures same { result.now ≡ body_of self.now }
         ensures sound { IsPlan self.now }
@@ -112,7 +112,8 @@ impl Plan {
     }
 }
 
-/// Appends the bytes before the places of `count` writes, in a record of `total` bytes.
+/// Appends the fields before the places to `octets`: for a record of `total` bytes with `count` writes, which gives the
+/// file `new_len` bytes.
 fn append_front(octets: &mut Bytes, total: u64, new_len: u64, count: u8) -> Result<(), AllocError>
     ensures { OnOk result (octets.new ≡ octets.old ++ front_octets total new_len count) }
 {
@@ -123,7 +124,7 @@ fn append_front(octets: &mut Bytes, total: u64, new_len: u64, count: u8) -> Resu
     Ok(())
 }
 
-/// Appends the eight places; unused ones are zero.
+/// Appends the eight places of a record to `octets`; unused ones are zero.
 fn append_places(octets: &mut Bytes, places: &[Place]) -> Result<(), AllocError>
     ensures { OnOk result (octets.new ≡ octets.old ++ slots MAX_WRITES places.now) }
 {
@@ -133,7 +134,7 @@ fn append_places(octets: &mut Bytes, places: &[Place]) -> Result<(), AllocError>
     Ok(())
 }
 
-/// Appends the place number `k`, or zeros if there are fewer.
+/// Appends the place with the index `k`, counted from 0, to `octets`, or zeros if there are fewer.
 fn append_place(octets: &mut Bytes, places: &[Place], k: usize) -> Result<(), AllocError>
     ensures { OnOk result (octets.new ≡ octets.old ++ slot places.now k) }
 {
@@ -143,7 +144,7 @@ fn append_place(octets: &mut Bytes, places: &[Place], k: usize) -> Result<(), Al
     Ok(())
 }
 
-/// Returns the zeros after the end of a file that is shorter than the kept bytes.
+/// Returns the zeros that fill the first bytes `first` of a short file up to `KEPT` bytes.
 fn zeros_behind(first: &[u8]) -> &'static [u8]
     requires { length first.now ≤ KEPT }
     ensures { result.now ≡ zeros (KEPT - length first.now) }
@@ -151,7 +152,7 @@ fn zeros_behind(first: &[u8]) -> &'static [u8]
     &ZEROS[first.len()..]
 }
 
-/// Appends the bytes that identify the file: its length before the edit, and its first bytes.
+/// Appends to `octets` the bytes that identify the file: its length before the edit, and its first bytes.
 fn append_marks(octets: &mut Bytes, old_len: u64, first: &[u8]) -> Result<(), AllocError>
     requires { length first.now ≤ KEPT }
     ensures { OnOk result (octets.new ≡ octets.old ++ mark_octets old_len first.now) }

@@ -1,4 +1,4 @@
-//! A pending edit is completed.
+//! Completion of a pending edit, for `recover`.
 
 ghost use Rattle.std.specs.Prelude.{◌≡◌, ◌+◌, [], ◌∷◌, length, Ok, IsTrue};
 ghost use Rattle.mkv_io.specs.Faults.{is_failure};
@@ -22,7 +22,7 @@ use crate::reading::{read_first, unfit_medium};
 use mkv_disk::{Disk, MEDIA, SIDECAR};
 use mkv_io::Failed;
 
-/// Makes the writes of a pending journal with the first bytes `head`, and syncs them.
+/// Makes the writes of the pending record, whose journal has the first bytes `head`, in the file, and syncs them.
 fn redo_writes<D: Disk>(head: &[u8], disk: &mut D) -> Result<(), Failed>
     requires ready { IsReady D.Reads D.Disk.own disk.old }
     requires head { IsHeadOf D.Reads D.Disk.own disk.old head.now }
@@ -41,7 +41,7 @@ fn redo_writes<D: Disk>(head: &[u8], disk: &mut D) -> Result<(), Failed>
     disk.sync(MEDIA)
 }
 
-/// Makes the writes of a pending journal that belongs to the file, and then closes the gate.
+/// Makes the writes of the pending record, which belongs to the file, and then closes the journal's gate.
 fn redo<D: Disk>(head: &[u8], disk: &mut D) -> Result<(), Failed>
     requires ready { IsReady D.Reads D.Disk.own disk.old }
     requires head { IsHeadOf D.Reads D.Disk.own disk.old head.now }
@@ -55,7 +55,7 @@ fn redo<D: Disk>(head: &[u8], disk: &mut D) -> Result<(), Failed>
     close(disk)
 }
 
-/// Redoes the edit of a pending journal, unless it was made for another file.
+/// Makes the pending edit of the journal with the first bytes `head`, unless it was made for another file.
 fn redo_own<D: Disk>(head: &[u8], disk: &mut D) -> Result<Recovered, RecoverEnd>
     requires ready { IsReady D.Reads D.Disk.own disk.old }
     requires head { IsHeadOf D.Reads D.Disk.own disk.old head.now }
@@ -72,8 +72,8 @@ fn redo_own<D: Disk>(head: &[u8], disk: &mut D) -> Result<Recovered, RecoverEnd>
     Ok(Recovered::Applied)
 }
 
-/// Completes the pending edit of a journal, and closes the gate, without allocating. A crash in the meantime leaves
-/// files that can be recovered in turn, to the same file.
+/// Completes the pending edit of the journal on `disk`, if there is one, and closes its gate. It takes no memory. A
+/// crash in the meantime leaves files that can be recovered in turn, to the same file.
 pub fn recover<D: Disk>(disk: &mut D) -> Result<Recovered, RecoverEnd>
     requires { IsReady D.Reads D.Disk.own disk.old }
     ensures ok { OfReads D.Disk.own disk.old (λ M S. IsRecovered M S result (D.pair disk.new)) }
