@@ -44,8 +44,8 @@ abbrev pub WritesAttachment : {S T E : Type 0} → Ghosts S → writing.Ghosts S
 WritesAttachment r f s t old new result =
     IfTold r old s.file (λ bytes. AreWritten (f.names old) (f.names new) (attached_output bytes t (attached_at (map in_file s.attachments) t.id)) result)
 
--- A call has written the outputs of `targets` from source `s`: `old` and `new` are the states before and after. After success they are complete;
--- after a failure the first are, and the next may have a first part. No other name changes.
+-- A call has written the outputs of `targets` from source `s`: `old` and `new` are the states before and after. After success they are complete.
+-- After a failure some first outputs exist, each with a first part of its content. No other name changes.
 abbrev pub WritesAttached : {S T E : Type 0} → Ghosts S → writing.Ghosts S → Source → List Target → S → S → Result T E → Type 0
 WritesAttached r f s targets old new result =
     IfTold r old s.file (λ bytes. AreWritten (f.names old) (f.names new) (attached_outputs bytes targets (map in_file s.attachments)) result)

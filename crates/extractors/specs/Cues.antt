@@ -36,7 +36,7 @@ abbrev pub WritesTrackCues : {S T E : Type 0} → Ghosts S → Source → Target
 WritesTrackCues f s t old new result =
     AreWritten (f.names old) (f.names new) (cues_output (scale_of_info s.info) s.cues t (slice_get (entries_in s) t.id)) result
 
--- A call has written the outputs of `targets` from source `s`; `old` and `new` are the states before and after. After success they are complete;
--- after a failure the first are, and the next may have a first part. No other name changes.
+-- A call has written the outputs of `targets` from source `s`; `old` and `new` are the states before and after. After success they are complete.
+-- After a failure some first outputs exist, each with a first part of its content. No other name changes.
 abbrev pub WritesCues : {S T E : Type 0} → Ghosts S → Source → List Target → S → S → Result T E → Type 0
 WritesCues f s targets old new result = AreWritten (f.names old) (f.names new) (cues_outputs (scale_of_info s.info) s.cues targets (entries_in s)) result

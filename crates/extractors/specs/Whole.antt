@@ -20,8 +20,8 @@ output name octets = record { name = name; content = octets }
 abbrev pub octets_in : {S : Type 0} → Ghosts S → S → FileId → ℕ → ℕ → List ℕ
 octets_in r files file at len = octets_told ((live_files r files).content file.n) at len
 
--- From the names `old` to the names `new`, the outputs `outputs` were written and no other name has changed. After a failure they may be there in
--- part: the first are complete, and the next has a first part.
+-- From the names `old` to the names `new`, the outputs `outputs` were written and no other name has changed. After a failure some first outputs
+-- exist, each with a first part of its content.
 abbrev pub AreWritten : {T E : Type 0} → Names → Names → List Output → Result T E → Type 0
 AreWritten old new outputs (Ok _) = new ≡ with_outputs old outputs
 AreWritten old new outputs (Err _) = ArePrefixes old new outputs

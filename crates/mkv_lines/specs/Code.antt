@@ -1,4 +1,4 @@
--- The exit status of the program, and the reasons why it stops. They are this project's.
+-- The exit statuses of the program, and the reasons why a command ends early. They are this project's.
 use Rattle.std.specs.Prelude.{ℕ, Result, Ok, Err}
 use Rattle.mkv_lines.specs.declared.status.Status.{Status}
 use Rattle.mkv_lines.specs.declared.status.Status.TheVariants.{Done, Warned, Refused, NoMemory, Outside}
@@ -9,7 +9,7 @@ use Rattle.mkv_io.specs.declared.remux_end.RemuxEnd.TheVariants as remux_end
 use Rattle.mkv_lines.specs.declared.status.CommandEnd.{CommandEnd}
 use Rattle.mkv_lines.specs.declared.status.CommandEnd.TheVariants as stop
 
--- the exit status of the program
+-- the number of a status, which the program exits with
 abbrev pub code_of : Status → ℕ
 code_of Done = 0
 code_of Warned = 1
@@ -17,18 +17,18 @@ code_of Refused = 2
 code_of NoMemory = 3
 code_of Outside = 4
 
--- the reason why a command stops after a call that read a file ended early
+-- the reason why a command ends early after this failure of a call that reads a file
 abbrev pub read_stop : ReadEnd → CommandEnd
 read_stop read_end.ReadFault = stop.Files
 read_stop read_end.Memory = stop.Memory
 
--- the reason why a command stops after a merge of blocks ended early
+-- the reason why a command ends early after this failure of a call that reads and writes files
 abbrev pub stop_of : RemuxEnd → CommandEnd
 stop_of remux_end.ReadFault = stop.Files
 stop_of remux_end.WriteFault = stop.Files
 stop_of remux_end.Memory = stop.Memory
 
--- the status of a run with this result of its command
+-- the status of a run whose command had this result
 abbrev pub status_of : Result Status CommandEnd → Status
 status_of (Ok s) = s
 status_of (Err stop.Memory) = NoMemory

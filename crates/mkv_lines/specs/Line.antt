@@ -8,25 +8,25 @@ use Rattle.mkv_lines.specs.Shown.{damage_text, element_text, level_0_name, level
 use Rattle.mkv_lines.specs.declared.line.Line.{Line}
 use Rattle.mkv_lines.specs.declared.line.Line.TheVariants.{Level0, Level1, Track, Refused, Warned, MoreDamages, MoreBadFrames, NoTrack, NoAttachment, NoExtractor, BadConfig, Missing, BadText, TextTooLarge, PendingEdit, OutputIsInput, AppendDiffers, NoLane, TooManyLanes, NotWebm, TooLarge, Wrote, WroteBlocks, Generated, UuidCount, Edited, Reindexed, EditRefused, NoRoom, EditTooLarge, Recovered, NothingToRecover, BadSidecar, Foreign, Word, FilesFault}
 
--- the line of `info` for an Element at the top level of a file
+-- the line of `info` for the Element `h` at level 0
 abbrev pub level_0_line : Header → List ℕ
 level_0_line h = level_0_name h.id ++ place_text h
 
--- the line of `info` for an Element of the Segment
+-- the line of `info` for the Element `h` at level 1
 abbrev pub level_1_line : Header → List ℕ
 level_1_line h = codes "  " ++ (level_1_name h.id ++ place_text h)
 
 -- ---- shapes of lines
 
--- a line with `head`, the name of a file, and the damage `d`
+-- a line with the start `head`, the file name `name`, and the damaged place `d`
 abbrev pub damaged_line : List ℕ → List ℕ → Damage → List ℕ
 damaged_line head name d = head ++ (shown_text name ++ (codes ": " ++ damage_text d))
 
--- a warning about the file `name`, with the count `count` and the words `what` after it
+-- a warning about the file `name`, with the number `count` and the words `what` after it
 abbrev pub counted_line : List ℕ → ℕ → List ℕ → List ℕ
 counted_line name count what = codes "warning: " ++ (shown_text name ++ (codes ": " ++ (decimal count ++ what)))
 
--- a line with `head`, the name of a file, the words `what`, and a number
+-- a line with the start `head`, the file name `name`, the words `what`, and the number `number`
 abbrev pub numbered_line : List ℕ → List ℕ → List ℕ → ℕ → List ℕ
 numbered_line head name what number = head ++ (shown_text name ++ (what ++ decimal number))
 
@@ -52,19 +52,19 @@ more_damages_line name more = codes "warning: " ++ (shown_text name ++ (codes ":
 abbrev pub more_bad_frames_line : List ℕ → ℕ → List ℕ
 more_bad_frames_line name more = codes "warning: " ++ (shown_text name ++ (codes ": " ++ (decimal more ++ codes " more bad frames")))
 
--- the line with the number of further damaged places, if there are any
+-- the line with the number `more` of further damaged places of the file `name`, if it isn't 0
 abbrev pub more_lines : List ℕ → ℕ → List (List ℕ)
 more_lines name more = if more == 0 then [] else more_damages_line name more ∷ []
 
--- a warning for each of a file's first damaged places, and the number of the others
+-- a warning for each of the first damaged places of the file `name`, and a line with the number `more` of the others
 abbrev pub damage_lines : List ℕ → List Damage → ℕ → List (List ℕ)
 damage_lines name first more = map (warning_line name) first ++ more_lines name more
 
--- the line with the number of further frames that aren't written, if there are any
+-- the line with the number `more` of further frames of the file `name` that aren't written, if it isn't 0
 abbrev pub more_bad_lines : List ℕ → ℕ → List (List ℕ)
 more_bad_lines name more = if more == 0 then [] else more_bad_frames_line name more ∷ []
 
--- a warning for each of the first frames that aren't written, and the line with the number of the others, if there are any
+-- a warning for each of the first frames of the file `name` that aren't written, and a line with the number `more` of the others
 abbrev pub bad_frame_lines : List ℕ → List Damage → ℕ → List (List ℕ)
 bad_frame_lines name first more = map (warning_line name) first ++ more_bad_lines name more
 
@@ -175,7 +175,7 @@ recovered_line name = codes "recovered " ++ shown_text name
 abbrev pub nothing_line : List ℕ → List ℕ
 nothing_line name = codes "nothing to recover in " ++ shown_text name
 
--- the line that refuses the journal of the file `name`, which is invalid at the offset `offset`
+-- the line that refuses the journal of the file `name`, which is invalid at its byte `offset`, counted from 0
 abbrev pub bad_sidecar_line : List ℕ → ℕ → List ℕ
 bad_sidecar_line name offset = codes "error: " ++ (shown_text name ++ (codes ": BadSidecar, offset " ++ decimal offset))
 
@@ -186,7 +186,7 @@ foreign_line name mark kept found =
     codes "error: "
     ++ (shown_text name ++ (codes ": Foreign, " ++ (mark_text mark ++ (codes ", kept " ++ (decimal kept ++ (codes ", found " ++ decimal found))))))
 
--- the line that refuses the argument number `word` for the reason `why`
+-- the line that refuses the argument with the index `word`, counted from 0, for the reason `why`
 abbrev pub word_line : ℕ → List ℕ → List ℕ
 word_line word why = codes "error: word " ++ (decimal word ++ (codes ": " ++ why))
 

@@ -1,9 +1,9 @@
--- Commands that weren't stopped.
+-- Commands that did their work or refused it.
 use Rattle.std.specs.Prelude.{⊤}
 use Rattle.mkv_lines.specs.declared.status.Status.{Status}
 use Rattle.mkv_lines.specs.declared.status.Status.TheVariants as status
 
--- No call outside the program failed, and memory didn't run out.
+-- No call outside the program failed, and memory didn't run out, in a run that ends with this status.
 abbrev pub IsOrdinary : Status → Type 0
 IsOrdinary status.NoMemory = ⊥
 IsOrdinary status.Outside = ⊥

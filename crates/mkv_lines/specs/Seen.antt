@@ -1,4 +1,4 @@
--- The visible state of a run, before and after it.
+-- The visible state of a run, as plain values that are compared before and after it.
 use Rattle.std.specs.Prelude.{ℕ}
 use Rattle.mkv_io.specs.Names.{Names}
 use Rattle.mkv_io.specs.declared.reads.Reads.{Ghosts as ReadsGhosts}
@@ -6,13 +6,13 @@ use Rattle.mkv_io.specs.declared.report.Report.{Ghosts as ReportGhosts}
 use Rattle.mkv_lines.specs.Faults.{Counts}
 use Rattle.mkv_lines.specs.Said.{ReportLines}
 
--- The counts of faults, the lines of the report, and the content of each name.
+-- The failure counts, the lines of the report, and the content of each name, at one moment.
 pub record Seen : Type 0 where
   pub counts : Counts
   pub lines : ReportLines
   pub names : Names
 
--- the visible state of `files` and of the report `said`
+-- the visible state of `files` and of the report `said`, as plain values
 abbrev pub seen : {F R : Type 0} → ReadsGhosts F → (F → ℕ) → (F → Names) → ReportGhosts R → F → R → Seen
 seen reads writing_faults names report files said = record {
   counts = record { reading = reads.reading_faults files; writing = writing_faults files; report = report.faults said };

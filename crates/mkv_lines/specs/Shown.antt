@@ -1,4 +1,4 @@
--- Forms of Elements, sizes and damage in a message. They are this project's.
+-- The parts of a message about Elements, sizes and damage. They are this project's.
 use Rattle.std.specs.Prelude.{ℕ, ◌++◌, ◌==◌, ◌/◌, ◌%◌, nat_lt, nat_le, Bool, true, ◌&&◌, ◌||◌, if◌then◌else◌, List, ◌∷◌, flat_map, codes, unwrap_or}
 use Rattle.std.specs.Char.{encode_utf8}
 use Rattle.std.specs.Str.{chars}
@@ -15,67 +15,67 @@ use Rattle.sidecar_edit.specs.declared.outcome.Mark.TheVariants.{Length, Octet}
 
 -- ---- names, and texts of files
 
--- `c` is a control character: U+0000 to U+001F, or U+007F to U+009F.
+-- The character `c` is a control character: U+0000 to U+001F, or U+007F to U+009F.
 abbrev pub is_control : ℕ → Bool
 is_control c = nat_lt c 0x20 || (nat_le 0x7F c && nat_lt c 0xA0)
 
--- a byte as `\x` and two digits, in upper-case hexadecimal
+-- the byte `octet` as `\x` and two digits, in upper-case hexadecimal
 abbrev pub escaped : ℕ → List ℕ
 escaped octet = 0x5C ∷ (0x78 ∷ (digits 16 true (octet / 16) ++ digits 16 true (octet % 16)))
 
--- a character in a message; a control character is shown as its bytes in UTF-8
+-- the character `c` in a message; a control character is printed as its bytes in UTF-8, each escaped
 abbrev pub shown_char : ℕ → List ℕ
 shown_char c = if is_control c then flat_map escaped (encode_utf8 c) else encode_utf8 c
 
--- A name or a text of a file in a message: a file can't forge a message or control a terminal.
+-- The file name or text of a file `text` in a message: it can't forge a message or control a terminal.
 abbrev pub shown_text : List ℕ → List ℕ
 shown_text text = flat_map shown_char (chars text)
 
 -- ---- Elements
 
--- an Element ID, in upper-case hexadecimal
+-- the Element ID `id` in upper-case hexadecimal
 abbrev pub id_text : ℕ → List ℕ
 id_text id = digits 16 true id
 
--- the Element that a message is about, by its ID
+-- the Element with the ID `id` that a message is about
 abbrev pub element_text : ℕ → List ℕ
 element_text id = codes ", element " ++ id_text id
 
--- the ID at a damaged place; 0 means that there is none
+-- the Element ID `id` at a damaged place; 0 means that there is none
 abbrev pub damaged_id : ℕ → List ℕ
 damaged_id id = if id == 0 then codes "-" else id_text id
 
--- the name of an Element that the table doesn't have
+-- the printed name of an Element with the ID `id` that the Matroska table doesn't have
 abbrev pub unknown_name : ℕ → List ℕ
 unknown_name id = codes "0x" ++ id_text id
 
--- the name of an Element of level 0
+-- the printed name of the Element at level 0 with the ID `id`
 abbrev pub level_0_name : ℕ → List ℕ
 level_0_name id = unwrap_or (name_of id) (unknown_name id)
 
--- the name of an Element of level 1, unknown unless the table allows it in a Segment
+-- the printed name of the Element at level 1 with the ID `id`; only its ID if the Matroska table doesn't allow it in a Segment
 abbrev pub level_1_name : ℕ → List ℕ
 level_1_name id = if may_stand id SEGMENT then unwrap_or (name_of id) (unknown_name id) else unknown_name id
 
--- the size of an Element's body in decimal, or the word for an unknown size
+-- the size of an Element's data in bytes, in decimal, or `unknown`
 abbrev pub size_text : Size → List ℕ
 size_text (Known n) = decimal n
 size_text Unknown = codes "unknown"
 
--- the offset of an Element in the file, and the size of its body
+-- the offset of the Element `h` in the file, and the size of its data in bytes
 abbrev pub place_text : Header → List ℕ
 place_text h = codes " at " ++ (decimal h.offset ++ (codes " size " ++ size_text h.size))
 
--- the kind, the Element and the offset of damage, as a message prints them
+-- the damaged place `d` as a message prints it: its kind, Element ID and offset in the file
 abbrev pub damage_text : Damage → List ℕ
 damage_text d = kind_name d.kind ++ (codes ", element " ++ (damaged_id d.id ++ (codes ", offset " ++ decimal d.offset)))
 
--- the mark that distinguishes a file from another
+-- the difference between a file and the one that a journal was made for: the length, or a byte and its offset
 abbrev pub mark_text : Mark → List ℕ
 mark_text Length = codes "length"
 mark_text (Octet at) = codes "octet " ++ decimal at
 
--- a track, by its index in the file, from 0
+-- the track with the index `index` in the file, from 0, as `info` prints it
 abbrev pub track_text : ℕ → List ℕ → List ℕ → ℕ → ℕ → List ℕ → List ℕ
 track_text index type codec number uid language =
     codes "track " ++ (decimal index ++ (codes ": " ++ (type ++ (codes " " ++ (shown_text codec ++ (codes " number " ++ (decimal number ++ (codes " uid " ++ (decimal uid ++ (codes " language " ++ shown_text language))))))))))

@@ -1,6 +1,6 @@
 #![tactic(auto)]
 
-//! Messages that a run prints, and its exit status.
+//! The messages that a run prints for the user, and its exit status.
 
 mod line;
 mod saying;

@@ -1,4 +1,4 @@
-//! Messages for the user.
+//! The messages for the user, one line each.
 
 ghost use Rattle.std.specs.Prelude.{◌++◌};
 ghost use Rattle.std.specs.Fmt.{WritesOnOk};
@@ -17,11 +17,11 @@ use std::fmt;
 /// Message for the user. Its text, by `Display`, has no line end.
 #[derive(Clone, Copy)]
 pub enum Line<'a> {
-    /// Element at the top level of a file.
+    /// Element at level 0 of a file, in the list of `info`.
     Level0(Header),
-    /// Element of the Segment.
+    /// Element at level 1 of a file, in the list of `info`.
     Level1(Header),
-    /// Track, by its index in the file, from 0 (RFC 9559, section 5.1.4, Tracks Element).
+    /// Track, by its index in the file, from 0, in the list of `info` (RFC 9559, section 5.1.4, Tracks Element).
     Track(ShownTrack<'a>),
     /// Refusal of a file because of damage.
     Refused {
@@ -63,11 +63,11 @@ pub enum Line<'a> {
         name: &'a str,
         number: u64,
     },
-    /// The file doesn't exist.
+    /// The file that the command line names doesn't exist.
     Missing {
         name: &'a str,
     },
-    /// A line of a text file, counted from 1, breaks the file's grammar.
+    /// The line with this number, counted from 1, of a text file breaks the file's grammar.
     BadText {
         name: &'a str,
         line: u64,
@@ -80,7 +80,7 @@ pub enum Line<'a> {
     PendingEdit {
         name: &'a str,
     },
-    /// An output has the name of its own input.
+    /// An output has the name of a file that is read.
     OutputIsInput {
         name: &'a str,
     },
@@ -102,17 +102,17 @@ pub enum Line<'a> {
         name: &'a str,
         id: u32,
     },
-    /// An output is complete.
+    /// An output of `extract` is complete.
     Wrote {
         name: &'a str,
     },
-    /// An output is complete and has this number of blocks.
+    /// An output of `merge` is complete and has this number of blocks.
     WroteBlocks {
         name: &'a str,
         blocks: u64,
     },
-    /// Files were generated from `n`. Two of them were merged: `blocks`, `clusters` and `cues` are the counts of the
-    /// output, and `parts` of its split.
+    /// Files were generated for `n` pictures, and two of them merged. `blocks`, `clusters` and `cues` are the counts of
+    /// the merged file, and `parts` is the number of parts of its split.
     Generated {
         n: u32,
         blocks: u64,
@@ -120,7 +120,7 @@ pub enum Line<'a> {
         cues: u64,
         parts: usize,
     },
-    /// The number of segment identifiers isn't the number of outputs.
+    /// The number of segment identifiers on the command line isn't the number of outputs.
     UuidCount {
         uuids: u64,
         outputs: u64,
@@ -134,26 +134,27 @@ pub enum Line<'a> {
         name: &'a str,
         cues: u64,
     },
-    /// An edit of a file, counted from 1, is refused.
+    /// The edit with this number on the command line, counted from 1, is refused.
     EditRefused {
         name: &'a str,
         why: &'a str,
         edit: u64,
     },
-    /// The edits of a file need more room of one kind than it has.
+    /// The edits of a file need more room of the kind `why` than it has.
     NoRoom {
         name: &'a str,
         why: &'a str,
         need: u64,
         have: u64,
     },
-    /// The edits of a file write more bytes, or more Elements into one, than they may.
+    /// The edits of a file write more bytes than they may, or more Elements into one: `length` bytes in all, `nodes` in
+    /// the largest.
     EditTooLarge {
         name: &'a str,
         length: u64,
         nodes: u64,
     },
-    /// An interrupted edit of a file is completed.
+    /// An interrupted edit of a file is completed by `recover`.
     Recovered {
         name: &'a str,
     },
@@ -161,24 +162,24 @@ pub enum Line<'a> {
     NothingToRecover {
         name: &'a str,
     },
-    /// The journal of a file is invalid from the byte at `offset` on.
+    /// The journal of a file is invalid; the first error is at the byte `offset` of the journal, counted from 0.
     BadSidecar {
         name: &'a str,
         offset: u64,
     },
-    /// The journal belongs to another file: the length, or a byte, differs from the one that it kept.
+    /// The journal belongs to another file: the length, or a byte, differs from the one in the journal, `kept`.
     Foreign {
         name: &'a str,
         mark: Mark,
         kept: u64,
         found: u64,
     },
-    /// An argument is refused; arguments are counted from 0.
+    /// The argument with the index `word`, counted from 0, is refused.
     Word {
         word: usize,
         why: &'a str,
     },
-    /// Reading or writing of files failed.
+    /// A read or a write of files failed.
     FilesFault,
 }
 
@@ -188,6 +189,7 @@ impl fmt::Display for Line<'_> {
 
     ghost output = { λ line. Some (text_of line) };
 
+    /// Writes the text of the message, without a line end.
     fn fmt<W: fmt::Write>(&self, f: &mut fmt::Formatter<W>) -> fmt::Result {
         match *self {
             Line::Level0(header) => level_0(f, header),
@@ -274,7 +276,7 @@ impl fmt::Display for Line<'_> {
     }
 }
 
-// Writes the line of an element of level 0.
+// Writes the line of `info` for the Element `header` at level 0.
 fn level_0<W: fmt::Write>(f: &mut fmt::Formatter<W>, header: Header) -> fmt::Result
     ensures { WritesOnOk W.write_str_gives f.old result (level_0_line header) f.new }
 {
@@ -282,7 +284,7 @@ fn level_0<W: fmt::Write>(f: &mut fmt::Formatter<W>, header: Header) -> fmt::Res
     write!(f, "{name}{place}")
 }
 
-// Writes the line of an element of level 1.
+// Writes the line of `info` for the Element `header` at level 1.
 fn level_1<W: fmt::Write>(f: &mut fmt::Formatter<W>, header: Header) -> fmt::Result
     ensures { WritesOnOk W.write_str_gives f.old result (level_1_line header) f.new }
 {
@@ -290,7 +292,8 @@ fn level_1<W: fmt::Write>(f: &mut fmt::Formatter<W>, header: Header) -> fmt::Res
     write!(f, "  {name}{place}")
 }
 
-// Writes a line about damage of the file `name`; `head` is the start of the line.
+// Writes a line about the damaged place `damage` of the file `name`; `head` is the start of the line, `error: ` or
+// `warning: `.
 fn damaged<W: fmt::Write>(
     f: &mut fmt::Formatter<W>,
     head: &str,
@@ -303,7 +306,8 @@ fn damaged<W: fmt::Write>(
     write!(f, "{head}{name}: {damage}")
 }
 
-// Writes the line that warns of `count` further places of the kind `what` in the file `name`.
+// Writes the warning of `count` further places of the file `name` that aren't printed each; `what` is the end of the
+// line.
 fn counted<W: fmt::Write>(
     f: &mut fmt::Formatter<W>,
     name: &str,
@@ -316,8 +320,8 @@ fn counted<W: fmt::Write>(
     write!(f, "warning: {name}: {count}{what}")
 }
 
-// Writes a line about the item number `number` of the file `name`. `head` is the start of the line, and `what` the
-// words before the number.
+// Writes a line about the track, line or attached file with the number `number` of the file `name`. `head` is the start
+// of the line, and `what` the words before the number.
 fn numbered<W: fmt::Write>(
     f: &mut fmt::Formatter<W>,
     head: &str,
@@ -352,7 +356,7 @@ fn headed<W: fmt::Write>(f: &mut fmt::Formatter<W>, head: &str, name: &str) -> f
     write!(f, "{head}{name}")
 }
 
-// Writes the line of a refusal because of the element `id` in the file `name`.
+// Writes the error line for the file `name`, for the reason `why`, because of the Element with the ID `id`.
 fn of_element<W: fmt::Write>(
     f: &mut fmt::Formatter<W>,
     name: &str,
@@ -365,7 +369,7 @@ fn of_element<W: fmt::Write>(
     write!(f, "error: {name}: {why}{element}")
 }
 
-// Writes the line about the complete output `name` with its number of blocks.
+// Writes the line that the output `name` is complete and has `blocks` blocks.
 fn wrote_blocks<W: fmt::Write>(f: &mut fmt::Formatter<W>, name: &str, blocks: u64) -> fmt::Result
     ensures { WritesOnOk W.write_str_gives f.old result (wrote_blocks_line name.now blocks) f.new }
 {
@@ -373,7 +377,7 @@ fn wrote_blocks<W: fmt::Write>(f: &mut fmt::Formatter<W>, name: &str, blocks: u6
     write!(f, "wrote {name}: {blocks} blocks")
 }
 
-// Writes the line about the file `name`, which has a new index of `cues` cue points.
+// Writes the line that the file `name` has a new index of `cues` cue points.
 fn reindexed<W: fmt::Write>(f: &mut fmt::Formatter<W>, name: &str, cues: u64) -> fmt::Result
     ensures { WritesOnOk W.write_str_gives f.old result (reindexed_line name.now cues) f.new }
 {
@@ -381,8 +385,8 @@ fn reindexed<W: fmt::Write>(f: &mut fmt::Formatter<W>, name: &str, cues: u64) ->
     write!(f, "reindexed {name}: {cues} cues")
 }
 
-// Writes the line about the files of `generate n`: the blocks, Clusters and cue points of the merged file, and its
-// number of parts.
+// Writes the line about the files of `generate n`: the blocks, Clusters and cue points of the merged file, and the
+// number of its parts.
 fn generated<W: fmt::Write>(
     f: &mut fmt::Formatter<W>,
     n: u32,
@@ -399,14 +403,15 @@ fn generated<W: fmt::Write>(
     )
 }
 
-// Writes the warning that the number of segment identifiers isn't the number of outputs.
+// Writes the warning that `uuids` segment identifiers were given for `outputs` outputs.
 fn uuid_count<W: fmt::Write>(f: &mut fmt::Formatter<W>, uuids: u64, outputs: u64) -> fmt::Result
     ensures { WritesOnOk W.write_str_gives f.old result (uuid_count_line uuids outputs) f.new }
 {
     write!(f, "warning: {uuids} segment identifiers, {outputs} parts")
 }
 
-// Writes the line that refuses the edit number `edit` of the file `name`.
+// Writes the error line that the edit with the number `edit`, counted from 1, of the file `name` is refused, for the
+// reason `why`.
 fn edit_refused<W: fmt::Write>(
     f: &mut fmt::Formatter<W>,
     name: &str,
@@ -419,8 +424,8 @@ fn edit_refused<W: fmt::Write>(
     write!(f, "error: {name}: {why}, edit {edit}")
 }
 
-// Writes the line that refuses an edit of the file `name` for lack of room of the kind `why`. It needs `need`, and
-// there is `have`.
+// Writes the error line that an edit of the file `name` lacks room of the kind `why`. It needs `need`, and there is
+// `have`.
 fn no_room<W: fmt::Write>(
     f: &mut fmt::Formatter<W>,
     name: &str,
@@ -434,7 +439,8 @@ fn no_room<W: fmt::Write>(
     write!(f, "error: {name}: NoRoom, {why}, need {need}, have {have}")
 }
 
-// Writes the line that refuses an edit of the file `name` with too many bytes or elements to write.
+// Writes the error line that the edits of the file `name` write too much: `length` bytes in all, or `nodes` Elements in
+// one.
 fn edit_too_large<W: fmt::Write>(
     f: &mut fmt::Formatter<W>,
     name: &str,
@@ -450,7 +456,8 @@ fn edit_too_large<W: fmt::Write>(
     )
 }
 
-// Writes the line that refuses a journal of the file `name` which was made for another file.
+// Writes the error line that the journal of the file `name` was made for another file. The two differ in `mark`: `kept`
+// in the journal, and `found` in the file.
 fn foreign<W: fmt::Write>(
     f: &mut fmt::Formatter<W>,
     name: &str,

@@ -1,4 +1,4 @@
-//! Forms of Elements, sizes and damage in a message.
+//! The parts of a message about Elements, sizes and damage.
 
 use crate::shown_text::ShownText;
 use ebml_numbers::Size;
@@ -8,7 +8,7 @@ use mkv_schema::{Header, may_stand, row};
 use sidecar_edit::Mark;
 use std::fmt;
 
-/// ID of the Element that a message is about.
+/// Element that a message is about, printed as its ID in hexadecimal after `, element `.
 #[derive(Clone, Copy)]
 pub struct ShownElement(pub u32);
 
@@ -18,13 +18,14 @@ impl fmt::Display for ShownElement {
 
     ghost output = { λ id. Some (element_text id.0) };
 
+    /// Writes the Element as a message prints it.
     fn fmt<W: fmt::Write>(&self, f: &mut fmt::Formatter<W>) -> fmt::Result {
         let id = self.0;
         write!(f, ", element {id:X}")
     }
 }
 
-/// ID at a damaged place, printed in hexadecimal, or as `-` if it is 0 (none).
+/// Element ID at a damaged place, printed in hexadecimal, or as `-` if it is 0 (none).
 #[derive(Clone, Copy)]
 pub struct DamagedId(pub u32);
 
@@ -34,6 +35,7 @@ impl fmt::Display for DamagedId {
 
     ghost output = { λ id. Some (damaged_id id.0) };
 
+    /// Writes the ID as a message prints it.
     fn fmt<W: fmt::Write>(&self, f: &mut fmt::Formatter<W>) -> fmt::Result {
         let id = self.0;
         if id == 0 {
@@ -43,7 +45,7 @@ impl fmt::Display for DamagedId {
     }
 }
 
-/// Name of an Element of level 0.
+/// Element at level 0, printed as its name, or as its ID if the Matroska table doesn't have it.
 #[derive(Clone, Copy)]
 pub struct Level0Name(pub u32);
 
@@ -53,6 +55,7 @@ impl fmt::Display for Level0Name {
 
     ghost output = { λ id. Some (level_0_name id.0) };
 
+    /// Writes the name of the Element.
     fn fmt<W: fmt::Write>(&self, f: &mut fmt::Formatter<W>) -> fmt::Result {
         let id = self.0;
         match row(id) {
@@ -62,7 +65,7 @@ impl fmt::Display for Level0Name {
     }
 }
 
-/// Name of an Element of level 1.
+/// Element at level 1, printed as its name, or as its ID if the Matroska table doesn't allow it in a Segment.
 #[derive(Clone, Copy)]
 pub struct Level1Name(pub u32);
 
@@ -72,6 +75,7 @@ impl fmt::Display for Level1Name {
 
     ghost output = { λ id. Some (level_1_name id.0) };
 
+    /// Writes the name of the Element.
     fn fmt<W: fmt::Write>(&self, f: &mut fmt::Formatter<W>) -> fmt::Result {
         let id = self.0;
         if may_stand(id, SEGMENT) {
@@ -81,7 +85,7 @@ impl fmt::Display for Level1Name {
     }
 }
 
-/// Size in bytes.
+/// Size of an Element's data, printed in bytes, or as `unknown`.
 #[derive(Clone, Copy)]
 pub struct ShownSize(pub Size);
 
@@ -91,6 +95,7 @@ impl fmt::Display for ShownSize {
 
     ghost output = { λ size. Some (size_text size.0) };
 
+    /// Writes the size as a message prints it.
     fn fmt<W: fmt::Write>(&self, f: &mut fmt::Formatter<W>) -> fmt::Result {
         match self.0 {
             Size::Known(octets) => write!(f, "{octets}"),
@@ -99,7 +104,7 @@ impl fmt::Display for ShownSize {
     }
 }
 
-/// Offset of an Element in the file, and its size.
+/// Place of an Element, printed as its offset in the file and the size of its data in bytes.
 #[derive(Clone, Copy)]
 pub struct ShownPlace(pub Header);
 
@@ -109,6 +114,7 @@ impl fmt::Display for ShownPlace {
 
     ghost output = { λ header. Some (place_text header.0) };
 
+    /// Writes the place as a message prints it.
     fn fmt<W: fmt::Write>(&self, f: &mut fmt::Formatter<W>) -> fmt::Result {
         let offset = self.0.offset;
         let size = ShownSize(self.0.size);
@@ -116,7 +122,7 @@ impl fmt::Display for ShownPlace {
     }
 }
 
-/// Kind and place of damage in a file.
+/// Damaged place, printed as its kind, Element ID and offset in the file.
 #[derive(Clone, Copy)]
 pub struct ShownDamage(pub Damage);
 
@@ -126,6 +132,7 @@ impl fmt::Display for ShownDamage {
 
     ghost output = { λ damage. Some (damage_text damage.0) };
 
+    /// Writes the damaged place as a message prints it.
     fn fmt<W: fmt::Write>(&self, f: &mut fmt::Formatter<W>) -> fmt::Result {
         let kind = self.0.kind;
         let id = DamagedId(self.0.id);
@@ -134,7 +141,7 @@ impl fmt::Display for ShownDamage {
     }
 }
 
-/// Mark that distinguishes a file from another.
+/// Difference between a file and the one that a journal was made for: the length, or a byte and its offset.
 #[derive(Clone, Copy)]
 pub struct ShownMark(pub Mark);
 
@@ -144,6 +151,7 @@ impl fmt::Display for ShownMark {
 
     ghost output = { λ mark. Some (mark_text mark.0) };
 
+    /// Writes the difference as a message prints it.
     fn fmt<W: fmt::Write>(&self, f: &mut fmt::Formatter<W>) -> fmt::Result {
         match self.0 {
             Mark::Length => f.write_str("length"),
@@ -152,7 +160,7 @@ impl fmt::Display for ShownMark {
     }
 }
 
-/// Track, by its index in the file, from 0.
+/// Track in the list of `info`, by its index in the file, from 0.
 #[derive(Clone, Copy)]
 pub struct ShownTrack<'a> {
     pub index: usize,
@@ -169,6 +177,7 @@ impl fmt::Display for ShownTrack<'_> {
 
     ghost output = { λ t. Some (track_text t.index t.type_name.now t.codec.now t.number t.uid t.language.now) };
 
+    /// Writes the track as a message prints it.
     fn fmt<W: fmt::Write>(&self, f: &mut fmt::Formatter<W>) -> fmt::Result {
         let (index, type_name, number, uid) = (self.index, self.type_name, self.number, self.uid);
         let (codec, language) = (ShownText(self.codec), ShownText(self.language));

@@ -1,11 +1,12 @@
-//! Names and texts of files in a message.
+//! File names, and texts of files, in a message.
 
 ghost use Rattle.std.specs.Fmt.{WritesOnOk};
 ghost use Rattle.mkv_lines.specs.Shown.{shown_text};
 
 use std::fmt;
 
-/// Name or text of a file. A control character is shown as its bytes in UTF-8.
+/// Name of a file, or text that a file has, in a message. A control character is printed as its bytes in UTF-8, so that
+/// a file can't control a terminal.
 #[derive(Clone, Copy)]
 pub struct ShownText<'a>(pub &'a str);
 
@@ -15,12 +16,13 @@ impl fmt::Display for ShownText<'_> {
 
     ghost output = { λ text. Some (shown_text text.0.now) };
 
+    /// Writes the text as a message prints it.
     fn fmt<W: fmt::Write>(&self, f: &mut fmt::Formatter<W>) -> fmt::Result {
         write_shown(self.0, f)
     }
 }
 
-// Writes `text` in the form that a message has.
+// Writes `text` as a message prints it, with escaped control characters.
 fn write_shown<W: fmt::Write>(text: &str, f: &mut fmt::Formatter<W>) -> fmt::Result
     ensures { WritesOnOk W.write_str_gives f.old result (shown_text text.now) f.new }
 {
@@ -31,7 +33,7 @@ fn write_shown<W: fmt::Write>(text: &str, f: &mut fmt::Formatter<W>) -> fmt::Res
     Ok(())
 }
 
-// Character of a text that comes from a file.
+// Character of such a text, printed as it is or escaped.
 #[derive(Clone, Copy)]
 struct ShownChar(char);
 
@@ -41,6 +43,7 @@ impl fmt::Display for ShownChar {
 
     ghost output = { λ c. Some (shown_char c.0) };
 
+    /// Writes the character, or its bytes as `\x` and two digits if it is a control character.
     fn fmt<W: fmt::Write>(&self, f: &mut fmt::Formatter<W>) -> fmt::Result {
         let c = self.0;
         match u32::from(c) {
@@ -57,7 +60,7 @@ impl fmt::Display for ShownChar {
     }
 }
 
-// Byte of a control character.
+// Byte of a control character, printed as `\x` and two hexadecimal digits.
 #[derive(Clone, Copy)]
 struct Escaped(u8);
 
@@ -67,6 +70,7 @@ impl fmt::Display for Escaped {
 
     ghost output = { λ octet. Some (escaped octet.0) };
 
+    /// Writes the byte as `\x` and two hexadecimal digits.
     fn fmt<W: fmt::Write>(&self, f: &mut fmt::Formatter<W>) -> fmt::Result {
         let (high, low) = (self.0 / 16, self.0 % 16);
         write!(f, "\\x{high:X}{low:X}")

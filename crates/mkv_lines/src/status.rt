@@ -5,7 +5,7 @@ ghost use Rattle.mkv_lines.specs.Code.{code_of, stop_of};
 
 use mkv_io::{ReadEnd, RemuxEnd};
 
-/// Exit status of a run.
+/// Exit status of a run, from 0 to 4 in this order.
 #[derive(Clone, Copy, Debug, PartialEq, Eq)]
 pub enum Status {
     /// Everything is done.
@@ -16,12 +16,12 @@ pub enum Status {
     Refused,
     /// Memory ran out.
     NoMemory,
-    /// The files, the disk or the report failed.
+    /// The files, the disk or the report failed (I/O failure).
     Outside,
 }
 
 impl Status {
-    /// Returns the exit status of the program.
+    /// Returns the number of the status, which the program exits with.
     pub fn code(self) -> u8
         ensures { result ≡ code_of self }
     {
@@ -35,16 +35,16 @@ impl Status {
     }
 }
 
-/// Reason why a command stops early.
+/// Reason why a command ends before its work is done.
 #[derive(Clone, Copy, Debug, PartialEq, Eq)]
 pub enum CommandEnd {
     /// Out of memory.
     Memory,
-    /// The files failed.
+    /// A read or a write of the files failed.
     Files,
-    /// The disk failed.
+    /// A call on the file that is edited in place, or on its journal, failed.
     Disk,
-    /// The report failed.
+    /// A line couldn't be printed.
     Report,
 }
 
@@ -61,7 +61,7 @@ impl From<ReadEnd> for CommandEnd {
     }
 }
 
-/// Returns the reason why a command stops if a call that reads and writes files ended early.
+/// Returns the reason why a command ends early, for the error `end` of a call that reads and writes files.
 pub fn stop_of(end: RemuxEnd) -> CommandEnd
     ensures { result ≡ stop_of end }
 {
