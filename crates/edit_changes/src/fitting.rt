@@ -73,8 +73,9 @@ pub fn whole(alloc: Global, id: u32, body: &[u8]) -> Result<Vec<u8>, AllocError>
     element(alloc, id, body, width_of(body.len() as u64))
 }
 
-/// Returns bytes for the ID `id` and the body `body` that fill `room` bytes together with the body of a Void after the
-/// Element. Returns None if the shortest Element is longer than `room`. If one byte is left, the size field takes it.
+/// Returns the bytes that are written over a span of `room` bytes for an Element with the ID `id` and the body `body`.
+/// They are the Element, and the header of a Void over any bytes that are left; a single byte goes to the size field.
+/// Returns None if the shortest Element is longer than `room`.
 #[tactic(auto, using(crate::proofs::SpanLemmas::fits))]
 pub fn fit(alloc: Global, id: u32, body: &[u8], room: u64) -> Result<Option<Vec<u8>>, AllocError>
     requires id { IsTrue (is_id id) }

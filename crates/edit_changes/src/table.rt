@@ -15,6 +15,7 @@ use mkv_schema::ids::{
 #[derive(Clone, Copy)]
 pub struct Row(pub &'static str, pub Property);
 
+/// Properties of the Info that can be edited, after mkvpropedit
 const INFO_TABLE: [Row; 4] = [
     Row(
         "title",
@@ -50,6 +51,7 @@ const INFO_TABLE: [Row; 4] = [
     ),
 ];
 
+/// Properties of a track that can be edited, after mkvpropedit
 const TRACK_TABLE: [Row; 13] = [
     Row(
         "name",

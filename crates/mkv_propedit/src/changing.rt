@@ -22,7 +22,7 @@ use sidecar_edit::{Gate, state};
 use std::alloc::Global;
 
 /// Makes `change` in the file `name`, wholly or not at all, and prints the outcome. It opens the file and its journal
-/// on `disk`. A stop at any moment leaves both so that `recover` completes or drops the change.
+/// on `disk`. After a stop at any moment, `recover` gives the file as it was or wholly changed.
 pub fn change_file<D: Disk, R: Report>(
     alloc: Global,
     name: &str,

@@ -19,8 +19,8 @@ use mkv_lines::{CommandEnd, Status};
 use requests::Edit;
 use std::alloc::Global;
 
-/// Makes `edits` in the file `name`, all of them or none, and prints the outcome. A stop at any moment leaves the file
-/// and its journal so that `recover` completes or drops the edits.
+/// Makes `edits` in the file `name`, all of them or none, and prints the outcome. After a stop at any moment, `recover`
+/// gives the file as it was or with all edits.
 pub fn propedit_of<D: Disk, R: Report>(
     alloc: Global,
     name: &str,

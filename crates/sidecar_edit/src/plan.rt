@@ -9,6 +9,7 @@ use mkv_io::Bytes;
 use std::alloc::{AllocError, Global};
 use std::marker::Model;
 
+/// Zeros that fill the first bytes of a short file in a record
 const ZEROS: [u8; KEPT as usize] = [0; KEPT as usize];
 
 /// Planned writes over a file, as the record of a journal. The record identifies the file by its length and its first

@@ -11,6 +11,7 @@ use crate::lines::{behind_mark, next_line};
 use mkv_io::{List, Text};
 use std::alloc::{AllocError, Global};
 
+/// Nanoseconds in a millisecond
 const MILLISECOND: u64 = 1_000_000;
 
 /// Simple chapter of a file: its start in nanoseconds and its name.

@@ -8,10 +8,13 @@ use itoa::Buffer;
 use mkv_io::Bytes;
 use std::alloc::AllocError;
 
+/// Milliseconds in a second
 const SECOND: u64 = 1_000;
 
+/// Milliseconds in a minute
 const MINUTE: u64 = 60_000;
 
+/// Milliseconds in an hour
 const HOUR: u64 = 3_600_000;
 
 /// Piece of a text file that is written.

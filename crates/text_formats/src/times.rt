@@ -7,6 +7,7 @@ ghost use Rattle.text_formats.specs.Times as spec;
 
 use crate::fields::{behind, cut, digits, minutes_or_seconds};
 
+/// Nanoseconds in a millisecond
 const MILLISECOND: u64 = 1_000_000;
 
 /// Start and end of an entry, in nanoseconds.

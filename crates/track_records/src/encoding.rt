@@ -32,9 +32,10 @@ const HEADER_STRIPPING: u64 = 3;
 /// Greatest number of bytes that may be restored before a frame
 const MAX_STRIPPED: usize = 4096;
 
-/// 1.0 as a float of four and of eight bytes (RFC 8794, section 7.3, Float)
+/// 1.0 as a float of four bytes (RFC 8794, section 7.3, Float)
 const ONE_IN_4: [u8; 4] = [0x3F, 0x80, 0, 0];
 
+/// 1.0 as a float of eight bytes
 const ONE_IN_8: [u8; 8] = [0x3F, 0xF0, 0, 0, 0, 0, 0, 0];
 
 // ---- one ContentEncoding

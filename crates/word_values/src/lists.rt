@@ -27,6 +27,7 @@ trait Piece {
         ensures { result ≡ spelled word.now };
 }
 
+/// Form of an item that is a decimal number, such as a track ID
 struct NumberPiece;
 
 impl Piece for NumberPiece {
@@ -40,6 +41,7 @@ impl Piece for NumberPiece {
     }
 }
 
+/// Form of an item that is a time
 struct TimePiece;
 
 impl Piece for TimePiece {
@@ -53,6 +55,7 @@ impl Piece for TimePiece {
     }
 }
 
+/// Form of an item that is an identifier of 32 hexadecimal digits
 struct UuidPiece;
 
 impl Piece for UuidPiece {
@@ -66,6 +69,7 @@ impl Piece for UuidPiece {
     }
 }
 
+/// Form of an item that is a period, `a-b` or `a-`
 struct SpanPiece;
 
 impl Piece for SpanPiece {

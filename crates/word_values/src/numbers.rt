@@ -8,8 +8,10 @@ ghost use Rattle.requests.specs.Decimal.{below};
 
 use requests::{number, whole};
 
+/// Nanoseconds in a second
 const SECOND: u64 = 1_000_000_000;
 
+/// Nanoseconds in a millisecond
 const MILLISECOND: u64 = 1_000_000;
 
 /// Times of at least this number of nanoseconds are refused as too large.
