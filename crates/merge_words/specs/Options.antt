@@ -38,6 +38,7 @@ table =
     option (codes "") (codes "--split") s.Split Output f.Split ∷
     option (codes "") (codes "--segment-uid") s.Uuids Output f.Uuids ∷
     option (codes "") (codes "--link") s.Link Output f.Flag ∷
+    option (codes "") (codes "--duration") s.Duration Output f.Flag ∷
     option (codes "") (codes "--append-damaged") s.AppendDamaged Output f.Flag ∷
     option (codes "-J") (codes "") s.Identify Output f.Flag ∷
     option (codes "-a") (codes "--audio-tracks") s.Audio File f.Ids ∷

@@ -51,5 +51,6 @@ merge_words items = record {
   files = files items;
   uuids = uuids_in items;
   link = stands subject.Link items;
+  duration = stands subject.Duration items;
   append_damaged = stands subject.AppendDamaged items;
 }

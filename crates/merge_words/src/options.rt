@@ -17,6 +17,7 @@ pub enum Subject {
     Split,
     Uuids,
     Link,
+    Duration,
     AppendDamaged,
     Identify,
     Audio,
@@ -79,7 +80,7 @@ pub struct OptionRow(
 );
 
 #[rattlefmt::skip]
-static MERGE_OPTIONS: [OptionRow; 36] = [
+static MERGE_OPTIONS: [OptionRow; 37] = [
     OptionRow("-o", "--output", Subject::Output, Scope::Output, ValueForm::Name),
     OptionRow("-w", "--webm", Subject::Webm, Scope::Output, ValueForm::Flag),
     OptionRow("", "--title", Subject::Title, Scope::Output, ValueForm::Text),
@@ -89,6 +90,7 @@ static MERGE_OPTIONS: [OptionRow; 36] = [
     OptionRow("", "--split", Subject::Split, Scope::Output, ValueForm::Split),
     OptionRow("", "--segment-uid", Subject::Uuids, Scope::Output, ValueForm::Uuids),
     OptionRow("", "--link", Subject::Link, Scope::Output, ValueForm::Flag),
+    OptionRow("", "--duration", Subject::Duration, Scope::Output, ValueForm::Flag),
     OptionRow("", "--append-damaged", Subject::AppendDamaged, Scope::Output, ValueForm::Flag),
     OptionRow("-J", "", Subject::Identify, Scope::Output, ValueForm::Flag),
     OptionRow("-a", "--audio-tracks", Subject::Audio, Scope::File, ValueForm::Ids),

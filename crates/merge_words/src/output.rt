@@ -35,6 +35,7 @@ pub(crate) fn merge_words(alloc: Global, items: &[Item]) -> Result<MergeWords, A
         files: files(alloc, items)?,
         uuids: uuids_in(alloc, items)?,
         link: stands(Subject::Link, items),
+        duration: stands(Subject::Duration, items),
         append_damaged: stands(Subject::AppendDamaged, items),
     })
 }

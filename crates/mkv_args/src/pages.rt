@@ -54,7 +54,7 @@ pub(crate) const INFO_PAGE: [&str; 11] = [
 
 /// The page of `merge`.
 #[rattlefmt::skip]
-pub(crate) const MERGE_PAGE: [&str; 90] = [
+pub(crate) const MERGE_PAGE: [&str; 92] = [
     "usage: mkvsuite merge -o OUT [OUTPUT OPTIONS] [FILE OPTIONS] FILE",
     "                      [[+] [FILE OPTIONS] FILE]..",
     "       mkvsuite merge -J FILE",
@@ -62,7 +62,8 @@ pub(crate) const MERGE_PAGE: [&str; 90] = [
     "Copies the video, audio and subtitle tracks of up to 64 Matroska, WebM and",
     "SubRip (.srt) files into OUT, or splits them into parts. Frames don't change.",
     "File and track options come before their FILE and apply to it only; output",
-    "options may be anywhere. An existing OUT is replaced. No Duration is written.",
+    "options may be anywhere. An existing OUT is replaced. A Duration is written",
+    "only with --duration.",
     "",
     "  +                             append the next FILE to the previous one",
     "  output options:",
@@ -81,6 +82,7 @@ pub(crate) const MERGE_PAGE: [&str; 90] = [
     "                                (default: none)",
     "    --link                      store the UUIDs of the previous and next part",
     "                                in each part; requires --segment-uid",
+    "    --duration                  write the Duration of each output",
     "    --append-damaged            go on with the next appended file if damage",
     "                                ends the reading of one (default: stop)",
     "    -J                          print what FILE contains as JSON; only as",

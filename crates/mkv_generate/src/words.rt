@@ -76,6 +76,7 @@ fn plain_words(
         files,
         uuids: List::new(alloc),
         link: false,
+        duration: false,
         append_damaged: false,
     })
 }

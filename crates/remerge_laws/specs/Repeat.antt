@@ -26,7 +26,7 @@ use Rattle.remerge_laws.specs.Limits.{IsWithinLimits}
 use Rattle.remerge_laws.specs.Plain.{plain_merge}
 use Rattle.remerge_laws.specs.Whole.{whole_document}
 
--- The command line `words` asks for no WebM, cue points, parts or identifiers, and for the default ticks and Clusters.
+-- The command line `words` asks for no WebM, cue points, parts, identifiers or Duration, and for the default ticks and Clusters.
 pub record IsDefault (words : MergeWords) : Type 0 where
   pub webm : words.webm ≡ false
   pub scale : words.scale ≡ 1000000
@@ -34,6 +34,7 @@ pub record IsDefault (words : MergeWords) : Type 0 where
   pub span : words.span ≡ 5000000000
   pub split : words.split ≡ None
   pub uuids : words.uuids ≡ []
+  pub duration : words.duration ≡ false
   pub cues : All (λ (f : FileWords). f.cues ≡ []) words.files
 
 -- The sources of the merge `words` are plain: only the types of their tracks decide on cue points, and the title has no zero byte.

@@ -56,5 +56,6 @@ plain_words output split files = record {
   files = files;
   uuids = [];
   link = false;
+  duration = false;
   append_damaged = false;
 }

@@ -77,6 +77,8 @@ pub struct MergeWords {
     pub uuids: List<u128>,
     /// Each output names the SegmentUUIDs of the previous and the next one
     pub link: bool,
+    /// Each output gets a Duration.
+    pub duration: bool,
     /// Files that are appended to a damaged one are read, too.
     pub append_damaged: bool,
 }

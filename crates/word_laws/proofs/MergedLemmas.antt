@@ -139,6 +139,9 @@ module _ (w : MergeWords) (is : IsSpellableMerge w) where
   link_is : stands subject.Link (all_items w) ≡ w.link
   link_is = out_stands w subject.Link (λ f. refl) refl ∙ flag_stands (codes "--link") Flag w.link
 
+  duration_is : stands subject.Duration (all_items w) ≡ w.duration
+  duration_is = out_stands w subject.Duration (λ f. refl) refl ∙ flag_stands (codes "--duration") Flag w.duration
+
   append_damaged_is : stands subject.AppendDamaged (all_items w) ≡ w.append_damaged
   append_damaged_is = out_stands w subject.AppendDamaged (λ f. refl) refl ∙ flag_stands (codes "--append-damaged") Flag w.append_damaged
 
@@ -166,7 +169,7 @@ unfolding said_by
 said_is w sound is =
     let some = sound.files.least in
     rw (webm_is w is) (rw (title_is w is) (rw (chapters_is w is) (rw (scale_is w is) (rw (blocks_is w is) (rw (span_is w is)
-    (rw (split_is w is) (rw (parted_files (all_items w) ∙ all_files w w.files (omega arith) is.files) (rw (uuids_is w is) (rw (link_is w is) (rw (append_damaged_is w is) refl))))))))))
+    (rw (split_is w is) (rw (parted_files (all_items w) ∙ all_files w w.files (omega arith) is.files) (rw (uuids_is w is) (rw (link_is w is) (rw (duration_is w is) (rw (append_damaged_is w is) refl)))))))))))
 
 -- ---- arguments are read as the items
 since_all : (fs : List FileWords) (before : List Item) (at : ℕ) → since_file before ≡ [] → since_file (before ++ files_items at fs) ≡ []

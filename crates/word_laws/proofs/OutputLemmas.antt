@@ -102,6 +102,7 @@ output_pieces w =
     record { subject = subject.Split; scope = scope.Output; said = said_split w } ∷
     record { subject = subject.Uuids; scope = scope.Output; said = said_uuids w.uuids } ∷
     record { subject = subject.Link; scope = scope.Output; said = said_flag (codes "--link") Flag w.link } ∷
+    record { subject = subject.Duration; scope = scope.Output; said = said_flag (codes "--duration") Flag w.duration } ∷
     record { subject = subject.AppendDamaged; scope = scope.Output; said = said_flag (codes "--append-damaged") Flag w.append_damaged } ∷ []
 
 output_spelled : (w : MergeWords) → piece_words (output_pieces w) ≡ parts_joined (output_options w)
@@ -115,6 +116,7 @@ output_spelled w = pieces_spelled (output_pieces w) (output_options w) (
     value_words (codes "--split") split_word Split w.split &
     uuids_spelled w.uuids &
     flag_words (codes "--link") Flag w.link &
+    flag_words (codes "--duration") Flag w.duration &
     flag_words (codes "--append-damaged") Flag w.append_damaged &
     tt)
 
@@ -146,18 +148,19 @@ output_readable w sound is = (
     (λ x same. let both = split_sound w.split x sound.split is.split same in split_value_read x both.0 both.1) &
     uuids_readable w.uuids (refl, refl) sound.uuids is.uuids &
     flag_readable subject.Link scope.Output (codes "--link") w.link (refl, refl) &
+    flag_readable subject.Duration scope.Output (codes "--duration") w.duration (refl, refl) &
     flag_readable subject.AppendDamaged scope.Output (codes "--append-damaged") w.append_damaged (refl, refl) &
     tt)
 
 pub output_read : (w : MergeWords) (count : ℕ) (rest : List (List ℕ)) → IsSoundMerge w → IsSpellableMerge w
     → read_all count [] (starts 1 (parts_joined (output_options w) ++ rest)) ≡ read_all count (piece_items 1 (output_pieces w)) (starts (after_pieces 1 (output_pieces w)) rest)
 output_read w count rest sound is =
-    let read = pieces_read (output_pieces w) count [] 1 rest refl refl (output_readable w sound is) (refl, (refl, (refl, (refl, (refl, (refl, (refl, (refl, (refl, (refl, tt)))))))))) in
+    let read = pieces_read (output_pieces w) count [] 1 rest refl refl (output_readable w sound is) (refl, (refl, (refl, (refl, (refl, (refl, (refl, (refl, (refl, (refl, (refl, tt))))))))))) in
     subst (λ ws. read_all count [] (starts 1 (ws ++ rest)) ≡ read_all count (piece_items 1 (output_pieces w)) (starts (after_pieces 1 (output_pieces w)) rest)) (output_spelled w) read
 
 -- ---- the pieces have no subject of a file
 pub ids_none : (w : MergeWords) (at : ℕ) → flat_map (λ (i : Item). ids_of i.value) (piece_items at (output_pieces w)) ≡ []
-ids_none w at = ids_part (output_pieces w) ([] ∷ [] ∷ [] ∷ [] ∷ [] ∷ [] ∷ [] ∷ [] ∷ [] ∷ [] ∷ []) at (
+ids_none w at = ids_part (output_pieces w) ([] ∷ [] ∷ [] ∷ [] ∷ [] ∷ [] ∷ [] ∷ [] ∷ [] ∷ [] ∷ [] ∷ []) at (
     refl &
     flag_ids (codes "--webm") w.webm &
     value_ids (codes "--title") (λ t. t) Text w.title (λ x. refl) &
@@ -167,5 +170,6 @@ ids_none w at = ids_part (output_pieces w) ([] ∷ [] ∷ [] ∷ [] ∷ [] ∷ [
     value_ids (codes "--split") split_word Split w.split (λ x. refl) &
     uuids_ids w.uuids &
     flag_ids (codes "--link") w.link &
+    flag_ids (codes "--duration") w.duration &
     flag_ids (codes "--append-damaged") w.append_damaged &
     tt)

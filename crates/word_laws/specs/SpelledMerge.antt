@@ -55,6 +55,7 @@ output_options words =
     with_value (codes "--split") (option_map split_word words.split) ∷
     with_value (codes "--segment-uid") (uuids_word words.uuids) ∷
     flag (codes "--link") words.link ∷
+    flag (codes "--duration") words.duration ∷
     flag (codes "--append-damaged") words.append_damaged ∷ []
 
 -- the arguments of each option for the file `file` and its tracks, in canonical order; none for a default
