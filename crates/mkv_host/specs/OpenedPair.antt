@@ -1,29 +1,29 @@
--- A film, which is edited in place, and its journal, as far as the code knows them: names and lengths.
+-- A file that is edited in place and its journal, as far as the code knows them: names and lengths.
 use Rattle.std.specs.Prelude.{List, ℕ, ◌≤◌, zero, suc, Bool, true, false, Option, Some, None}
 use Rattle.std.proofs.Common.{arith}
 use Rattle.mkv_io.specs.LiveFiles.{LiveFiles}
 use Rattle.mkv_host.specs.declared.pair.OpenPair.{OpenPair}
 use Rattle.mkv_io.specs.declared.outside.TheConstants.{LONGEST_FILE}
 
--- The file with the number `n` is open: the film has the number 0, its journal 1.
+-- The file with the number `n` is open: the edited file has the number 0, its journal 1.
 abbrev pub is_live : Option OpenPair → ℕ → Bool
 is_live None n = false
 is_live (Some pair) zero = true
 is_live (Some pair) (suc zero) = true
 is_live (Some pair) (suc (suc n)) = false
 
--- the length in bytes of the file with the number `n`: 0 for the film, 1 for its journal
+-- the length in bytes of the file with the number `n`: 0 for the edited file, 1 for its journal
 abbrev pub size_in : Option OpenPair → ℕ → ℕ
 size_in None n = 0
 size_in (Some pair) zero = pair.media.size
 size_in (Some pair) (suc zero) = pair.sidecar.size
 size_in (Some pair) (suc (suc n)) = 0
 
--- the film and its journal with their lengths, if they are open; their contents aren't visible to the proof
+-- the edited file and its journal in `pair` with their lengths, if they are open; their contents aren't visible to the proof
 abbrev pub live_in : Option OpenPair → LiveFiles
 live_in pair = record { live = is_live pair; size = size_in pair; content = λ _. None }
 
--- the name of the film that is open with its journal, if one is
+-- the name of the edited file that is open with its journal, if one is
 abbrev pub name_in : Option OpenPair → Option (List ℕ)
 name_in None = None
 name_in (Some pair) = Some pair.media.name

@@ -1,4 +1,4 @@
-//! Calls of the system that open a film, the file that is edited in place, and its journal (FILE.mkvedit).
+//! Calls of the system that open a file to edit it in place, and its journal (FILE.mkvedit).
 
 ghost use Rattle.std.specs.Prelude.{◌≡◌, ◌↔◌, pos, ◌<ℤ◌, IfOk, IsTrue};
 ghost use Rattle.std.specs.Fd.{file_raw_fd};
@@ -19,9 +19,9 @@ use std::{fs, io};
 /// Folder of this process in /proc; its owner is the user who runs the program.
 const THIS_PROCESS: &str = "/proc/self";
 
-/// Opens the regular file `name`, a film, to read and write it, and locks it. Refuses a link, a file that another
-/// process has locked, one that has lost the name meanwhile, and one that is open as standard output. Anything but a
-/// regular file isn't opened, since that may wait for ever.
+/// Opens the regular file `name`, to be edited, for reading and writing, and locks it. Refuses a link, a file that
+/// another process has locked, one that has lost the name meanwhile, and one that is open as standard output. Anything
+/// but a regular file isn't opened, since that may wait for ever.
 pub fn open_media<R: fs::Files<File = File>>(
     system: &R,
     name: Text,
@@ -60,9 +60,9 @@ fn measured(file: File, name: Text, found: &Metadata) -> io::Result<OpenFile>
     Ok(OpenFile { file, name, size })
 }
 
-/// Opens the journal `name` of the film `media` to read and write it. If there is none, it makes an empty one with the
-/// film's owner and mode (`share_new`). An existing journal must be a regular file with no other name. It must not be
-/// the film itself, nor a stranger's.
+/// Opens the journal `name` of the edited file `media` to read and write it. If there is none, it makes an empty one
+/// with the owner and mode of `media` (`share_new`). An existing journal must be a regular file with no other name. It
+/// must not be the edited file, nor a stranger's.
 pub fn open_sidecar<R: fs::Files<File = File>>(
     system: &R,
     name: Text,
@@ -83,8 +83,8 @@ pub fn open_sidecar<R: fs::Files<File = File>>(
     }
 }
 
-/// Opens the journal `name` of the film `media`, which exists. Refuses a link, a file with several names, the film
-/// itself, and a stranger's file.
+/// Opens the journal `name` of the edited file `media`, which exists. Refuses a link, a file with several names, the
+/// edited file, and a stranger's file.
 fn open_existing<R: fs::Files<File = File>>(
     system: &R,
     name: Text,
@@ -105,8 +105,8 @@ fn open_existing<R: fs::Files<File = File>>(
     measured(file, name, &found)
 }
 
-/// Checks whether neither the owner of the film `media` nor the user of this process owns the journal `sidecar`.
-/// Whoever may write the folder may have made such a journal, and its record would be written into the film.
+/// Checks whether neither the owner of the edited file `media` nor the user of this process owns the journal `sidecar`.
+/// Whoever may write the folder may have made such a journal, and its record would be written into the edited file.
 fn is_strangers<R: fs::Files<File = File>>(
     system: &R,
     sidecar: &Metadata,
@@ -138,7 +138,7 @@ pub fn settle_folder<R: fs::Files<File = File>>(system: &R, name: &str) -> io::R
     }
 }
 
-/// Checks whether the error means that the file system can't sync a folder.
+/// Checks whether an error of the kind `kind` means that the file system can't sync a folder.
 fn is_unsynced(kind: ErrorKind) -> bool
     ensures { IsTrue result ↔ IsUnsynced kind }
 {

@@ -1,6 +1,6 @@
 #![tactic(auto)]
 
-//! The program's access to the system: the files that it reads and writes, a film and its journal for edits in place,
+//! The program's access to the system: the files that it reads and writes, a file and its journal for edits in place,
 //! and standard output. Contents of files and folders aren't visible to the proof. It is trusted that the system keeps
 //! the bytes that are written.
 

@@ -26,8 +26,8 @@ pub fn own(file: &File) -> io::Result<()> {
     unless_held(file.try_lock())
 }
 
-/// Ignores every failure of a lock, except that another run holds it. An edit fails on such a failure, or knows that
-/// the file system has no locks.
+/// Ignores every failure of a lock in `outcome`, except that another run holds it. An edit fails on such a failure, or
+/// knows that the file system has no locks.
 fn unless_held(outcome: Result<(), TryLockError>) -> io::Result<()> {
     match outcome {
         Err(TryLockError::WouldBlock) => Err(ErrorKind::WouldBlock.into()),

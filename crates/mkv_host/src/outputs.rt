@@ -24,7 +24,7 @@ pub struct Output {
     ghost above: { pos 2 <ℤ file_raw_fd file },
 }
 
-/// Returns the node of the regular file `name`, if a file has this name. Anything but a regular file is refused.
+/// Returns the identity of the regular file `name`, if a file has this name. Anything but a regular file is refused.
 pub fn node_at<R: fs::Files<File = File>>(system: &R, name: &str) -> io::Result<Option<Node>> {
     match fs::metadata(system, name) {
         Ok(found) => Ok(Some(node_of(&found)?)),
@@ -196,8 +196,8 @@ pub fn set_mode(file: &File, mode: u32) -> io::Result<()> {
     unless_refused(file.set_permissions(Permissions::from_mode(mode)))
 }
 
-/// Ignores that the process may not set an owner or mode, that the file system doesn't keep it, or that the owner
-/// doesn't exist here.
+/// Makes the result `outcome` a success if it is a failure that may be ignored. The process may not set an owner or
+/// mode, the file system doesn't keep it, or the owner doesn't exist here.
 fn unless_refused(outcome: io::Result<()>) -> io::Result<()> {
     match outcome {
         Err(error) if is_refusal(error.kind()) => Ok(()),
@@ -205,8 +205,8 @@ fn unless_refused(outcome: io::Result<()>) -> io::Result<()> {
     }
 }
 
-/// Checks whether the error of setting an owner or a mode may be ignored: it isn't permitted, not supported, or not
-/// valid here.
+/// Checks whether a failure of the kind `kind` to set an owner or a mode may be ignored. It isn't permitted, not
+/// supported, or not valid here.
 fn is_refusal(kind: ErrorKind) -> bool {
     matches!(
         kind,

@@ -1,4 +1,4 @@
-//! A film, the file that is edited in place, open with its journal.
+//! The file that is edited in place, open with its journal.
 
 ghost use Rattle.std.specs.Prelude.{◌≡◌, ◌≤◌, pos, ◌<ℤ◌};
 ghost use Rattle.std.specs.Fd.{file_raw_fd};
@@ -18,7 +18,8 @@ pub struct OpenFile {
     ghost short: { size ≤ LONGEST_FILE },
 }
 
-/// Film and its journal, and whether this run has written to each. While the pair is open, it holds the film's lock.
+/// The file that is edited and its journal, and whether this run has written to each. While the pair is open, it holds
+/// the edited file's lock.
 #[derive(Drop)]
 pub struct OpenPair {
     pub media: OpenFile,

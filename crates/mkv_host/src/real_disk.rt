@@ -1,4 +1,4 @@
-//! A film and its journal on the system's disk, for edits in place.
+//! A file that is edited in place and its journal, on the system's disk.
 
 ghost use Rattle.std.specs.Prelude.{◌≡◌, ◌≢◌, ◌≤◌, ℕ, ◌+◌, max, Option, Some, None, IsTrue, IfOk};
 ghost use Rattle.mkv_io.specs.Faults.{HasIncreased, counted};
@@ -19,8 +19,9 @@ use std::fs::{File, Metadata};
 use std::os::unix::fs::FileExt;
 use std::{fs, io};
 
-/// Film and its journal on the system's disk. A sync makes a file's bytes and its length durable. When a pair is
-/// opened, both files are synced before anything is read, so that the bytes that are read are on the disk.
+/// The file that is edited and its journal on the system's disk. A sync makes a file's bytes and its length durable.
+/// When a pair is opened, both files are synced before anything is read, so that the bytes that are read are on the
+/// disk.
 #[derive(Drop)]
 pub struct RealDisk<'a, R: fs::Files<File = File>> {
     alloc: Global,
@@ -32,7 +33,7 @@ pub struct RealDisk<'a, R: fs::Files<File = File>> {
 }
 
 impl<'a, R: fs::Files<File = File>> RealDisk<'a, R> {
-    /// Returns a disk without an open pair.
+    /// Returns a disk over the calls of `system`, without an open pair.
     pub fn new(alloc: Global, system: &'a R) -> RealDisk<'a, R>
         ensures { result.pair ≡ None }
     {
@@ -55,7 +56,7 @@ fn note_failure(count: &mut u64)
     *count = count.saturating_add(1);
 }
 
-/// Returns the film or the journal of the open pair, by its number `file`.
+/// Returns the edited file or the journal of the open pair, by its number `file`.
 fn file_of(pair: &Option<OpenPair>, file: FileId) -> &OpenFile
     requires { IsTrue (is_live pair.now file.n) }
     ensures { result.now.size ≡ size_in pair.now file.n }
@@ -67,8 +68,8 @@ fn file_of(pair: &Option<OpenPair>, file: FileId) -> &OpenFile
     }
 }
 
-/// Checks whether `file` of the pair may be written. Until this run changes the film, the film must have the length
-/// with which it was opened, and its name. After the journal has its record, the film is changed even if another file
+/// Checks whether `file` of the pair may be written. Until this run changes the edited file, that file must have its
+/// name and the length with which it was opened. After the journal has its record, it is changed even if another file
 /// has its name by then.
 fn is_as_opened<R: fs::Files<File = File>>(
     system: &R,
@@ -101,8 +102,8 @@ fn is_named<R: fs::Files<File = File>>(system: &R, name: &str, open: &Metadata) 
 }
 
 /// Lets only the owner read the journal before the first write of a record to it. The write is to `file` and ends at
-/// the offset `end`; any other changes nothing. The record has bytes of the film, which others may not be allowed to
-/// read.
+/// the offset `end`; any other changes nothing. The record has bytes of the edited file, which others may not be
+/// allowed to read.
 fn hide_record(pair: &Option<OpenPair>, file: FileId, end: u64) -> io::Result<()> {
     match pair {
         Some(open) if file != MEDIA && open.sidecar.size <= 1 && end > 1 => {
@@ -120,7 +121,7 @@ fn show_quiet(sidecar: &OpenFile, media: &OpenFile) {
     }
 }
 
-/// Notes that `file` of the pair, the film or the journal, now has `size` bytes.
+/// Notes that `file` of the pair, the edited file or the journal, now has `size` bytes.
 fn resize(pair: &mut Option<OpenPair>, file: FileId, size: u64)
     requires live { IsTrue (is_live pair.old file.n) }
     requires short { size ≤ LONGEST_FILE }
@@ -140,7 +141,7 @@ fn resize(pair: &mut Option<OpenPair>, file: FileId, size: u64)
     }
 }
 
-/// Returns a copy of `name`, a film's, and the name of its journal.
+/// Returns a copy of `name`, the name of an edited file, and the name of its journal.
 fn names(alloc: Global, name: &str) -> Result<(Text, Text), AllocError>
     ensures { IfOk result (λ names. (names.0 ≡ name.now) × (names.1 ≡ sidecar_of name.now)) }
 {
@@ -149,8 +150,8 @@ fn names(alloc: Global, name: &str) -> Result<(Text, Text), AllocError>
     Ok((media, sidecar_name(alloc, name)?))
 }
 
-/// Opens the film `name` and the journal `sidecar`, which is created if it doesn't exist, and syncs both and their
-/// folder.
+/// Opens the edited file `name` and the journal `sidecar`, which is created if it doesn't exist, and syncs both and
+/// their folder.
 fn open_both<R: fs::Files<File = File>>(
     system: &R,
     name: Text,
@@ -201,12 +202,13 @@ impl<'a, R: fs::Files<File = File>> Reads for RealDisk<'a, R> {
 
     ghost short = { λ disk file live. short-of_size disk.pair file };
 
-    /// Returns the length of the film or the journal, in bytes.
+    /// Returns the length of `file`, the edited file or the journal, in bytes.
     fn size(&self, file: FileId) -> u64 {
         file_of(&self.pair, file).size
     }
 
-    /// Fills `into` with the bytes of the film or the journal from the offset `at` on, by reads of the system.
+    /// Fills `into` with the bytes of `file`, the edited file or the journal, from the offset `at` on, by reads of the
+    /// system.
     fn read_at(&mut self, file: FileId, at: u64, into: &mut [u8]) -> Result<(), Failed> {
         let length = into.len() as u64;
         if file_of(&self.pair, file)
@@ -260,7 +262,8 @@ impl<'a, R: fs::Files<File = File>> Disk for RealDisk<'a, R> {
 
     ghost writing_stands = { λ a b same. ap (λ (s : Option OpenPair × ℕ). s.1) same };
 
-    /// Opens the film `name` and its journal, which is created if there is none. Another pair that is open is closed.
+    /// Opens the edited file `name` and its journal, which is created if there is none. Another pair that is open is
+    /// closed.
     fn open_pair(&mut self, name: &str) -> Result<(), OpenFault> {
         let (media, sidecar) = names(self.alloc, name)?;
         match open_both(self.system, media, sidecar) {
@@ -276,7 +279,8 @@ impl<'a, R: fs::Files<File = File>> Disk for RealDisk<'a, R> {
         }
     }
 
-    /// Writes `bytes` to the film or the journal from the offset `at` on. Fails if its name has become another file.
+    /// Writes `bytes` to `file`, the edited file or the journal, from the offset `at` on. Fails if its name has become
+    /// another file.
     fn write_at(&mut self, file: FileId, at: u64, bytes: &[u8]) -> Result<(), Failed> {
         let open = file_of(&self.pair, file);
         let len = bytes.len() as u64;
@@ -297,7 +301,7 @@ impl<'a, R: fs::Files<File = File>> Disk for RealDisk<'a, R> {
         Ok(())
     }
 
-    /// Truncates the film or the journal to `len` bytes. Fails if its name has become another file.
+    /// Truncates `file`, the edited file or the journal, to `len` bytes. Fails if its name has become another file.
     fn cut(&mut self, file: FileId, len: u64) -> Result<(), Failed> {
         if len > LONGEST_FILE
             || !is_as_opened(self.system, &self.pair, file)
@@ -310,7 +314,7 @@ impl<'a, R: fs::Files<File = File>> Disk for RealDisk<'a, R> {
         Ok(())
     }
 
-    /// Syncs the film or the journal with the device.
+    /// Syncs `file`, the edited file or the journal, with the device.
     fn sync(&mut self, file: FileId) -> Result<(), Failed> {
         if file_of(&self.pair, file).file.sync_all().is_err() {
             note_failure(&mut self.writing_faults);

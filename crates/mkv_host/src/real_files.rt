@@ -38,7 +38,7 @@ pub struct RealFiles<'a, R: fs::Files<File = File>> {
 }
 
 impl<'a, R: fs::Files<File = File>> RealFiles<'a, R> {
-    /// Returns the files of the system; none is opened or created yet.
+    /// Returns the files over the calls of `system`; none is opened or created yet.
     pub fn new(alloc: Global, system: &'a R) -> RealFiles<'a, R>
         ensures none_open { result.opened.items ≡ [] }
         ensures none_asked { result.asked.items ≡ [] }

@@ -14,7 +14,7 @@ pub struct RealReport<'a, R: Print> {
 }
 
 impl<'a, R: Print> RealReport<'a, R> {
-    /// Returns standard output; no line has failed.
+    /// Returns standard output over the calls of `system`; no line has failed.
     pub fn new(system: &'a R) -> RealReport<'a, R>
         ensures { result.faults ≡ 0 }
     {

@@ -5,15 +5,17 @@ use std::fs::{File, Metadata};
 use std::io;
 use std::os::unix::fs::MetadataExt;
 
-/// Mode bits that a journal without a record takes from its film, if both have the same owner: others may read it.
+/// Mode bits that a journal without a record takes from its edited file, if both have the same owner: others may read
+/// it.
 pub const QUIET: u32 = 0o744;
 
-/// Mode bits that a journal with a record takes from its film, if both have the same owner: only the owner may read
-/// it. With an access list, the group bits of a film are the list's mask, which may exceed the rights of its group.
+/// Mode bits that a journal with a record takes from its edited file, if both have the same owner: only the owner may
+/// read it. With an access list, the group bits of the file are the list's mask, which may exceed the rights of its
+/// group.
 pub const HOLDING: u32 = 0o700;
 
-/// Gives the new journal `sidecar` the owner and group of the film `media`, as far as the system permits, and its mode.
-/// The mode is reduced to the bits `QUIET` if the film's owner owns the journal.
+/// Gives the new journal `sidecar` the owner and group of the edited file `media`, as far as the system permits, and
+/// its mode. The mode is reduced to the bits `QUIET` if the edited file's owner owns the journal.
 pub fn share_new(sidecar: &File, media: &Metadata) -> io::Result<()> {
     copy_owner(sidecar, media)?;
     let is_owners = sidecar.metadata()?.uid() == media.uid();
@@ -21,8 +23,8 @@ pub fn share_new(sidecar: &File, media: &Metadata) -> io::Result<()> {
     set_mode(sidecar, media.mode() & bits)
 }
 
-/// Gives the journal `sidecar` the bits `bits` of the mode of the film `media`, if both have the same owner and the
-/// system permits it. A journal that has this mode already isn't touched.
+/// Gives the journal `sidecar` the bits `bits` of the mode of the edited file `media`, if both have the same owner.
+/// Ignores that the system doesn't permit it. A journal that has this mode already isn't touched.
 pub fn share_bits(sidecar: &File, media: &File, bits: u32) -> io::Result<()> {
     let found = sidecar.metadata()?;
     let film = media.metadata()?;
