@@ -33,7 +33,7 @@ fits (Typed kind k) n = id_of n == TRACK_ENTRY && type_of n == kind
 fits (Uid uid) n = id_of n == TRACK_ENTRY && uid_of n == uid
 fits (Number number) n = id_of n == TRACK_ENTRY && number_of n == number
 
--- the position, from 1, of the TrackEntry that a selector names, among the TrackEntries of the same kind; 0 for the Info
+-- the position, from 1, of the TrackEntry that a selector names, among the TrackEntries that fit it; 0 for the Info
 abbrev pub turn_of : Selector → ℕ
 turn_of Info = 0
 turn_of (Nth k) = k
@@ -129,10 +129,10 @@ edited_from k (e ∷ es) t = and_then (numbered (k + 1) (edited_once e t)) (edit
 abbrev pub edited_trees : List Edit → Trees → Result Trees Refusal
 edited_trees edits t = edited_from 0 edits t
 
--- One of the edits is of the Info, which is then written again even if nothing changes.
+-- One of `edits` is of the Info, which is then written again even if nothing changes.
 abbrev pub are_of_info : List Edit → Bool
 are_of_info edits = list_any (λ (e : Edit). is_info e.place) edits
 
--- One of the edits is of a track. Tracks is then written again even if nothing changes.
+-- One of `edits` is of a track. Tracks is then written again even if nothing changes.
 abbrev pub are_of_tracks : List Edit → Bool
 are_of_tracks edits = list_any (λ (e : Edit). not (is_info e.place)) edits

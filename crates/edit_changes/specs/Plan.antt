@@ -61,7 +61,7 @@ part list nodes h = record {
 abbrev pub part_of : Bool → ℕ → List Header → List Node → List Part
 part_of written id list nodes = if written then option_map_or (λ h. part list nodes h ∷ []) (first_of id list) [] else []
 
--- the children of the Info, or none if there is no Info
+-- the children of the Info `info`, or none if there is no Info
 abbrev pub info_nodes : Option Node → List Node
 info_nodes info = option_map_or children info []
 
@@ -136,7 +136,7 @@ place_of head = option_map_or (λ s. s.header.offset) head 0
 abbrev pub seek_head : List ℕ → FileOutline → List Part → Option SeekHeadAt → Element
 seek_head ids o ps head = seek_head_with ids (seeks ids o ps) (option_map_or (λ s. s.seeks) head [])
 
--- the number of bytes of the Segment's size field
+-- the number of bytes of the size field in the Segment's header `segment`
 abbrev pub size_width : Header → ℕ
 size_width segment = segment.body - segment.offset - length (id_octets SEGMENT)
 
@@ -217,7 +217,7 @@ size_writes segment end =
     if is_unknown segment.size then []
     else write (segment.offset + length (id_octets SEGMENT)) (size_octets (end - segment.body) (size_width segment)) ∷ []
 
--- the number of bytes that the write of the Segment's size takes; 0 if its size is unknown
+-- the number of bytes that a write of the size of `segment` takes; 0 if its size is unknown
 abbrev pub size_length : Header → ℕ
 size_length segment = if is_unknown segment.size then 0 else size_width segment
 

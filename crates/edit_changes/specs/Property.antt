@@ -21,7 +21,7 @@ pub record Row : Type 0 where
   pub name : List ℕ
   pub property : Property
 
--- the row of a property with its name, its ID, its kind of value, and whether it may be deleted
+-- the row of a property with the name `name` on the command line, the Element ID `id` and the kind of value `kind`. It may be deleted if `deletable`.
 abbrev pub row : List ℕ → ℕ → ValueKind → Bool → Row
 row name id kind deletable = record { name = name; property = record { id = id; kind = kind; deletable = deletable } }
 
@@ -76,15 +76,15 @@ property_of info name = in_table name (table_of info)
 abbrev pub is_between : ℕ → ℕ → ℕ → Bool
 is_between least most n = nat_le least n && nat_le n most
 
--- The byte is a lower-case letter of ASCII.
+-- The byte `c` is a lower-case letter of ASCII.
 abbrev pub is_lower : ℕ → Bool
 is_lower c = is_between 0x61 0x7A c
 
--- The byte is a printable character of ASCII, or a space.
+-- The byte `c` is a printable character of ASCII, or a space.
 abbrev pub is_printable : ℕ → Bool
 is_printable c = is_between 0x20 0x7E c
 
--- The value has 1 to 63 printable ASCII characters.
+-- The value `octets` has 1 to 63 printable ASCII characters, as a CodecID.
 abbrev pub is_codec : List ℕ → Bool
 is_codec octets = is_between 1 63 (length octets) && list_all is_printable octets
 
@@ -101,19 +101,19 @@ where_number least most (Some n) = if is_between least most n then Some (uint_oc
 abbrev pub number_in : ℕ → ℕ → List ℕ → Option (List ℕ)
 number_in least most octets = where_number least most (number octets)
 
--- The byte isn't zero.
+-- The byte `c` isn't zero.
 abbrev pub is_not_zero : ℕ → Bool
 is_not_zero c = not (c == 0)
 
--- The value is UTF-8 without a zero byte.
+-- `value` is UTF-8 without a zero byte, as names and titles are.
 abbrev pub is_words : List ℕ → Bool
 is_words value = is_utf8 value && list_all is_not_zero value
 
--- The value consists of three lower-case letters.
+-- `value` is a language code of three lower-case letters.
 abbrev pub is_language : List ℕ → Bool
 is_language value = length value == 3 && list_all is_lower value
 
--- the body of the child Element for a value as it is on the command line, if it is a value of this kind
+-- the body of the child Element for the value `value` as it is on the command line, if it is a value of this kind
 abbrev pub value_of : ValueKind → List ℕ → Option (List ℕ)
 value_of Words value = where_text (is_words value) value
 value_of Language value = where_text (is_language value) value

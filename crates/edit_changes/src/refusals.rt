@@ -39,8 +39,8 @@ fn cluster_end(total: u64, last: Option<Header>) -> Option<u64>
     other_end(total, &last)
 }
 
-/// Returns the first end offset that prevents appending to the file, if any. It is the Segment's stated end, the last
-/// Cluster's, or the end of a Segment of unknown size, whichever isn't the file's end.
+/// Returns the first end offset that prevents appending to the file with this `outline`, if any. It is the Segment's
+/// stated end, the last Cluster's, or the end of a Segment of unknown size, whichever isn't the file's end.
 fn wrong_end(outline: &Outline) -> Option<u64>
     ensures { EndsFit outline.now → result ≡ plan.wrong_end outline.now }
 {
@@ -95,7 +95,7 @@ pub fn twin_refusal(outline: &Outline, id: u32) -> Option<Refusal>
     None
 }
 
-/// Returns the number of bytes of the Segment's size field, from its header.
+/// Returns the number of bytes of the size field in the Segment's header `segment`.
 #[tactic(auto, unfolding(ebml_numbers::specs::Number::is_id), using(crate::proofs::SpanLemmas::ids))]
 pub fn size_width(segment: &Header) -> u64
     ensures { result ≡ plan.size_width segment.now }

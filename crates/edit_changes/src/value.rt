@@ -22,56 +22,56 @@ fn is_between(least: u64, most: u64, n: u64) -> bool
     least <= n && n <= most
 }
 
-/// Checks whether a byte is a lower-case letter of ASCII.
+/// Checks whether the byte `octet` is a lower-case letter of ASCII.
 fn is_lower(octet: u8) -> bool
     ensures { result ≡ spec.is_lower octet }
 {
     octet.is_ascii_lowercase()
 }
 
-/// Checks whether a byte is printable ASCII or a space.
+/// Checks whether the byte `octet` is printable ASCII or a space.
 fn is_printable(octet: u8) -> bool
     ensures { result ≡ spec.is_printable octet }
 {
     0x20 <= octet && octet <= 0x7E
 }
 
-/// Checks whether no byte is zero.
+/// Checks whether no byte of `octets` is zero.
 fn has_no_zero(octets: &[u8]) -> bool
     ensures { result ≡ list_all spec.is_not_zero octets.now }
 {
     octets.iter().all(|&octet| octet != 0)
 }
 
-/// Checks whether all bytes are lower-case letters of ASCII.
+/// Checks whether all bytes of `octets` are lower-case letters of ASCII.
 fn are_lower(octets: &[u8]) -> bool
     ensures { result ≡ list_all spec.is_lower octets.now }
 {
     octets.iter().all(|&octet| is_lower(octet))
 }
 
-/// Checks whether all bytes are printable ASCII or spaces.
+/// Checks whether all bytes of `octets` are printable ASCII or spaces.
 fn are_printable(octets: &[u8]) -> bool
     ensures { result ≡ list_all spec.is_printable octets.now }
 {
     octets.iter().all(|&octet| is_printable(octet))
 }
 
-/// Checks whether a value is a text without a zero byte: the form of names and titles.
+/// Checks whether `value` is a text without a zero byte: the form of names and titles.
 fn is_words(value: &str) -> bool
     ensures { result ≡ spec.is_words value.now }
 {
     has_no_zero(value.as_bytes())
 }
 
-/// Checks whether a value is a language code of three lower-case letters.
+/// Checks whether `octets` are a language code of three lower-case letters.
 fn is_language(octets: &[u8]) -> bool
     ensures { result ≡ spec.is_language octets.now }
 {
     octets.len() == 3 && are_lower(octets)
 }
 
-/// Checks whether a value may be a CodecID: 1 to 63 printable bytes.
+/// Checks whether `octets` may be a CodecID: 1 to 63 printable bytes.
 fn is_codec(octets: &[u8]) -> bool
     ensures { result ≡ spec.is_codec octets.now }
 {

@@ -15,7 +15,8 @@ use mkv_io::{FileId, List, ReadEnd, Reads};
 use mkv_schema::ids::SEEK_HEAD;
 use std::alloc::Global;
 
-/// Returns the header of the first SeekHead at level 1, if it is before the first Cluster.
+/// Returns the header of the first SeekHead at level 1 of the file with this `outline`, if it is before the first
+/// Cluster.
 fn seek_head_in(outline: &Outline) -> Option<Header>
     ensures exact { result ≡ spec.seek_head_in outline.now }
     ensures inside { IfSome result (IsInFile outline.now.total) }

@@ -27,7 +27,7 @@ use mkv_io::{Bytes, LONGEST_FILE};
 use mkv_schema::ids::SEGMENT;
 use std::alloc::{AllocError, Global};
 
-/// Returns the children of the old SeekHead, or none if there is no SeekHead.
+/// Returns the children of the old SeekHead `head`, or none if there is no SeekHead.
 fn old_seeks(head: &Option<SeekHead>) -> &[Tree]
     ensures { result.now ≡ option_map_or (λ s. s.seeks) (option_map found head.now) [] }
 {
@@ -101,7 +101,8 @@ pub fn fitted_or_whole(
     }
 }
 
-/// Returns the number of bytes that a write of the Segment's size takes: its size field, or 0 if the size is unknown.
+/// Returns the number of bytes that a write of the size of `segment` takes: its size field, or 0 if the size is
+/// unknown.
 fn size_len(segment: &Header) -> u64
     ensures { result ≡ spec.size_length segment.now }
 {

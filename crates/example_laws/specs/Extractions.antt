@@ -146,7 +146,7 @@ atom children = master 0xB6 0 (nodes_of children)
 abbrev pub name : List ℕ → Node
 name text = master 0x80 0 (nodes_of (leaf 0x85 0 text ∷ []))
 
--- a Chapters with an EditionEntry for each list of ChapterAtoms
+-- a Chapters with an EditionEntry for each list of ChapterAtoms in `editions`
 abbrev pub chapters : List (List Node) → Option Node
 chapters editions = Some (master 0x1043A770 0 (nodes_of (map (λ atoms. master 0x45B9 0 (nodes_of atoms)) editions)))
 

@@ -24,7 +24,7 @@ use Rattle.merge_plan.specs.Refusal.{lanes_refusal}
 abbrev pub words : Option (List ℕ) → MergeWords
 words title = record (plain_words (codes "out.mkv") None []) { title = title }
 
--- a TrackEntry with this TrackUID, TrackType and CodecID, the TrackNumber 3, and an empty ContentEncodings
+-- a TrackEntry with the TrackUID `uid`, the TrackType `type`, the CodecID `codec`, the TrackNumber 3, and an empty ContentEncodings
 abbrev pub entry : ℕ → ℕ → List ℕ → Node
 entry uid type codec = master 0xAE 0 (nodes_of (
     leaf 0xD7 0 (3 ∷ []) ∷ leaf 0x73C5 0 (uid ∷ []) ∷ leaf 0x83 0 (type ∷ []) ∷
@@ -155,7 +155,7 @@ pub record ArePlaced : Type 0 where
 abbrev pub applications : List ℕ
 applications = (0x4D ∷ 0x80 ∷ 0x8A ∷ codes "mkvsuite 1") ++ (0x57 ∷ 0x41 ∷ 0x8A ∷ codes "mkvsuite 1")
 
--- the bytes of a written TrackEntry of audio with this TrackNumber and TrackUID
+-- the bytes of a written TrackEntry of audio with the TrackNumber `number` and the TrackUID `uid`
 abbrev pub written : ℕ → ℕ → List ℕ
 written number uid =
     0xAE ∷ 0x92 ∷ 0xD7 ∷ 0x81 ∷ number ∷ 0x73 ∷ 0xC5 ∷ 0x81 ∷ uid ∷

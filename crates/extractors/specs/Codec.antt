@@ -36,14 +36,14 @@ avc_codec = codes "V_MPEG4/ISO/AVC"
 abbrev pub aac_codec : List ℕ
 aac_codec = codes "A_AAC"
 
--- the coding of an H.264 track with this configuration: its parameter sets first, and then the units of each frame, each after a start code. Without
--- a valid configuration it is refused (BadConfig).
+-- the coding of an H.264 track, given the configuration in its CodecPrivate. Its parameter sets come first, and then the units of each frame, each
+-- after a start code. Without a valid configuration the track is refused (BadConfig).
 abbrev pub avc_coding : Option Avc → Result Coding UnsupportedTrack
 avc_coding None = Err BadConfig
 avc_coding (Some avc) = Ok (record { head = byte_stream avc.sets; form = form.AnnexB avc.length_size })
 
--- the coding of an AAC track with this configuration: each frame after an ADTS header; BadConfig without a configuration that such a header can
--- express
+-- the coding of an AAC track, given the configuration in its CodecPrivate: each frame after an ADTS header. The track is refused (BadConfig) without
+-- a configuration that such a header can express.
 abbrev pub aac_coding : Option Aac → Result Coding UnsupportedTrack
 aac_coding None = Err BadConfig
 aac_coding (Some aac) = Ok (record { head = []; form = form.Adts aac })
@@ -68,7 +68,8 @@ coding_of asked.Full entry = Ok (record { head = private_of entry; form = form.P
 coding_of asked.ByCodec entry = codec_coding (codec_of entry) (private_of entry)
 coding_of asked.Times entry = Ok (record { head = times_head; form = form.Time })
 
--- Frames can be written in this form, by its parameters: a length size of H.264, or a configuration of AAC that a header can express.
+-- Frames can be written in this form: its length size of H.264 is valid, or an ADTS header can express its configuration of AAC. The other forms have
+-- no parameters.
 abbrev pub CanWrite : FrameForm → Type 0
 CanWrite form.Plain = ⊤
 CanWrite form.SubRip = ⊤

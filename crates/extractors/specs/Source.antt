@@ -19,11 +19,11 @@ use Rattle.extractors.specs.Job.{job_outputs}
 use Rattle.extractors.specs.declared.track_output.TrackOutput.{TrackOutput}
 use Rattle.extractors.specs.declared.source.Source.{Source}
 
--- the TrackEntry of a track that was read
+-- the TrackEntry of the track `t` that was read
 abbrev pub entry_in : Track → Node
 entry_in t = t.entry
 
--- the TrackEntries of a source, in the order of its Tracks
+-- the TrackEntries of the source `s`, in the order of its Tracks
 abbrev pub entries_in : Source → List Node
 entries_in s = map entry_in s.tracks
 

@@ -77,8 +77,8 @@ fn add_if(is_one: bool, damage: Damage, told: &mut Damages)
     }
 }
 
-/// Returns the damaged place that is reported for a bad frame: kind BadFrame, with the ID and file offset of the block
-/// at the cursor.
+/// Returns the damaged place that is reported for a bad frame at `cursor`: kind BadFrame, with the ID and file offset
+/// of the cursor's block.
 fn bad_frame(cursor: &Cursor) -> Damage
     ensures { result ≡ bad_frame (block_of cursor.now.block) }
 {

@@ -18,8 +18,8 @@ use track_records::Track;
 /// First line of a timestamp file.
 const TIMES_HEAD: &[u8] = b"# timestamp format v2\n";
 
-/// Returns how a track is written in the form that the command line asks for. The coding has the bytes before its first
-/// frame and the form of each frame. The inner error is the reason why the track can't be written so.
+/// Returns how `track` is written in the form `form` that the command line asks for. The coding has the bytes before
+/// its first frame and the form of each frame. The inner error is the reason why the track can't be written so.
 pub fn coding_of(
     alloc: Global,
     form: Form,
@@ -95,7 +95,7 @@ fn aac_coding(alloc: Global, private: &[u8]) -> Result<Coding, UnsupportedTrack>
     }
 }
 
-/// Returns the CodecPrivate of a track, or no bytes if it is absent.
+/// Returns the CodecPrivate of `track`, or no bytes if it is absent.
 fn private_of(track: &Track) -> &[u8]
     ensures { result.now ≡ private_of track.now.entry }
 {

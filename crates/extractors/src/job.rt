@@ -15,8 +15,7 @@ use requests::{Form, Job, Target};
 use std::alloc::{AllocError, Global};
 use track_records::{Track, usable};
 
-/// Returns the form of the frames that an extraction of tracks writes; None if the job extracts attached files, cue
-/// points or chapters.
+/// Returns the form of the frames that `job` writes; None if it extracts attached files, cue points or chapters.
 pub fn form_of(job: &Job) -> Option<Form>
     ensures { result ≡ form_of job.now }
 {
@@ -26,7 +25,7 @@ pub fn form_of(job: &Job) -> Option<Form>
     }
 }
 
-/// Returns the targets of a job whose IDs are indexes of tracks: for frames, timestamps and cue points. It returns none
+/// Returns the targets of `job` whose IDs are indexes of tracks: for frames, timestamps and cue points. It returns none
 /// for attached files and chapters.
 pub fn targets_of(job: &Job) -> &[Target]
     ensures { result.now ≡ targets_of job.now }

@@ -1,7 +1,7 @@
 //! Laws that hold for every output.
 ghost use Rattle.extractors.specs.Laws.{OutputsHoldTheGoodFrames};
 
-/// An output in the form of a codec is a stream of the valid frames of its track, in order.
+/// States that an output in the form of a codec is a stream of the valid frames of its track, in order.
 pub fn outputs_hold_the_good_frames()
     ensures { OutputsHoldTheGoodFrames }
 {}

@@ -9,7 +9,7 @@ use crate::frame_form::FrameForm;
 use crate::track_output::TrackOutput;
 use cluster_reader::BlockFilter;
 
-/// Checks whether the form writes only the timestamps of frames, and not their bytes.
+/// Checks whether `form` writes only the timestamps of frames, and not their bytes.
 fn is_of_times(form: &FrameForm) -> bool
     ensures { result ≡ is_of_times form.now }
 {

@@ -77,8 +77,8 @@ fn tell_damaged(damage: Damage, stopped: bool, text: &mut String) -> Result<(), 
     write!(text, "  {kind:?} {id:X} {offset}{stops}\n")
 }
 
-/// Appends the line of the cursor's block: its offset, track and time in nanoseconds, flags, frames, and other
-/// children.
+/// Appends the line of the cursor's block to `text`: its offset, track and time in nanoseconds, flags, frames, and
+/// other children.
 fn tell_block(cursor: &Cursor, text: &mut String) -> Result<(), AllocError> {
     let head = cursor.head();
     let offset = head.offset;
@@ -91,7 +91,7 @@ fn tell_block(cursor: &Cursor, text: &mut String) -> Result<(), AllocError> {
     text.push_str("\n")
 }
 
-/// Appends the flags of the cursor's block that are set.
+/// Appends the flags of the cursor's block that are set to `text`.
 fn tell_flags(cursor: &Cursor, text: &mut String) -> Result<(), AllocError> {
     let head = cursor.head();
     tell_flag(head.key, " key", text)?;
@@ -105,7 +105,8 @@ fn tell_flag(flag: bool, word: &str, text: &mut String) -> Result<(), AllocError
     if flag { text.push_str(word) } else { Ok(()) }
 }
 
-/// Appends the lacing of the cursor's block, the sizes of its frames, and their bytes if there are at most 16.
+/// Appends the lacing of the cursor's block to `text`, the sizes of its frames, and their bytes if there are at most
+/// 16.
 fn tell_frames(cursor: &Cursor, text: &mut String) -> Result<(), AllocError> {
     let lace = cursor.head().lace;
     let sizes = cursor.sizes();
@@ -117,7 +118,7 @@ fn tell_frames(cursor: &Cursor, text: &mut String) -> Result<(), AllocError> {
     write!(text, " {body:?}")
 }
 
-/// Appends the children of the cursor's BlockGroup other than its Block: duration, references and the rest.
+/// Appends the children of the cursor's BlockGroup other than its Block to `text`: duration, references and the rest.
 fn tell_rest(cursor: &Cursor, text: &mut String) -> Result<(), AllocError> {
     if let Some(duration) = cursor.head().duration {
         write!(text, " for {duration}")?;
@@ -126,7 +127,7 @@ fn tell_rest(cursor: &Cursor, text: &mut String) -> Result<(), AllocError> {
     tell_extra(cursor.extra(), text)
 }
 
-/// Appends the references of a BlockGroup in nanoseconds, if it has any.
+/// Appends `references`, the references of a BlockGroup in nanoseconds, to `text`, if it has any.
 fn tell_references(references: &[i64], text: &mut String) -> Result<(), AllocError> {
     if references.is_empty() {
         return Ok(());
@@ -134,7 +135,7 @@ fn tell_references(references: &[i64], text: &mut String) -> Result<(), AllocErr
     write!(text, " refs {references:?}")
 }
 
-/// Appends the bytes of the other children of a BlockGroup, if it has any.
+/// Appends `extra`, the bytes of the other children of a BlockGroup, to `text`, if it has any.
 fn tell_extra(extra: &[u8], text: &mut String) -> Result<(), AllocError> {
     if extra.is_empty() {
         return Ok(());

@@ -49,7 +49,7 @@ fn tell_elements<R: Reads>(
     Ok(())
 }
 
-/// Appends the line of one call of the walk: a header, the end, or a failed read.
+/// Appends to `text` the line of one call of the walk, which returned `found`: a header, the end, or a failed read.
 fn tell_found(found: Result<Option<Header>, Failed>, text: &mut String) -> Result<(), AllocError> {
     match found {
         Ok(Some(header)) => tell_header(&header, text),
@@ -58,7 +58,7 @@ fn tell_found(found: Result<Option<Header>, Failed>, text: &mut String) -> Resul
     }
 }
 
-/// Appends the line of an Element: its ID, its offset, and the offset of its data.
+/// Appends to `text` the line of the Element with this `header`: its ID, its offset, and the offset of its data.
 fn tell_header(header: &Header, text: &mut String) -> Result<(), AllocError> {
     let id = header.id;
     let offset = header.offset;

@@ -32,7 +32,7 @@ pub fn tell_element(case: &Case, text: &mut String) -> Result<(), AllocError> {
 }
 
 #[tactic(auto, unfolding(ebml_numbers::specs::Number::is_id))]
-/// Appends the ID with its written bytes, and then the size.
+/// Appends to `text` the ID `id` with its written bytes, and then the size `size`.
 fn tell_header(id: u32, size: Size, text: &mut String) -> Result<(), AllocError>
     requires { IsTrue (is_id id) }
 {

@@ -9,7 +9,7 @@ use Rattle.input_files.specs.declared.refusal.TextRefusal.{TextRefusal}
 use Rattle.input_files.specs.declared.chapter_file.ChapterFile.{ChapterFile}
 use Rattle.input_files.specs.declared.chapter_file.ChapterFile.TheVariants.{Absent, Missing, Refused, Read}
 
--- the result of reading a chapter file, given its Chapters or the refusal
+-- the result of reading a chapter file, given the Chapters that its text makes, or the refusal of its text
 abbrev pub given_by : Result Node TextRefusal → ChapterFile
 given_by (Ok chapters) = Read chapters
 given_by (Err why) = Refused why

@@ -31,7 +31,7 @@ times_names times = map (λ (n : TimesName). n.name) times
 
 -- ---- results
 
--- the result of reading a timestamp file, given its times or the refusal
+-- the result of reading a timestamp file, given the times that its text makes, or the refusal of its text
 abbrev pub given_by : Result Listing TextRefusal → TimesGiven
 given_by (Ok times) = Read times
 given_by (Err why) = Refused why

@@ -57,7 +57,7 @@ pub record Taken : Type 0 where
   pub damages : List Damage
   pub bad_frames : List Damage
 
--- the TrackEntries of a file that was read
+-- the TrackEntries of the file `file` that was read
 abbrev pub entries_of : FileRead → List Node
 entries_of file = map entry_in file.tracks
 

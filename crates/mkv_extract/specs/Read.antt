@@ -49,7 +49,7 @@ pub record FileRead : Type 0 where
   pub chapters : Option Node
   pub cues : Option Node
 
--- the source that the code has read, in the form of the definitions
+-- the source `s` that the code has read, in the form of the definitions
 abbrev pub read_in : Source → FileRead
 read_in s = record {
   segment = s.outline.segment;
@@ -61,7 +61,7 @@ read_in s = record {
   cues = s.cues;
 }
 
--- a file with this Segment, damage at level 1, records and Cues
+-- a file that was read, with the Segment `segment`, the damage `damage` at level 1, the records `r` and the Cues `cues`
 abbrev pub read_with : Header → Option Damage → FileRecords → Option Node → FileRead
 read_with segment damage r cues =
     record { segment = segment; damage = damage; info = r.info; tracks = r.tracks; attachments = r.attachments; chapters = r.chapters; cues = cues }

@@ -24,7 +24,7 @@ abbrev pub outline_lines : List ℕ → Option Damage → List (List ℕ)
 outline_lines name None = []
 outline_lines name (Some d) = warning_line name d ∷ []
 
--- the line that the file with this name lacks the track or attached file with this number
+-- the line that the file `name` lacks the track or attached file with the number that follows
 abbrev pub line_of : Missing → List ℕ → ℕ → List ℕ
 line_of missing.Track name = no_track_line name
 line_of missing.Attachment name = no_attachment_line name

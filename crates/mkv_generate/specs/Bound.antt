@@ -20,7 +20,7 @@ layouts files = map (λ (o : PlannedOutput). layout o.document) files
 abbrev pub most_merged : MergeWords → List (List ℕ) → ℕ
 most_merged words contents = most_of (sources_apart words contents) (sum_by (λ (bytes : List ℕ). length bytes) contents)
 
--- the limit in bytes for the split of the merged file, if its merge made it; 0 if the merge is refused
+-- the limit in bytes for the split of the merged file of `names`, if its merge made it; 0 if the merge is refused
 abbrev pub most_behind : own.Names → Result MergeMade Refusal → ℕ
 most_behind names (Ok both) = most_merged (parts_words names) (layouts both.outputs)
 most_behind names (Err why) = 0

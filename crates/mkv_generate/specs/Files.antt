@@ -27,12 +27,12 @@ abbrev pub codec_of : MediaKind → List ℕ
 codec_of Pictures = codes "V_TEST"
 codec_of Sounds = codes "A_TEST"
 
--- the TrackEntry of the file of this kind; TrackNumber and TrackUID are 1
+-- the TrackEntry of the file of the kind `medium`; TrackNumber and TrackUID are 1
 abbrev pub track_of : MediaKind → Node
 track_of medium = master TRACK_ENTRY 0 (nodes_of (
     uint_leaf TRACK_NUMBER 1 ∷ uint_leaf TRACK_UID 1 ∷ uint_leaf TRACK_TYPE (type_of medium) ∷ leaf CODEC_ID 0 (codec_of medium) ∷ []))
 
--- the Elements before the Clusters of the file of this kind, with 1,000,000 ns per tick
+-- the Elements before the Clusters of the file of the kind `medium`, with 1,000,000 ns per tick
 abbrev pub front_of : MediaKind → Front
 front_of medium = record { webm = false; info = output_info 1000000 []; tracks = output_tracks (track_of medium ∷ []); attachments = [] }
 

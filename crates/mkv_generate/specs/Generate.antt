@@ -54,11 +54,11 @@ two_files n names = made_file Pictures n names.pictures ∷ made_file Sounds n n
 
 -- ---- files that are made from them
 
--- the command line of the first merge, of both files
+-- the command line of the first merge, of both files that `names` has
 abbrev pub both_words : Names → MergeWords
 both_words names = plain_words names.both None (plain_file names.pictures ∷ plain_file names.sounds ∷ [])
 
--- the command line of the second merge, which splits the merged file into parts of ten seconds
+-- the command line of the second merge, which splits the merged file of `names` into parts of ten seconds
 abbrev pub parts_words : Names → MergeWords
 parts_words names = plain_words names.parts (Some (Duration 10000000000)) (plain_file names.both ∷ [])
 

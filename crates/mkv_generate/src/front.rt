@@ -48,7 +48,8 @@ fn track_of(alloc: Global, medium: MediaKind) -> Result<Tree, AllocError>
     Ok(entry)
 }
 
-/// Returns the Elements before the Clusters of the file of this kind: Info and a Tracks with one TrackEntry.
+/// Returns the Elements before the Clusters of the generated file of the kind `medium`: Info and a Tracks with one
+/// TrackEntry.
 pub(crate) fn front_of(alloc: Global, medium: MediaKind) -> Result<Front, AllocError>
     ensures { IfOk result (IsFrontOf medium) }
 {

@@ -81,7 +81,7 @@ fn plain_words(
     })
 }
 
-/// Returns the command line of the second step: it merges the files of pictures and of sounds.
+/// Returns the command line of the second step: it merges the files of pictures and of sounds that `names` has.
 pub(crate) fn both_words(alloc: Global, names: &Names) -> Result<MergeWords, AllocError>
     ensures { IfOk result (λ words. words ≡ both_words names.now) }
 {
@@ -91,7 +91,7 @@ pub(crate) fn both_words(alloc: Global, names: &Names) -> Result<MergeWords, All
     plain_words(alloc, &names.both, None, files)
 }
 
-/// Returns the command line of the third step: it splits the merged file into parts of ten seconds.
+/// Returns the command line of the third step: it splits the merged file of `names` into parts of ten seconds.
 pub(crate) fn parts_words(alloc: Global, names: &Names) -> Result<MergeWords, AllocError>
     ensures { IfOk result (λ words. words ≡ parts_words names.now) }
 {

@@ -18,6 +18,6 @@ attachment_value id a = object_of (
     given "size" (whole a.len) ∷
     [])
 
--- the attached files in the order of the file, numbered from 1
+-- the attached files `list` in the order of the file, numbered from 1, as an array
 abbrev pub attachments_value : List AttachedFile → Data
 attachments_value list = array_of (numbered (λ id a. attachment_value id a ∷ []) 1 list)

@@ -15,11 +15,11 @@ use Rattle.mkv_info.specs.Chapters.{chapter_count, entries_value}
 use Rattle.mkv_info.specs.Tags.{tag_count, track_tags_value}
 use Rattle.mkv_info.specs.ToldTracks.{tracks_value}
 
--- the Title of the file's first Info (RFC 9559, section 5.1.2, Info Element), unless it is empty or absent
+-- the Title of the file's first Info `info` (RFC 9559, section 5.1.2, Info Element), unless it is empty or absent
 abbrev pub title_of : Option Node → Option (List ℕ)
 title_of info = option_and_then (λ i. unless_empty (text_or_empty TITLE i)) info
 
--- the properties of a file with this first Info: TimestampScale in nanoseconds per tick, and Title, which is left out if it is empty
+-- the properties of a file with the first Info `info`: TimestampScale in nanoseconds per tick, and Title, which is left out if it is empty
 abbrev pub container_properties : Option Node → Data
 container_properties info = object_of (
     given "timestamp_scale" (whole (scale_of_info info)) ∷

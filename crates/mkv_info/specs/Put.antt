@@ -19,7 +19,7 @@ put_if key (Some value) ms = put key value ms
 abbrev pub PutsMember : List ℕ → Option Value → List (String Global × Value) → List (String Global × Value) → Type 0
 PutsMember key value old new = members_view new ≡ put_if key (option_map view value) (members_view old)
 
--- the members of an object after each of the list is put into it in sequence
+-- the members `ms` of an object after each member of a list is put into it in sequence
 abbrev pub put_each : List Member → Members → Members
 put_each [] ms = ms
 put_each (m ∷ more) ms = put_each more (put_if m.0 m.1 ms)

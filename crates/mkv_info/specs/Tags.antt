@@ -24,7 +24,7 @@ named_in targets = named_among (children targets)
 abbrev pub tracks_named : Node → List ℕ
 tracks_named tag = flat_map named_in (part TARGETS (children tag))
 
--- The Tag is counted in this scope: it names no track, or it names the track with the TrackUID of the scope.
+-- The Tag `tag` is counted in a scope: it names no track, or it names the track with the TrackUID of the scope.
 abbrev pub is_counted : Scope → Node → Bool
 is_counted Global tag = not (list_any (λ own. true) (tracks_named tag))
 is_counted (Track uid) tag = list_any (λ own. own == uid) (tracks_named tag)
@@ -33,7 +33,7 @@ is_counted (Track uid) tag = list_any (λ own. own == uid) (tracks_named tag)
 abbrev pub simple_tags : Scope → List Node → List Node
 simple_tags scope ns = flat_map (λ t. part SIMPLE_TAG (children t)) (filter (is_counted scope) (part TAG ns))
 
--- the number of SimpleTags directly in the Tags that are counted in this scope, or 0 if the file has none
+-- the number of SimpleTags directly in the Tags that are counted in `scope`, or 0 if the file has no Tags
 abbrev pub tag_count : Scope → Option Node → ℕ
 tag_count scope None = 0
 tag_count scope (Some tags) = length (simple_tags scope (children tags))

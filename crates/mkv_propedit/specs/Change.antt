@@ -25,7 +25,7 @@ use Rattle.mkv_lines.specs.declared.status.CommandEnd.{CommandEnd}
 use Rattle.mkv_propedit.specs.Command.{SaysOfDisk}
 use Rattle.sidecar_edit.specs.Gate.{state}
 
--- the writes of a change to a file with the content that is given, or the refusal
+-- the writes of a change to a file, given the file's content, or the refusal
 abbrev pub writes_of_change : FileChange → List ℕ → Result (List Write) Refusal
 writes_of_change (Edits edits) = writes_of_edits edits.now
 writes_of_change Index = writes_of_index

@@ -18,7 +18,7 @@ use Rattle.sidecar_edit.specs.declared.outcome.RecoverEnd.TheVariants.{DiskFault
 use Rattle.sidecar_edit.specs.Recovery.{recovered, recovery}
 use Rattle.sidecar_edit.specs.Recovering.{IsRecovering}
 
--- the content of the journal after a recovery with this result: reset if an edit was completed, or else as before
+-- the content of the journal after a recovery with this result: reset if an edit was completed, or else `sidecar`, the content before
 abbrev pub sidecar_after : Result Recovered RecoverEnd → List ℕ → List ℕ
 sidecar_after (Ok Applied) sidecar = 0 ∷ []
 sidecar_after other sidecar = sidecar

@@ -29,12 +29,12 @@ use Rattle.mkv_merge.specs.Bound.{most_read}
 use Rattle.mkv_merge.specs.Merge.{merge_verdict, sources_of}
 use Rattle.mkv_merge.specs.Records.{EndsReadable}
 
--- the error line that names the first wrong word of a command line and the reason
+-- the error line for `usage`: it names the first wrong word of a command line and the reason
 abbrev pub usage_line : Usage → List ℕ
 usage_line usage = word_line usage.word (why_name usage.why)
 
--- The outcome of a command. It is a function of the contents of all names, or for an edit in place of the disk. These must be visible to the proof. A
--- command without a file needs neither.
+-- The outcome of a command. It is a function of `names`, the contents of all names, or for an edit in place of `disk`. These must be visible to the
+-- proof. A command without a file needs neither.
 abbrev pub verdict_of : Names → Option DiskWorld → Command → Option Verdict
 verdict_of names disk (Help about) = Some (done (usage_lines about))
 verdict_of names disk Version = Some (done (version_line ∷ []))
@@ -48,7 +48,8 @@ verdict_of names disk (Extract file job) = option_map (λ world. extract_verdict
 verdict_of names disk (Propedit file edits) = option_map (λ world. propedit_on world file edits) disk
 verdict_of names disk (Merge words) = option_map (λ world. merge_verdict world words) names
 
--- the outcome of a command line, as parsed. A refused one has the same outcome whatever files there are.
+-- the outcome of a command line, as parsed; `names` has the contents of all names, and `disk` is for an edit in place. A refused command line has the
+-- same outcome whatever files there are.
 abbrev pub verdict_after : Names → Option DiskWorld → Result Command Usage → Option Verdict
 verdict_after names disk (Ok command) = verdict_of names disk command
 verdict_after names disk (Err usage) = Some (refused (usage_line usage))

@@ -41,7 +41,7 @@ abbrev pub reach_in : Result Command Usage → Reach
 reach_in (Ok command) = reach_of command
 reach_in (Err usage) = nothing
 
--- The command recovers, edits or indexes a file in place.
+-- The command recovers, edits or indexes a file in place, by the objects that it works on.
 abbrev pub IsInPlace : Reach → Type 0
 IsInPlace nothing = ⊥
 IsInPlace files = ⊥

@@ -33,7 +33,7 @@ pub fn explain<R: Report>(name: &Option<Text>, report: &mut R) -> Result<Status,
     print_lines(lines, report)
 }
 
-/// Prints the line with the name of the program and its version.
+/// Prints the line with the name of the program and its version to `report`.
 pub fn version<R: Report>(report: &mut R) -> Result<Status, CommandEnd>
     ensures verdict { SaysVerdict (R.lines report.old) (R.lines report.new) result (done (version_line ∷ [])) }
     ensures ordinary { IfOk result IsOrdinary }

@@ -16,7 +16,7 @@ use Rattle.mkv_schema.specs.declared.ids.TheConstants.{CLUSTER}
 use Rattle.mkv_io.specs.declared.outside.FileId.{FileId}
 use Rattle.elements.specs.Window.{HasNotPassed}
 
--- the Element that was read and isn't passed, if any, followed by the remaining ones
+-- the Element that was read and isn't passed, if any, followed by the remaining ones, `rest`
 abbrev pub in_front : Option Header → List Header → List Header
 in_front None rest = rest
 in_front (Some h) rest = h ∷ rest

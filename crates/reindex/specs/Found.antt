@@ -34,7 +34,7 @@ pointed bytes =
     and_then (trees_of bytes o.segment) (λ trees.
     and_then (points_of bytes o.segment trees.tracks) (λ points. Ok (record { outline = o; points = points }))))
 
--- a file as the code has read it, in the form of the definitions
+-- the file `f` as the code has read it, in the form of the definitions
 abbrev pub shown : IndexableFile → Pointed
 shown f = record { outline = f.outline; points = cues_of f.points }
 

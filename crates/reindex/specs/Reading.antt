@@ -30,7 +30,7 @@ use Rattle.reindex.specs.declared.point.Point.{Point}
 abbrev pub cue_of : Point → CuePoint
 cue_of p = record { tick = p.tick; lane = p.track; cluster = p.cluster; relative = p.relative }
 
--- the code's cue points, as the definitions of the Cues have them
+-- the code's cue points `points`, as the definitions of the Cues have them
 abbrev pub cues_of : List Point → List CuePoint
 cues_of points = map cue_of points
 

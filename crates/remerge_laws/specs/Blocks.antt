@@ -15,7 +15,7 @@ use Rattle.output_model.specs.Sound.{IsSoundDocument}
 use Rattle.output_laws.specs.Reading.{blocks_of_document, header_of_segment}
 use Rattle.remerge_laws.specs.Outline.{KeepsReaderLimits}
 
--- the ID of a SimpleBlock or a BlockGroup
+-- `id` is the ID of a SimpleBlock or a BlockGroup.
 abbrev pub is_block : ℕ → Bool
 is_block id = id == SIMPLE_BLOCK || id == BLOCK_GROUP
 

@@ -23,8 +23,8 @@ const CALLS: u64 = 200;
 /// Least number of calls whose failure must stop a run, so that a case doesn't pass without a test.
 const STOPS: u64 = 11;
 
-/// Returns a disk with the bytes `film` and `journal` of the case. Its call number `call`, from 0, fails, and all later
-/// ones if `stops`.
+/// Returns a disk whose edited file and journal have the bytes of the parts `film` and `journal` of the case. Its call
+/// number `call`, from 0, fails, and all later ones if `stops`.
 fn failing_disk(alloc: Global, reading: &Reading, call: u64, stops: bool) -> Result<MemDisk, Fault>
     ensures { IfOk result (λ disk. IsSynced (pair_in (seen disk))) }
 {
@@ -49,7 +49,7 @@ fn recover_words(alloc: Global) -> Result<Vec<String>, Fault> {
     Ok(words)
 }
 
-/// Returns the bytes of the film on `disk`, for the comparison with the expected ones.
+/// Returns the bytes of the edited file on `disk`, for the comparison with the expected ones.
 fn film_on(alloc: Global, mut disk: MemDisk) -> Result<Vec<u8>, Fault> {
     if disk.open_pair("").is_err() {
         return Err(Fault::Memory);
@@ -71,8 +71,8 @@ struct Edit<'a> {
 }
 
 impl Edit<'_> {
-    /// Runs `recover` on `disk`, and checks whether it makes the edited film. If not `ended`, it may also make the film
-    /// `unedited` of the case.
+    /// Runs `recover` on `disk`, and checks whether it completes the edit: the file has the bytes of the part `edited`.
+    /// If not `ended`, the file may also have the bytes of the part `unedited`.
     fn is_recovered(&self, mut disk: MemDisk, ended: bool) -> Result<bool, Fault>
         requires { IsSynced (pair_in (seen disk)) }
     {

@@ -13,7 +13,7 @@ const CALLS: u64 = 80;
 /// Number of bytes that a failing append still writes.
 const KEPT: u64 = 1;
 
-/// Returns the files that exist before the run: each part of the case whose name has a dot.
+/// Returns the files that exist before the run of the case `reading`: each part whose name has a dot.
 fn files_before(alloc: Global, reading: &Reading) -> Result<MemFiles, Fault> {
     let mut files = MemFiles::new(alloc)?;
     for part in &reading.parts {

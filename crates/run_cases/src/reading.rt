@@ -63,7 +63,8 @@ impl Reading {
         self.part(name).unwrap_or(&[])
     }
 
-    /// Reads a line that starts no run: a comment, a command line, an expected line, or a part. Returns an empty text.
+    /// Reads `line`, which starts no run: a comment, a command line, an expected line, or a part. Returns an empty
+    /// text.
     pub fn line(&mut self, line: &str) -> Result<String, Fault> {
         match line.split_once(' ') {
             None | Some(("#", _)) => {}
@@ -74,7 +75,7 @@ impl Reading {
         Ok(String::new(self.alloc))
     }
 
-    /// Reads the command line of the next runs, whose words have spaces between them.
+    /// Reads `line`, the command line of the next runs, whose words have spaces between them.
     fn read_words(&mut self, line: &str) -> Result<(), Fault> {
         self.words = Vec::new(self.alloc);
         for word in line.split_whitespace() {

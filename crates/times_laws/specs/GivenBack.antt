@@ -25,7 +25,7 @@ World = List ℕ → Option (List ℕ)
 
 -- ---- the option
 
--- the options of an input without its timestamp files and the tracks that options name
+-- the options of the input `file` without its timestamp files and the tracks that options name
 abbrev pub untold : FileWords → FileWords
 untold file = record file { times = []; named = [] }
 

@@ -28,7 +28,7 @@ HasHelp _ = ⊤
 
 -- ---- extract
 
--- Each target's number has at most 18 digits, as a command line can give it.
+-- The number of each target in `list` has at most 18 digits, as a command line can give it.
 abbrev pub HaveFewDigits : List Target → Type 0
 HaveFewDigits list = All (λ (t : Target). HasFewDigits t.id) list
 
@@ -41,7 +41,7 @@ IsJob (jobs.Chapters name) = ⊤
 
 -- ---- propedit
 
--- The TrackType is video, audio or subtitle, which have a letter on the command line.
+-- The TrackType `kind` is video, audio or subtitle, which have a letter on the command line.
 abbrev pub IsNamedType : ℕ → Type 0
 IsNamedType kind = (kind ≡ VIDEO_TRACK) ⊎ ((kind ≡ AUDIO_TRACK) ⊎ (kind ≡ SUBTITLE_TRACK))
 

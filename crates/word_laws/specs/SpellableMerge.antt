@@ -15,7 +15,7 @@ use Rattle.word_laws.specs.Names.{IsInputName}
 use Rattle.mkv_io.specs.Octets.{lacks}
 use Rattle.word_laws.specs.Values.{HasFewDigits, is_in}
 
--- the tracks that an option names, in its order; it has a value for each
+-- the numbers of the tracks in `list`, the pairs of a track and a value that an option gives, in its order
 abbrev pub tracks_spoken_of : {X : Type 0} → List (ℕ × X) → List ℕ
 tracks_spoken_of {X} list = map (λ (p : ℕ × X). p.0) list
 
@@ -45,19 +45,19 @@ pub record AreOfTracks {X : Type 0} (Is : X → Type 0) (list : List (ℕ × X))
   pub short : All (λ (p : ℕ × X). HasFewDigits p.0) list
   pub each : All (λ (p : ℕ × X). Is p.1) list
 
--- The delay, in nanoseconds, is a whole number of milliseconds.
+-- The delay `delay`, in nanoseconds, is a whole number of milliseconds.
 abbrev pub IsDelay : ℤ → Type 0
 IsDelay delay = nat_abs delay % 1000000 ≡ 0
 
--- The text has no zero byte.
+-- The text `text` has no zero byte.
 abbrev pub IsText : List ℕ → Type 0
 IsText text = lacks 0 text ≡ true
 
--- The language code has three lower-case letters.
+-- The language code `word` has three lower-case letters.
 abbrev pub IsLanguage : List ℕ → Type 0
 IsLanguage word = is_language word ≡ true
 
--- The language tag has letters, digits and hyphens only.
+-- The language tag `word` has letters, digits and hyphens only.
 abbrev pub IsLanguageTag : List ℕ → Type 0
 IsLanguageTag word = is_language_tag word ≡ true
 
@@ -101,8 +101,8 @@ abbrev pub IsLinkable : Bool → List ℕ → Type 0
 IsLinkable true uuids = 0 < length uuids
 IsLinkable false uuids = ⊤
 
--- The limit of a Cluster can be given on a command line, in blocks or in nanoseconds. One of the two is the default, since the option can be given
--- only once.
+-- The limits of a Cluster, `blocks` blocks and `span` nanoseconds, can be given on a command line. One of the two is the default, since the option
+-- can be given only once.
 abbrev pub IsLength : ℕ → ℕ → Type 0
 IsLength blocks span = (blocks ≡ 65535) ⊎ (span ≡ 5000000000)
 

@@ -8,12 +8,12 @@ use Rattle.requests.specs.declared.merge.FileWords.{FileWords}
 use Rattle.requests.specs.declared.merge.MergeWords.{MergeWords}
 use Rattle.word_laws.specs.Values.{with_number, numbers_word, split_word, uuids_word, delay_word, flag_word, cues_word}
 
--- the option without a value as arguments, if it is given
+-- the option `option`, which takes no value, as arguments, if it is given
 abbrev pub flag : List ℕ → Bool → List (List ℕ)
 flag option true = option ∷ []
 flag option false = []
 
--- the option and its value as arguments, if there is a value
+-- the option `option` and its value as arguments, if there is a value
 abbrev pub with_value : List ℕ → Option (List ℕ) → List (List ℕ)
 with_value option None = []
 with_value option (Some value) = option ∷ value ∷ []
@@ -39,11 +39,11 @@ select_words taken none select.Off = none ∷ []
 abbrev pub for_tracks : {X : Type 0} → List ℕ → (X → List ℕ) → List (ℕ × X) → List (List ℕ)
 for_tracks {X} option word list = flat_map (λ (p : ℕ × X). option ∷ with_number p.0 (word p.1) ∷ []) list
 
--- the arguments of several options, in sequence
+-- the arguments of several options, `parts`, in sequence
 abbrev pub parts_joined : List (List (List ℕ)) → List (List ℕ)
 parts_joined parts = flat_map (λ part. part) parts
 
--- the arguments of each option for the whole output, in canonical order; none for a default
+-- the arguments of each option of the merge `words` for the whole output, in canonical order; none for a default
 abbrev pub output_options : MergeWords → List (List (List ℕ))
 output_options words =
     with_value (codes "--output") (Some words.output) ∷

@@ -22,7 +22,7 @@ with_commas [] = []
 with_commas (w ∷ []) = w
 with_commas (w ∷ v ∷ ws) = w ++ (codes "," ++ with_commas (v ∷ ws))
 
--- the numbers in decimal, with commas between them
+-- the numbers `numbers` in decimal, with commas between them
 abbrev pub numbers_word : List ℕ → List ℕ
 numbers_word numbers = with_commas (map decimal numbers)
 

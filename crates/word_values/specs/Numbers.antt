@@ -23,7 +23,7 @@ delay word =
     if slice_index word 0 == DASH then option_map (λ n. neg_ℤ (pos n)) (delay_size (drop 1 word))
     else option_map pos (delay_size word)
 
--- the minutes or seconds of a time, two digits below 60
+-- the minutes or seconds of a time, by their digits `word`: two digits, below 60
 unfoldable pub minutes_or_seconds : List ℕ → Option ℕ
 minutes_or_seconds word = if length word == 2 then below 60 (whole word) else None
 
@@ -53,11 +53,11 @@ clock word = do
   n ← seconds m.1
   Some ((hours * 3600 + minutes * 60) * 1000000000 + n)
 
--- The word ends with the byte `octet`.
+-- The word `word` ends with the byte `octet`.
 abbrev pub ends : List ℕ → ℕ → Bool
 ends word octet = nat_lt 0 (length word) && slice_index word (length word - 1) == octet
 
--- the word without its last byte
+-- the word `word` without its last byte
 abbrev pub front : List ℕ → List ℕ
 front word = take (length word - 1) word
 
@@ -66,7 +66,7 @@ unfoldable pub time : List ℕ → Option ℕ
 time word =
     below (2 ^ 63) (if ends word (char "s") then option_map (λ n. n * 1000000000) (whole (front word)) else clock word)
 
--- the number of a size: 1 to 12 digits, at least 1
+-- the number `word` of a size: 1 to 12 digits, at least 1
 unfoldable pub amount : List ℕ → Option ℕ
 amount word = if nat_le (length word) 12 then from 1 (whole word) else None
 

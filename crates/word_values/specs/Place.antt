@@ -8,7 +8,7 @@ use Rattle.word_values.specs.declared.usage.Why.TheVariants.{MissingValue, Extra
 use Rattle.mkv_io.specs.Characters.{DASH}
 use Rattle.word_values.specs.Answers.{wrong, ◌>>=◌}
 
--- the bytes of each argument of the code's command line
+-- the bytes of each argument of the code's command line `words`
 abbrev pub texts : List (String Global) → List (List ℕ)
 texts words = map string_bytes words
 
@@ -35,6 +35,6 @@ file_at words at = do
   file ← due_at words at
   if is_option file then wrong at UnknownOption else Ok file
 
--- the refusal of an argument with the index `at`, after a complete command, if there is one
+-- the refusal of the argument with the index `at` of the command line `words`, after a complete command, if there is one
 abbrev pub end_at : List (List ℕ) → ℕ → Result (Unit {0}) Usage
 end_at words at = if nat_lt at (length words) then wrong at ExtraWord else Ok tt

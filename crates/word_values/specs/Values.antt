@@ -28,7 +28,7 @@ flag_of _ = None
 unfoldable pub text : List ℕ → Option (List ℕ)
 text word = if list_any (λ b. b == 0) word then None else Some word
 
--- The word consists of three lower-case letters.
+-- The word `word` consists of three lower-case letters.
 abbrev pub is_language : List ℕ → Bool
 is_language word = length word == 3 && list_all is_ascii_lowercase word
 

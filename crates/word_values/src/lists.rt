@@ -35,7 +35,7 @@ impl Piece for NumberPiece {
 
     ghost spelled = { numbers.number };
 
-    /// Reads an item that is a decimal number.
+    /// Reads the item `word`, a decimal number.
     fn read(word: &[u8]) -> Option<u64> {
         number(word)
     }
@@ -49,7 +49,7 @@ impl Piece for TimePiece {
 
     ghost spelled = { numbers.time };
 
-    /// Reads an item that is a time, as nanoseconds.
+    /// Reads the item `word`, a time, as nanoseconds.
     fn read(word: &[u8]) -> Option<u64> {
         time(word)
     }
@@ -63,7 +63,7 @@ impl Piece for UuidPiece {
 
     ghost spelled = { numbers.uuid };
 
-    /// Reads an item that is an identifier of 32 hexadecimal digits.
+    /// Reads the item `word`, an identifier of 32 hexadecimal digits.
     fn read(word: &[u8]) -> Option<u128> {
         uuid(word)
     }
@@ -104,7 +104,7 @@ fn list_of<P: Piece>(alloc: Global, word: &[u8]) -> Result<List<P::Value>, Value
     Ok(list)
 }
 
-/// Reads a list of decimal numbers with commas between them, at least one.
+/// Reads `word`, a list of decimal numbers with commas between them, at least one.
 #[tactic(auto, unfolding(crate::specs::Lists::numbers))]
 pub(crate) fn numbers(alloc: Global, word: &[u8]) -> Result<List<u64>, ValueEnd>
     ensures { ReadsValue result (spec.numbers word.now) }
@@ -127,7 +127,7 @@ pub(crate) fn ids(alloc: Global, word: &[u8]) -> Result<Select, ValueEnd>
     }
 }
 
-/// Reads times with commas between them, at least one, as nanoseconds. Each must be above the previous one.
+/// Reads `word`, times with commas between them, at least one, as nanoseconds. Each must be above the previous one.
 #[tactic(auto, unfolding(crate::specs::Lists::times))]
 fn times(alloc: Global, word: &[u8]) -> Result<List<u64>, ValueEnd>
     ensures { ReadsValue result (spec.times word.now) }
@@ -152,7 +152,8 @@ fn ascend(times: &[u64]) -> bool
     true
 }
 
-/// Reads periods with commas between them, at least one. No period may begin before the end of the previous one.
+/// Reads `word`, periods with commas between them, at least one. No period may begin before the end of the previous
+/// one.
 #[tactic(auto, unfolding(crate::specs::Lists::spans))]
 fn spans(alloc: Global, word: &[u8]) -> Result<List<SpanWords>, ValueEnd>
     ensures { ReadsValue result (spec.spans word.now) }

@@ -57,7 +57,7 @@ pub(crate) fn delay(word: &[u8]) -> Option<i64>
     }
 }
 
-/// Reads a delay in milliseconds, without its sign, and returns it in nanoseconds. It must be below 2^55 ns.
+/// Reads `word`, a delay in milliseconds without its sign, and returns it in nanoseconds. It must be below 2^55 ns.
 #[tactic(auto, unfolding(crate::specs::Numbers::delay_size))]
 fn delay_size(word: &[u8]) -> Option<u64>
     ensures same { result ≡ spec.delay_size word.now }
@@ -97,7 +97,7 @@ fn clock(word: &[u8]) -> Option<u64>
         .checked_add(rest)
 }
 
-/// Reads two digits of minutes or seconds in a time, which must be below 60.
+/// Reads `word`, the two digits of minutes or seconds in a time, which must be below 60.
 #[tactic(auto, unfolding(crate::specs::Numbers::minutes_or_seconds))]
 fn minutes_or_seconds(word: &[u8]) -> Option<u64>
     ensures same { result ≡ spec.minutes_or_seconds word.now }
@@ -125,7 +125,7 @@ fn seconds(word: &[u8]) -> Option<u64>
     }
 }
 
-/// Reads the 1 to 9 digits after the point of a time; returns nanoseconds.
+/// Reads `word`, the 1 to 9 digits after the point of a time; returns nanoseconds.
 #[tactic(auto, using(requests::proofs::DecimalLemmas::whole_short, crate::proofs::NumbersLemmas::fraction_small), unfolding(crate::specs::Numbers::fraction))]
 fn fraction(word: &[u8]) -> Option<u64>
     ensures same { result ≡ spec.fraction word.now }
@@ -152,7 +152,7 @@ pub(crate) fn size(word: &[u8]) -> Option<u64>
     }
 }
 
-/// Reads the number of a size: 1 to 12 digits, at least 1.
+/// Reads `word`, the number of a size: 1 to 12 digits, at least 1.
 #[tactic(auto, using(requests::proofs::DecimalLemmas::whole_short), unfolding(crate::specs::Numbers::amount))]
 fn amount(word: &[u8]) -> Option<u64>
     ensures { result ≡ spec.amount word.now }
@@ -164,7 +164,7 @@ fn amount(word: &[u8]) -> Option<u64>
     if value >= 1 { Some(value) } else { None }
 }
 
-/// Reads an identifier of 32 hexadecimal digits as a number, the highest digit first.
+/// Reads `word`, an identifier of 32 hexadecimal digits, as a number, the highest digit first.
 #[tactic(auto, using(crate::proofs::NumbersLemmas::hex_more), unfolding(crate::specs::Numbers::uuid))]
 pub(crate) fn uuid(word: &[u8]) -> Option<u128>
     ensures { result ≡ spec.uuid word.now }

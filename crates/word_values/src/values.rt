@@ -76,7 +76,7 @@ pub enum Value {
     TrackFile(u64, Text),
 }
 
-/// Returns the value of an option that takes no argument, or None if its form needs one.
+/// Returns the value of an option of the form `form` that takes no argument, or None if the form needs one.
 pub fn flag_of(form: ValueForm) -> Option<Value>
     ensures { result ≡ spec.flag_of form }
 {
@@ -199,7 +199,7 @@ fn is_language(word: &[u8]) -> bool
     word.len() == 3 && are_lowercase(word)
 }
 
-/// Checks whether all bytes are lower-case letters of ASCII.
+/// Checks whether all bytes of `word` are lower-case letters of ASCII.
 fn are_lowercase(word: &[u8]) -> bool
     ensures { result ≡ list_all is_ascii_lowercase word.now }
 {
@@ -240,7 +240,7 @@ fn cluster_length(word: &[u8]) -> Option<Value>
     }
 }
 
-/// Reads the value of a track's flag: only a track, which means 1, or a track and 0 or 1.
+/// Reads `word`, the value of a track's flag: only a track, which means 1, or a track and 0 or 1.
 #[tactic(auto, unfolding(crate::specs::Values::track_flag))]
 fn track_flag(word: &str) -> Option<Value>
     ensures { result ≡ spec.track_flag word.now }
