@@ -17,7 +17,7 @@ limit_of id =
     if id == CUES then Some MAX_CUES_LEN else
     None
 
--- the damage of the Element with the given header, if its data is longer than the limit for its ID
+-- the damage of the Element with the header `h`, if its data is longer than the limit for its ID
 abbrev pub too_large : Header → Option Damage
 too_large h = option_map_or (λ limit. over limit h) (limit_of h.id) None
 

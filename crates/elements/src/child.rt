@@ -43,7 +43,7 @@ pub fn body_in<'a>(body: &'a [u8], base: u64, child: &Header) -> &'a [u8]
     &body[start..start + known(child.size) as usize]
 }
 
-/// Returns the number of bytes of an Element's data, or 0 if its size is unknown.
+/// Returns the number of bytes of an Element's data with the size `size`, or 0 if its size is unknown.
 pub fn known(size: Size) -> u64
     ensures { result ≡ known size }
 {

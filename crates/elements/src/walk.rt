@@ -15,7 +15,7 @@ use ebml_numbers::Size;
 use mkv_io::{Damage, Failed, FileId, Reads};
 use mkv_schema::{Header, is_level0, is_level1};
 
-/// Returns the Element ID of a header or of a damage, or 0 if it couldn't be read.
+/// Returns the Element ID of `found`, a header or a damage, or 0 if it couldn't be read.
 pub fn id_of(found: &Result<Header, Damage>) -> u32
     ensures { result ≡ id_of found.now }
 {

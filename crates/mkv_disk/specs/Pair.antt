@@ -16,7 +16,7 @@ pub record IsPairImage (p : Pair) (m s : List ℕ) : Type 0 where
   pub media : IsImage p.media m
   pub sidecar : IsImage p.sidecar s
 
--- the file of a pair with the given number: 0 is the file that is edited, any other number the journal
+-- the file of the pair `p` with the number that is given: 0 is the file that is edited, any other number the journal
 abbrev pub file_of : ℕ → Pair → DiskFile
 file_of zero p = p.media
 file_of (suc _) p = p.sidecar

@@ -17,7 +17,7 @@ pub data WrittenOutputs : Type 0 where
   at_once : List Output → WrittenOutputs
   in_turn : List Draft → WrittenOutputs
 
--- the outputs as a list of names and contents, in their order
+-- the outputs of a command as a list of names and contents, in their order
 abbrev pub list_of : WrittenOutputs → List Output
 list_of (at_once all) = all
 list_of (in_turn all) = outputs_of all

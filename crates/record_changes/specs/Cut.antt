@@ -72,7 +72,7 @@ abbrev mutual
 abbrev pub cut_inside : Stretch → Node → Node
 cut_inside s n = with_children n (cut_among s (nodes_of (children n)))
 
--- The edition has an atom directly in it.
+-- The edition `edition` has an atom directly in it.
 abbrev pub has_atom : Node → Bool
 has_atom edition = list_any (λ n. id_of n == CHAPTER_ATOM) (children edition)
 

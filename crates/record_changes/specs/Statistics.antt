@@ -44,7 +44,7 @@ is_source name = bytes_eq (stem name) (codes "SOURCE_ID")
 abbrev pub is_listed : List ℕ → Bool
 is_listed part = not (length part == 0) && not (is_source part)
 
--- the names of statistics among the parts of a list
+-- the names of statistics among the texts `parts`
 abbrev pub names_among : List (List ℕ) → List (List ℕ)
 names_among parts = filter is_listed parts
 
@@ -80,7 +80,7 @@ is_other names n = id_of n == SIMPLE_TAG && not (is_statistic names n)
 abbrev pub HasSame : List (List ℕ) → List (List ℕ) → Type 0
 HasSame names others = (name : List ℕ) → is_one_of names name ≡ is_one_of others name
 
--- the bytes of names that the code passes by reference
+-- the bytes of the names `names` that the code passes by reference
 abbrev pub bytes_of : List (Bor (List ℕ)) → List (List ℕ)
 bytes_of names = map (λ name. name.now) names
 

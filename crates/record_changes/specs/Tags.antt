@@ -49,7 +49,7 @@ tag_targets_of numbers targets = record {
   written = list_any (λ n. is_some (number_of numbers n)) targets;
 }
 
--- the summary of two lists of targets together
+-- the summary of the two lists of targets with the summaries `some` and `others` together
 abbrev pub both_aims : TagTargets → TagTargets → TagTargets
 both_aims some others = record {
   any = some.any || others.any;

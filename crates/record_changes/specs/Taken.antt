@@ -11,6 +11,6 @@ pub record IsNext (taken : ℕ → Bool) (n : ℕ) : Type 0 where
   pub positive : 0 < n
   pub below : (k : ℕ) → 0 < k → k < n → taken k ≡ true
 
--- The two sets together leave a number of 64 bits free.
+-- The two sets `source` and `given` together leave a number of 64 bits free.
 abbrev pub HasRoom : {S : Type 0} → IndexSet ℕ S → IndexSet ℕ S → Type 0
 HasRoom source given = length source.keys + length given.keys + 1 < 2 ^ 64

@@ -68,11 +68,11 @@ old_len_in s = number_at s 160
 abbrev pub first_in : List ℕ → List ℕ
 first_in s = octets_from s 168 KEPT
 
--- the number of bytes before the bytes of the writes, in a record of this version
+-- the number of bytes before the bytes of the writes, in a record of the version `version`
 abbrev pub head_len : ℕ → ℕ
 head_len version = if version == 1 then HEAD_1 else HEAD
 
--- the first bytes of a journal, which include all fields before the bytes of the writes
+-- the first bytes of the journal `sidecar`, which include all fields before the bytes of the writes
 abbrev pub head_of : List ℕ → List ℕ
 head_of sidecar = take HEAD sidecar
 
@@ -81,7 +81,7 @@ abbrev pub cut_up : List Place → List ℕ → List Write
 cut_up [] bytes = []
 cut_up (p ∷ ps) bytes = record { at = p.at; bytes = take p.len bytes } ∷ cut_up ps (drop p.len bytes)
 
--- the writes in a journal, each with its place and its bytes
+-- the writes in the journal `sidecar`, each with its place and its bytes
 abbrev pub writes_in : List ℕ → List Write
 writes_in sidecar =
     let head = head_of sidecar in
@@ -93,7 +93,7 @@ writes_in sidecar =
 abbrev pub no_place : Place
 no_place = record { at = 0; len = 0 }
 
--- the sixteen bytes of a place in a record
+-- the sixteen bytes of the place `p` in a record
 abbrev pub spelled : Place → List ℕ
 spelled p = big_bytes 8 p.at ++ big_bytes 8 p.len
 
@@ -101,7 +101,7 @@ spelled p = big_bytes 8 p.at ++ big_bytes 8 p.len
 abbrev pub slot : List Place → ℕ → List ℕ
 slot ps k = spelled (get_or ps k no_place)
 
--- the number of bytes that the writes at the given places write
+-- the number of bytes that the writes at the places of a list write
 abbrev pub sum_of : List Place → ℕ
 sum_of [] = 0
 sum_of (p ∷ ps) = p.len + sum_of ps
@@ -150,12 +150,12 @@ abbrev pub front_octets : ℕ → ℕ → ℕ → List ℕ
 front_octets total new_len count =
     magic ++ (big_bytes 8 total ++ (big_bytes 8 new_len ++ (2 ∷ count ∷ 0 ∷ 0 ∷ 0 ∷ 0 ∷ 0 ∷ 0 ∷ [])))
 
--- the bytes of the places of a record with an index below the first argument
+-- the bytes of the places of a record that has the places `ps`. Only the places with an index below the first argument are meant.
 abbrev pub slots : ℕ → List Place → List ℕ
 slots zero ps = []
 slots (suc n) ps = slots n ps ++ slot ps n
 
--- the bytes of a record of version 2 that identify its file, by the length and the first bytes before the edit
+-- the bytes of a record of version 2 that identify its file: its length `old_len` and its first bytes `first`, both before the edit
 abbrev pub mark_octets : ℕ → List ℕ → List ℕ
 mark_octets old_len first = big_bytes 8 old_len ++ (first ++ zeros (KEPT - length first))
 

@@ -14,12 +14,12 @@ pub record Rule : Type 0 where
   pub octet : ℕ
   pub kept : Bool
 
--- the offset of the first broken rule of the list, if any
+-- the offset in the journal of the first broken rule of a list, if any
 abbrev pub first_breach : List Rule → Option ℕ
 first_breach [] = None
 first_breach (r ∷ rs) = if r.kept then first_breach rs else Some r.octet
 
--- All bytes are zero.
+-- All bytes of `octets` are zero.
 abbrev pub are_zeros : List ℕ → Bool
 are_zeros octets = list_all (λ octet. octet == 0) octets
 

@@ -4,7 +4,7 @@ use Rattle.sidecar_edit.specs.declared.place.Place.{Place}
 use Rattle.sidecar_edit.specs.declared.place.TheConstants.{HEAD}
 use Rattle.sidecar_edit.specs.Fields.{IsPlan, Planned, body_of}
 
--- the plan of an edit with these lengths of the file before and after, its first bytes, the places, and the bytes of the writes
+-- the plan of an edit from `old_len` to `new_len` bytes of a file that begins with `first`: writes at `places`, of the bytes `payload` together
 abbrev pub planned : ℕ → ℕ → List ℕ → List Place → List ℕ → Planned
 planned old_len new_len first places payload = record {
   head = record { old_len = old_len; new_len = new_len; first = first; places = places };

@@ -30,8 +30,8 @@ abbrev pub differs : List ℕ → List ℕ → ℕ → Bool
 differs head media k =
     nat_lt k (old_len_in head) && not (is_touched (used_in head) k) && not (slice_index media k == slice_index head (168 + k))
 
--- the refusal of a journal that was made for another file. At the offset that is given, if any, the byte of the file differs from the byte in the
--- record.
+-- the refusal of a journal that was made for another file. The byte of the file `media` at an offset, if one is given, differs from the byte in the
+-- record that `head` has.
 abbrev pub octet_mark : List ℕ → List ℕ → Option ℕ → Option RecoverEnd
 octet_mark head media None = None
 octet_mark head media (Some k) = Some (Foreign (Octet k) (slice_index head (168 + k)) (slice_index media k))
@@ -62,7 +62,7 @@ is_disk_fault (BadSidecar offset) = false
 is_disk_fault (Foreign mark kept found) = false
 is_disk_fault DiskFault = true
 
--- the result of recovery for a pending edit: it is applied, unless it is refused
+-- the result of recovery for a pending edit: it is applied, unless it is refused for the reason `why`
 abbrev pub applied_unless : Option RecoverEnd → Result Recovered RecoverEnd
 applied_unless why = unless why Applied
 

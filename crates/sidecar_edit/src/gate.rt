@@ -26,7 +26,7 @@ pub fn set_gate<D: Disk>(disk: &mut D, gate: u8) -> Result<(), Failed>
     disk.sync(SIDECAR)
 }
 
-/// Truncates the journal, whose gate is closed, to its first byte, and syncs it.
+/// Truncates the journal of `disk`, whose gate is closed, to its first byte, and syncs it.
 pub fn cut_down<D: Disk>(disk: &mut D) -> Result<(), Failed>
     requires live { IsLive D.Reads disk.old SIDECAR }
     requires at_rest { AtRest D.Disk.own disk.old }
@@ -40,7 +40,7 @@ pub fn cut_down<D: Disk>(disk: &mut D) -> Result<(), Failed>
     disk.sync(SIDECAR)
 }
 
-/// Closes the gate of the journal, and truncates the journal to it: no edit is pending any more.
+/// Closes the gate of the journal of `disk`, and truncates the journal to it: no edit is pending any more.
 pub fn close<D: Disk>(disk: &mut D) -> Result<(), Failed>
     requires live { IsLive D.Reads disk.old SIDECAR }
     requires at_rest { AtRest D.Disk.own disk.old }
@@ -53,8 +53,8 @@ pub fn close<D: Disk>(disk: &mut D) -> Result<(), Failed>
     cut_down(disk)
 }
 
-/// Turns a journal without a pending edit into one byte, a closed gate, before an edit is written to it. A longer
-/// journal is truncated first: after a torn write of the gate, an older record would count.
+/// Turns a journal of `disk` without a pending edit into one byte, a closed gate, before an edit is written to it. A
+/// longer journal is truncated first: after a torn write of the gate, an older record would count.
 pub fn settle<D: Disk>(disk: &mut D) -> Result<(), Failed>
     requires live { IsLive D.Reads disk.old SIDECAR }
     requires at_rest { AtRest D.Disk.own disk.old }

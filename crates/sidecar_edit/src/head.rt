@@ -28,7 +28,7 @@ pub fn place_in(head: &[u8], k: usize) -> Place
     }
 }
 
-/// Returns the number of writes of the record.
+/// Returns the number of writes of the record `head`.
 pub fn count_in(head: &[u8]) -> usize
     requires { HEAD_1 ≤ length head.now }
     ensures { result ≡ count_in head.now }
@@ -36,7 +36,7 @@ pub fn count_in(head: &[u8]) -> usize
     usize::from(head[25])
 }
 
-/// Returns the number of bytes of the record before the bytes of the writes, which its version determines.
+/// Returns the number of bytes of the record `head` before the bytes of the writes, which its version determines.
 pub fn head_len(head: &[u8]) -> u64
     requires { HEAD_1 ≤ length head.now }
     ensures { result ≡ head_len (version_in head.now) }
@@ -44,7 +44,7 @@ pub fn head_len(head: &[u8]) -> u64
     if head[24] == 1 { HEAD_1 } else { HEAD }
 }
 
-/// Returns the number of bytes that the writes of the record write in all.
+/// Returns the number of bytes that the writes of the record `head` write in all.
 #[tactic(auto, using(crate::proofs::ReadingLemmas::sum_next))]
 fn sum_in(head: &[u8]) -> u128
     requires long { HEAD_1 ≤ length head.now }
@@ -58,7 +58,7 @@ fn sum_in(head: &[u8]) -> u128
     sum
 }
 
-/// Returns the offset in the file after the last write of the record.
+/// Returns the offset in the edited file after the last write of the record `head`.
 #[tactic(auto, using(crate::proofs::ReadingLemmas::end_next))]
 fn end_in(head: &[u8]) -> u128
     requires long { HEAD_1 ≤ length head.now }
@@ -80,7 +80,8 @@ fn are_zeros(octets: &[u8]) -> bool
     octets.iter().all(|&octet| octet == 0)
 }
 
-/// Returns the file's length before the edit, if the record has it and the journal is long enough for it.
+/// Returns the file's length in bytes before the edit, if the record `head` has it and the journal is long enough for
+/// it.
 fn old_len_of(head: &[u8]) -> Option<u64>
     requires { HEAD_1 ≤ length head.now }
     ensures { result ≡ old_len_of head.now }
@@ -92,7 +93,7 @@ fn old_len_of(head: &[u8]) -> Option<u64>
     }
 }
 
-/// Checks whether the record's length is the sum of its parts, and its writes have at most 16 MiB.
+/// Checks whether the length of the record `head` is the sum of its parts, and its writes have at most 16 MiB.
 fn is_total(head: &[u8]) -> bool
     requires long { HEAD_1 ≤ length head.now }
     requires few { count_in head.now ≤ MAX_WRITES }
@@ -103,7 +104,8 @@ fn is_total(head: &[u8]) -> bool
         && u128::from(number_at(head, 8)) == u128::from(head_len(head)) + sum
 }
 
-/// Checks whether the length after the edit that the record states is right, by its writes and the length before.
+/// Checks whether the length after the edit that the record `head` states is right, by its writes and the length
+/// before.
 fn is_new_len(head: &[u8]) -> bool
     requires long { HEAD_1 ≤ length head.now }
     requires few { count_in head.now ≤ MAX_WRITES }
@@ -117,7 +119,7 @@ fn is_new_len(head: &[u8]) -> bool
     }
 }
 
-/// Checks whether the record has zeros after the end of a file that is shorter than its kept bytes.
+/// Checks whether the record `head` has zeros after the end of a file that is shorter than its kept bytes.
 fn is_padded(head: &[u8]) -> bool
     requires { HEAD_1 ≤ length head.now }
     ensures { result ≡ is_padded head.now }
@@ -142,14 +144,15 @@ fn is_used(place: Place, from: u128, old_len: Option<u64>) -> bool
     place.len >= 1 && from <= u128::from(place.at) && joined
 }
 
-/// Checks whether a place is zero, as an unused one must be.
+/// Checks whether `place` is zero, as an unused one must be.
 fn is_zero(place: Place) -> bool
     ensures { result ≡ ((place.at == 0) && (place.len == 0)) }
 {
     place.at == 0 && place.len == 0
 }
 
-/// Returns the offset in the journal of the first place of a write that breaks a rule, if any.
+/// Returns the offset in the journal `head` of the first place of a write that breaks a rule, if any. The file had
+/// `old_len` bytes before the edit.
 fn place_breach(head: &[u8], old_len: Option<u64>) -> Option<u64>
     requires long { HEAD_1 ≤ length head.now }
     requires few { count_in head.now ≤ MAX_WRITES }
@@ -166,7 +169,7 @@ fn place_breach(head: &[u8], old_len: Option<u64>) -> Option<u64>
     unused_breach(head)
 }
 
-/// Returns the offset in the journal of the first unused place that isn't zero, if any.
+/// Returns the offset in the journal `head` of the first unused place that isn't zero, if any.
 fn unused_breach(head: &[u8]) -> Option<u64>
     requires long { HEAD_1 ≤ length head.now }
     requires few { count_in head.now ≤ MAX_WRITES }
@@ -181,8 +184,8 @@ fn unused_breach(head: &[u8]) -> Option<u64>
     None
 }
 
-/// Returns the offset in the journal of the first field that breaks a rule of the record, if any. The journal then is
-/// invalid.
+/// Returns the offset in the journal `head` of the first field that breaks a rule of the record, if any. The journal
+/// then is invalid.
 pub fn first_breach(head: &[u8]) -> Option<u64>
     requires { HEAD_1 ≤ length head.now }
     ensures { result ≡ first_breach (rules_of head.now) }
@@ -200,8 +203,8 @@ pub fn first_breach(head: &[u8]) -> Option<u64>
     counted_breach(head)
 }
 
-/// Returns the offset of the first field that breaks a rule, among the rules that depend on the number of writes, if
-/// any.
+/// Returns the offset in the journal `head` of the first field that breaks a rule, if any. Only the rules that depend
+/// on the number of writes are checked.
 fn counted_breach(head: &[u8]) -> Option<u64>
     requires long { HEAD_1 ≤ length head.now }
     requires few { count_in head.now ≤ MAX_WRITES }

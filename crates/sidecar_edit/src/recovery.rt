@@ -41,7 +41,8 @@ fn redo_writes<D: Disk>(head: &[u8], disk: &mut D) -> Result<(), Failed>
     disk.sync(MEDIA)
 }
 
-/// Makes the writes of the pending record, which belongs to the file, and then closes the journal's gate.
+/// Makes the writes of the pending record `head`, which belongs to the file of `disk`, and then closes the journal's
+/// gate.
 fn redo<D: Disk>(head: &[u8], disk: &mut D) -> Result<(), Failed>
     requires ready { IsReady D.Reads D.Disk.own disk.old }
     requires head { IsHeadOf D.Reads D.Disk.own disk.old head.now }

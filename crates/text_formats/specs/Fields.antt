@@ -16,6 +16,6 @@ digits least most word =
     if nat_le least (length word) && nat_le (length word) most && list_all is_ascii_digit word
     then Some (digits_value 10 word) else None
 
--- the minutes or seconds of a time: two digits, below 60
+-- the minutes or seconds of a time, by their digits `word`: two digits, below 60
 unfoldable pub minutes_or_seconds : List ℕ → Option ℕ
 minutes_or_seconds word = digits 2 2 word >>= (λ n. if nat_lt n 60 then Some n else None)

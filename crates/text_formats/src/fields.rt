@@ -45,7 +45,7 @@ pub fn digits(least: usize, most: usize, word: &[u8]) -> Option<u64>
     Some(value)
 }
 
-/// Reads the minutes or seconds of a time: two digits, below 60.
+/// Reads `word`, the minutes or seconds of a time: two digits, below 60.
 #[tactic(auto, unfolding(crate::specs::Fields::minutes_or_seconds))]
 pub fn minutes_or_seconds(word: &[u8]) -> Option<u64>
     ensures same { result ≡ spec.minutes_or_seconds word.now }

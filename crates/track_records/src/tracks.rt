@@ -44,11 +44,9 @@ fn read(alloc: Global, tracks: &Tree) -> Result<List<Track>, TreeEnd>
     }
 }
 
-/// Reads the tracks of a Tracks element in the order of its entries, or returns the first damage. A tree from the
-/// parser is sound.
-///
-/// An invalid value in any entry is reported first. Then come a missing child, a repeated TrackNumber, and the
-/// 1,025th entry.
+/// Reads the tracks of the Tracks Element `tracks` in the order of its entries, or returns the first damage. A tree
+/// from the parser is sound. An invalid value in any entry is reported first. Then come a missing child, a repeated
+/// TrackNumber, and the 1,025th entry.
 pub fn read_tracks(alloc: Global, tracks: &Tree) -> Result<List<Track>, TreeEnd>
     requires { IsSound tracks.now }
     ensures exact { ReadsTracks result (tracks_of tracks.now) }
