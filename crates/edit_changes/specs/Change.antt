@@ -41,7 +41,7 @@ turn_of (Typed kind k) = k
 turn_of (Uid uid) = 1
 turn_of (Number number) = 1
 
--- the index, from 0, of the `k`-th node of the list that passes, counted from 1, if `before` other nodes come before the list
+-- the index, from 0, of the `k`-th node of the list that `passes` holds of, counted from 1, if `before` other nodes come before the list
 abbrev pub nth_place : (Node → Bool) → ℕ → ℕ → List Node → Option ℕ
 nth_place passes k before [] = None
 nth_place passes k before (n ∷ ns) =
@@ -84,7 +84,7 @@ changed Set value n p = set p.id n (value_of p.kind value)
 changed Add value n p = added p.id n (value_of p.kind value)
 changed Delete value n p = deleted p n
 
--- node `n` after one change of a property to `value`, or the refusal. No property means a name that the table doesn't have.
+-- node `n` after the change `change` of a property to `value`, or the refusal. No property means a name that the table doesn't have.
 abbrev pub named : Change → List ℕ → Node → Option Property → Result Node EditRefusal
 named change value n None = Err NoSuchProperty
 named change value n (Some p) = changed change value n p
@@ -119,8 +119,8 @@ abbrev pub numbered : {A : Type 0} → ℕ → Result A EditRefusal → Result A
 numbered k (Ok x) = Ok x
 numbered k (Err why) = Err (refusal.Edit k why)
 
--- the trees after the edits of the list, each made on the result of the previous one, or the first refusal. The first edit has number `k + 1` on the
--- command line.
+-- the trees `t` after the edits of the list, each made on the result of the previous one, or the first refusal. The first edit has number `k + 1` on
+-- the command line.
 abbrev pub edited_from : ℕ → List Edit → Trees → Result Trees Refusal
 edited_from k [] t = Ok t
 edited_from k (e ∷ es) t = and_then (numbered (k + 1) (edited_once e t)) (edited_from (k + 1) es)

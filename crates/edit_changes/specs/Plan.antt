@@ -115,7 +115,8 @@ standing_seek o ps id = if goes ps id then None else option_map (seek_to o.segme
 abbrev pub seek_for : List Seek → FileOutline → List Part → ℕ → Option Seek
 seek_for moved o ps id = option_or (find (λ s. s.id == id) moved) (standing_seek o ps id)
 
--- the Seeks of `ids` in their order, without those that have no Element; `moved` has the Seeks of the appended Elements
+-- the Seeks of `ids` in their order for a file with the outline `o`, after the parts `ps` are written. An Element that doesn't exist has none.
+-- `moved` has the Seeks of the appended Elements.
 abbrev pub seeks_beside : List Seek → FileOutline → List Part → List ℕ → List Seek
 seeks_beside moved o ps ids = filter_map (seek_for moved o ps) ids
 
@@ -132,7 +133,8 @@ room_of head list = option_map_or (λ s. span_of s.header list) head 0
 abbrev pub place_of : Option SeekHeadAt → ℕ
 place_of head = option_map_or (λ s. s.header.offset) head 0
 
--- the new SeekHead after the parts `ps` are written. It has the new Seeks of `ids`, and keeps the other children of the old SeekHead `head`.
+-- the new SeekHead after the parts `ps` are written to a file with the outline `o`. It has the new Seeks of `ids`, and keeps the other children of
+-- the old SeekHead `head`.
 abbrev pub seek_head : List ℕ → FileOutline → List Part → Option SeekHeadAt → Element
 seek_head ids o ps head = seek_head_with ids (seeks ids o ps) (option_map_or (λ s. s.seeks) head [])
 
@@ -140,7 +142,7 @@ seek_head ids o ps head = seek_head_with ids (seeks ids o ps) (option_map_or (λ
 abbrev pub size_width : Header → ℕ
 size_width segment = segment.body - segment.offset - length (id_octets SEGMENT)
 
--- the least number of bytes of a size field for a Segment that ends at the offset `end`
+-- the least number of bytes of a size field for the Segment `segment` if it ends at the offset `end`
 abbrev pub size_need : Header → ℕ → ℕ
 size_need segment end = least_size_width (end - segment.body)
 
@@ -185,8 +187,8 @@ abbrev pub twin_refusal : List Header → List Part → Option Refusal
 twin_refusal list [] = None
 twin_refusal list (p ∷ ps) = option_or (twin_of list p.id) (twin_refusal list ps)
 
--- the refusal of a Segment that ends at the offset `end` after the edit, if its size field has too few bytes for it. A Segment of unknown size isn't
--- refused.
+-- the refusal of the Segment `segment`, which ends at the offset `end` after the edit, if its size field has too few bytes for it. A Segment of
+-- unknown size isn't refused.
 abbrev pub size_refusal : Header → ℕ → Option Refusal
 size_refusal segment end =
     if is_unknown segment.size then None else lacks SegmentSize (size_need segment end) (size_width segment)
@@ -211,7 +213,7 @@ ascending (w ∷ ws) = inserted w (ascending ws)
 abbrev pub part_writes : List Part → List Write
 part_writes ps = map (λ p. write p.place (overwrite_or_void p)) (filter stands ps)
 
--- the write of the Segment's size field for a Segment that ends at the offset `end`; none if its size is unknown
+-- the write of the size field of the Segment `segment`, which ends at the offset `end` after the edit; none if its size is unknown
 abbrev pub size_writes : Header → ℕ → List Write
 size_writes segment end =
     if is_unknown segment.size then []
@@ -245,20 +247,21 @@ first_refusal [] = None
 first_refusal (None ∷ rs) = first_refusal rs
 first_refusal (Some r ∷ rs) = Some r
 
--- the number of bytes of all writes of the parts `ps` with the new SeekHead `seeks` in `room` bytes. A SeekHead that doesn't fit counts in its
--- shortest form.
+-- the number of bytes of all writes of the parts `ps` with the new SeekHead `seeks` in `room` bytes. `o` is the outline of the file. A SeekHead that
+-- doesn't fit counts in its shortest form.
 abbrev pub length_moving : FileOutline → List Part → Element → ℕ → ℕ
 length_moving o ps seeks room =
     length_in_place ps + length (appended ps) + length (unwrap_or (fitted seeks room) (octets_of seeks))
     + (if list_any moves ps then size_length o.segment else 0)
 
--- the length of the file after the Elements of the parts `ps` that move are appended
+-- the length of the file with the outline `o` after the Elements of the parts `ps` that move are appended
 abbrev pub new_end : FileOutline → List Part → ℕ
 new_end o ps = o.total + length (appended ps)
 
--- The reasons to refuse writes with a SeekHead, in the order of the checks, none for one that passes. Too much is written (EditTooLarge). An Element
--- states another end than the file's (Tail). An Element that moves isn't the only one with its ID (Twin). The SeekHead `seeks` is longer than its
--- `room` (SeekHead). The Segment's size field is too short for the new end (SegmentSize). If nothing is appended, the ends aren't checked.
+-- The reasons to refuse writes of the parts `ps` with a SeekHead, in the order of the checks, none for one that passes. `o` is the outline of the
+-- file. Too much is written (EditTooLarge). An Element states another end than the file's (Tail). An Element that moves isn't the only one with its
+-- ID (Twin). The SeekHead `seeks` is longer than its `room` (SeekHead). The Segment's size field is too short for the new end (SegmentSize). If
+-- nothing is appended, the ends aren't checked.
 abbrev pub moving_refusals : FileOutline → List Part → Element → ℕ → List (Option Refusal)
 moving_refusals o ps seeks room =
     too_large (length_moving o ps seeks room) ps
@@ -267,14 +270,15 @@ moving_refusals o ps seeks room =
     ∷ lacks SeekHead (length (octets_of seeks)) room
     ∷ (if list_any moves ps then size_refusal o.segment (new_end o ps) else None) ∷ []
 
--- The writes of the parts `ps` with the SeekHead `seeks`, sorted by offset. `place` and `room` are the offset and room of the old SeekHead. If
--- something is appended, the Segment's size comes first and the appended Elements come last.
+-- The writes of the parts `ps` with the SeekHead `seeks` to a file with the outline `o`, sorted by offset. `place` and `room` are the offset and room
+-- of the old SeekHead. If something is appended, the Segment's size comes first and the appended Elements come last.
 abbrev pub moving_writes : FileOutline → List Part → Element → ℕ → ℕ → List Write
 moving_writes o ps seeks place room =
     let middle = ascending (write place (unwrap_or (fitted seeks room) []) ∷ part_writes ps) in
     if list_any moves ps then size_writes o.segment (new_end o ps) ++ middle ++ write o.total (appended ps) ∷ [] else middle
 
--- the writes of the parts `ps` and of the SeekHead with the Seeks of `ids`, or the first refusal; `head` is the old SeekHead
+-- the writes of the parts `ps` and of the SeekHead with the Seeks of `ids`, or the first refusal. `head` is the old SeekHead, and `o` the outline of
+-- the file.
 abbrev pub writes_moving : List ℕ → FileOutline → List Part → Option SeekHeadAt → Result (List Write) Refusal
 writes_moving ids o ps head =
     let seeks = seek_head ids o ps head in

@@ -9,7 +9,7 @@ use Rattle.edit_changes.specs.declared.property.ValueKind.TheVariants.{Words, La
 use Rattle.edit_changes.specs.Property as spec
 use Rattle.edit_changes.specs.declared.table.Row.{Row}
 
--- a row of the code's table, as a row of the table of the definitions
+-- the row `r` of the code's table, as a row of the table of the definitions
 abbrev pub shown : Row → spec.Row
 shown r = record { name = r.0.now; property = r.1 }
 

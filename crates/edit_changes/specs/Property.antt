@@ -88,7 +88,7 @@ is_printable c = is_between 0x20 0x7E c
 abbrev pub is_codec : List ℕ → Bool
 is_codec octets = is_between 1 63 (length octets) && list_all is_printable octets
 
--- the bytes of a text value, if `test`, the result of its check, is true
+-- the bytes `octets` of a text value, if `test`, the result of its check, is true
 abbrev pub where_text : Bool → List ℕ → Option (List ℕ)
 where_text test octets = if test then Some octets else None
 

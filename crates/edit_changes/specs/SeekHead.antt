@@ -37,7 +37,7 @@ if_sound bytes h =
     if nat_lt MAX_MASTER_LEN (known h.size) then None
     else if_read h (tree_of h.id h.offset (body_of bytes h) h.body MAX_NODES)
 
--- the header `h`, if it is before the first Cluster, whose header is given if there is one
+-- the header `h`, if it is before `cluster`, the header of the first Cluster, or there is no Cluster
 abbrev pub before_clusters : Option Header → Header → Option Header
 before_clusters cluster h = if option_map_or (λ c. nat_lt h.offset c.offset) cluster true then Some h else None
 

@@ -66,11 +66,11 @@ LimitsHideNothing =
     (bytes : List ℕ) (f : EditableFile) → indexable bytes ≡ Ok f
     → events_of (without_limits (file_scale bytes f.outline.segment)) bytes f.outline.segment ≡ file_events true bytes f.outline.segment
 
--- the blocks that get a cue point, in a file with the content `bytes` and this Segment; `tracks` has the children of its Tracks
+-- the blocks that get a cue point, in a file with the content `bytes` and the Segment `segment`; `tracks` has the children of its Tracks
 abbrev pub indexed_blocks : List ℕ → Header → List Node → List Block
 indexed_blocks bytes segment tracks = filter (is_indexed (indexed_tracks tracks)) (blocks_of (file_events true bytes segment))
 
--- `p` is the cue point of the block `b`, in the Cluster that contains it, for a file with the content `bytes` and this Segment.
+-- `p` is the cue point of the block `b`, in the Cluster that contains it. The file has the content `bytes` and the Segment `segment`.
 pub record IsPointOf (bytes : List ℕ) (segment : Header) (b : Block) (p : CuePoint) : Type 0 where
   pub cluster : Header
   pub stands : StandsIn (with_limits (file_scale bytes segment)) bytes segment b cluster

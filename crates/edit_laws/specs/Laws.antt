@@ -25,7 +25,8 @@ use Rattle.edit_changes.specs.Records.{EditableFile, editable}
 use Rattle.edit_changes.specs.Plan.{edited}
 use Rattle.reindex.specs.Index.{indexable}
 
--- the normal form of the first Element with the ID `id` at level 1 of this Segment, or the damage inside it. `bytes` is the content of the file.
+-- the normal form of the first Element with the ID `id` at level 1 of the Segment `segment`, or the damage inside it. `bytes` is the content of the
+-- file.
 abbrev pub normal_form : ℕ → List ℕ → Header → Result (Option (List ℕ)) Damage
 normal_form id bytes segment = and_then (first_tree id bytes segment) (λ n. Ok (option_map octets n))
 
@@ -37,11 +38,11 @@ tracks_octets tracks = octets (master TRACKS 0 (nodes_of tracks))
 abbrev pub attached_bytes : List ℕ → AttachedFile → List ℕ
 attached_bytes bytes a = octets_between bytes a.at (a.at + a.len)
 
--- the data of each attached file in the first Attachments of this Segment, or the damage inside it; `bytes` is the content of the file
+-- the data of each attached file in the first Attachments of the Segment `segment`, or the damage inside it. `bytes` is the content of the file.
 abbrev pub attached_data : List ℕ → Header → Result (List (List ℕ)) Damage
 attached_data bytes segment = and_then (first_attached bytes segment) (λ files. Ok (map (attached_bytes bytes) files))
 
--- An Element at level 1 is neither a Timestamp nor a block; these belong only into Clusters.
+-- The Element with the header `h` at level 1 is neither a Timestamp nor a block; these belong only into Clusters.
 pub record IsOutside (h : Header) : Type 0 where
   pub timestamp : (h.id == TIMESTAMP) ≡ false
   pub simple : (h.id == SIMPLE_BLOCK) ≡ false

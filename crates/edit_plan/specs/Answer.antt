@@ -41,16 +41,17 @@ Gives found (Err (end.Refused r)) = found ≡ Err r
 Gives found (Err end.ReadFault) = ⊤
 Gives found (Err end.Memory) = ⊤
 
--- The result has the writes of `parts` with the rule `rewriting` for the file `file` with this outline, or their refusal. It is promised if the
--- file's content is visible to the proof.
+-- `result` has the writes of `parts` with the rule `rewriting` for the file `file` with the outline `outline`, or their refusal. It is promised if
+-- the file's content is visible to the proof in the state `src`.
 abbrev pub AnswersWrites : {S : Type 0} → Ghosts S → S → FileId → Rewriting → FileOutline → List Part → Result (Vec Write Global) PlanEnd → Type 0
 AnswersWrites r src file rewriting outline parts result = IfTold r src file (λ bytes. Answers (writes_in rewriting bytes outline parts) result)
 
--- The result has the editable parts of the file `file` with this outline, or its refusal, if the content is visible to the proof.
+-- `result` has the editable parts of the file `file` with the outline `outline`, or its refusal. It is promised if the content is visible to the
+-- proof in the state `src`.
 abbrev pub ReadsTrees : {S : Type 0} → Ghosts S → S → FileId → FileOutline → Result Trees OutlineEnd → Type 0
 ReadsTrees r src file outline result = IfOutlined r src file outline (λ bytes. ReadsAs (trees_of bytes outline.segment) result)
 
--- The result has the editable parts of the file `file` with this outline, or the refusal of its edits. It is promised if the content is visible to
--- the proof.
+-- `result` has the editable parts of the file `file` with the outline `outline`, or the refusal of its edits. It is promised if the content is
+-- visible to the proof in the state `src`.
 abbrev pub AnswersTrees : {S : Type 0} → Ghosts S → S → FileId → FileOutline → Result Trees PlanEnd → Type 0
 AnswersTrees r src file outline result = IfOutline r src file outline (λ bytes. Gives (if_editable (trees_of bytes outline.segment)) result)

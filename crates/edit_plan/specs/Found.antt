@@ -11,7 +11,8 @@ use Rattle.element_reader.specs.Outline.{FileOutline}
 abbrev pub found : SeekHead → spec.SeekHeadAt
 found s = record { header = s.header; seeks = s.seeks }
 
--- The result has the SeekHead of the file `file` with this outline, or none, if the file's content is visible to the proof.
+-- `result` has the SeekHead of the file `file` with the outline `outline`, or none. It is promised if the file's content is visible to the proof in
+-- the state `src`.
 abbrev pub FindsSeekHead : {S E : Type 0} → Ghosts S → S → FileId → FileOutline → Result (Option SeekHead) E → Type 0
 FindsSeekHead r src file outline result =
     IfTold r src file (λ bytes. IfOk result (λ head. option_map found head ≡ spec.seek_head_of bytes outline))

@@ -25,20 +25,23 @@ AddsParts more old new = map shown new ≡ map shown old ++ more
 abbrev pub in_room : Element → ℕ → List ℕ
 in_room e room = unwrap_or (fitted e room) (octets_of e)
 
--- The bytes `body` are the body of the new SeekHead, with Seeks for `ids` after the parts `ps` are rewritten. `head` is the old SeekHead.
+-- The bytes `body` are the body of the new SeekHead, with Seeks for `ids` after the parts `ps` are rewritten. `head` is the old SeekHead, and `o` the
+-- outline of the file.
 abbrev pub IsSeekHead : List ℕ → FileOutline → List Part → Option SeekHead → List ℕ → Type 0
 IsSeekHead ids o ps head body = element SEEK_HEAD body ≡ spec.seek_head ids o (map shown ps) (option_map found head)
 
--- The result has the write of the size field for a Segment that ends at the offset `end`. It is promised if the field has at most eight bytes.
+-- `result` has the write of the size field for the Segment `segment`, which ends at the offset `end`. It is promised if the field has at most eight
+-- bytes.
 abbrev pub WritesSize : {E : Type 0} → Header → ℕ → Result (Vec Write Global) E → Type 0
 WritesSize segment end result = spec.size_width segment ≤ 8 → IfOk result (λ writes. map written writes.items ≡ spec.size_writes segment end)
 
--- The result has the write of the size field for a Segment that ends at the offset `end`, and then the writes `behind`. It is promised if the field
--- has at most eight bytes.
+-- `result` has the write of the size field for the Segment `segment`, which ends at the offset `end`, and then the writes `behind`. It is promised if
+-- the field has at most eight bytes.
 abbrev pub BeginsWithSize : {E : Type 0} → Header → ℕ → List disk.Write → Result (Vec Write Global) E → Type 0
 BeginsWithSize segment end behind result = spec.size_width segment ≤ 8 → IfOk result (λ all. map written all.items ≡ spec.size_writes segment end ++ behind)
 
--- the writes of the parts `ps` together with the SeekHead, which gets new Seeks for `ids`, or the first refusal; `head` is the old SeekHead
+-- the writes of the parts `ps` together with the SeekHead, which gets new Seeks for `ids`, or the first refusal. `head` is the old SeekHead, and `o`
+-- the outline of the file.
 abbrev pub writes_moving : List ℕ → FileOutline → List Part → Option SeekHead → Result (List disk.Write) Refusal
 writes_moving ids o ps head = spec.writes_moving ids o (map shown ps) (option_map found head)
 
@@ -46,15 +49,16 @@ writes_moving ids o ps head = spec.writes_moving ids o (map shown ps) (option_ma
 abbrev pub tail_refused : FileOutline → List spec.Part → Option Refusal
 tail_refused o ps = if list_any spec.moves ps then spec.tail_refusal o else None
 
--- the refusal of a Segment's size field that is too short for `added` bytes more. There is none unless one of the parts `ps` is appended to the file.
+-- the refusal of the Segment's size field in the outline `o` that is too short for `added` bytes more. There is none unless one of the parts `ps` is
+-- appended to the file.
 abbrev pub size_refused : FileOutline → List spec.Part → ℕ → Option Refusal
 size_refused o ps added = if list_any spec.moves ps then spec.size_refusal o.segment (o.total + added) else None
 
--- If one of the parts `ps` is appended to the file, the Segment's size field has enough bytes for `added` bytes more.
+-- If one of the parts `ps` is appended to the file, the Segment's size field has enough bytes for `added` bytes more. `o` is the outline of the file.
 abbrev pub SizeFits : FileOutline → List spec.Part → ℕ → Type 0
 SizeFits o ps added = list_any spec.moves ps ≡ true → spec.size_refusal o.segment (o.total + added) ≡ None
 
--- The new Element of the part is appended to the file, and `octets` is its body.
+-- The new Element of the part `part` is appended to the file, and `octets` is its body.
 abbrev pub MovesWith : Part → List ℕ → Type 0
 MovesWith part octets = (spec.moves (shown part) ≡ true) × (part.body ≡ Some octets)
 

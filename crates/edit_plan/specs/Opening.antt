@@ -11,6 +11,6 @@ use Rattle.mkv_io.specs.declared.outside.FileId.{FileId}
 abbrev pub opening : List ℕ → Result FileOutline Damage
 opening bytes = and_then (outline_in 0 bytes) (λ (o : FileOutline). unless o.damage o)
 
--- `P` holds of the content of the file `file` in the state `src`, if the content is visible to the proof and has this outline.
+-- If the content of the file `file` in the state `src` is visible to the proof and has the outline `outline`, `P` holds of it.
 abbrev pub IfOutline : {S : Type 0} → Ghosts S → S → FileId → FileOutline → (List ℕ → Type 0) → Type 0
 IfOutline r src file outline P = IfTold r src file (λ bytes. outline_in 0 bytes ≡ Ok outline → P bytes)

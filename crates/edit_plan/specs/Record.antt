@@ -17,6 +17,6 @@ record_over old_len first ws = planned old_len (extent old_len ws) first (map pl
 abbrev pub record_of : List ℕ → List Edit → Result Planned Refusal
 record_of bytes edits = and_then (plan_of bytes edits) (λ ws. Ok (recorded bytes ws))
 
--- The places are in ascending order from the offset `from` on, in a file of `old_len` bytes, and `end` is the offset after the last.
+-- The places `places` are in ascending order from the offset `from` on, in a file of `old_len` bytes. `end` is the offset after the last.
 abbrev pub EndsInOrder : ℕ → ℕ → List Place → ℕ → Type 0
 EndsInOrder old_len from places end = AreInOrder old_len from places × (end ≡ last_end from places)

@@ -30,7 +30,8 @@ entry uid type codec = master 0xAE 0 (nodes_of (
     leaf 0xD7 0 (3 ∷ []) ∷ leaf 0x73C5 0 (uid ∷ []) ∷ leaf 0x83 0 (type ∷ []) ∷
     leaf 0x6D80 0 [] ∷ leaf 0x86 0 codec ∷ []))
 
--- a selected track with this TrackUID, TrackType and CodecID, the delay `later` in nanoseconds, and the value `word` of `--cues`, if any
+-- a selected track with the TrackUID `uid`, the TrackType `type` and the CodecID `codec`. It has the delay `later` in nanoseconds, and the value
+-- `word` of `--cues`, if any.
 abbrev pub taken : ℕ → ℕ → List ℕ → ℤ → Option CueWord → TakenTrack
 taken uid type codec later word = record {
   id = 0;
@@ -66,8 +67,8 @@ audio uid = taken uid 2 (codes "A_OPUS") (pos 0) None
 abbrev pub subtitles : ℕ → TakenTrack
 subtitles uid = taken uid 17 (codes "S_TEXT/UTF8") (pos 0) None
 
--- an input with the SubRip entries `entries`, this title, and the selected tracks `tracks`. `begin` is its append offset in nanoseconds, if it is
--- appended.
+-- an input with the SubRip entries `entries`, the title `title`, and the selected tracks `tracks`. `begin` is its append offset in nanoseconds, if it
+-- is appended.
 abbrev pub input : List Entry → List ℕ → Option ℕ → List TakenTrack → InputRead
 input entries title begin tracks = record {
   blocks = Entries entries;

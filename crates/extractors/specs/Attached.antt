@@ -28,7 +28,8 @@ abbrev pub attached_output : List ℕ → Target → Option AttachedFile → Lis
 attached_output bytes t None = []
 attached_output bytes t (Some a) = output t.name (data_in bytes a) ∷ []
 
--- the outputs of an extraction of attached files, one for each of `targets` that names one of `files`, in the order of the targets
+-- the outputs of an extraction of attached files, one for each of `targets` that names one of `files`, in the order of the targets. `bytes` is the
+-- content of the file.
 abbrev pub attached_outputs : List ℕ → List Target → List AttachedFile → List Output
 attached_outputs bytes targets files = flat_map (λ (t : Target). attached_output bytes t (attached_at files t.id)) targets
 

@@ -41,7 +41,8 @@ bad_frames list blocks = flat_map (bad_in list) blocks
 
 -- ---- reports
 
--- the problems that an extraction to the outputs `list` reports for a file with these events: the damaged places, and the frames that aren't written
+-- the problems that an extraction to the outputs `list` reports for the events `events` of a file. They are the damaged places, and the frames that
+-- aren't written.
 abbrev pub told_of : List TrackOutput → List Event → Extracted
 told_of list events = record {
   damages = told_damages (damages_of events);

@@ -21,7 +21,7 @@ counted n = min n last_count
 abbrev pub whole : List ℕ → Frame → List ℕ
 whole prefix f = prefix ++ f.octets
 
--- the bytes written for frame number `n` of a track, counted from 1, in this form. The list is the frame with the bytes that were removed from its
+-- the bytes written for frame number `n` of a track, counted from 1, in this form. `octets` is the frame with the bytes that were removed from its
 -- start; the time and duration are those in `f`. A bad frame has none.
 abbrev pub written_of : FrameForm → ℕ → Frame → List ℕ → Option (List ℕ)
 written_of form.Plain n f octets = Some octets

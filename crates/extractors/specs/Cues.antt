@@ -12,7 +12,8 @@ use Rattle.extractors.specs.declared.source.Source.{Source}
 use Rattle.meta_records.specs.Records.{scale_of_info}
 use Rattle.mkv_io.specs.declared.files.Files.{Ghosts}
 
--- the text of a track's cue points in the first Cues of a file, by its TrackNumber, at `scale` nanoseconds per tick. It is empty without a Cues.
+-- the text of the cue points of the track with the TrackNumber `track` in the first Cues of a file, at `scale` nanoseconds per tick. It is empty
+-- without a Cues.
 abbrev pub cues_text : ℕ → ℕ → Option Node → List ℕ
 cues_text scale track None = []
 cues_text scale track (Some cues) = cue_lines scale track cues
@@ -23,8 +24,8 @@ abbrev pub cues_output : ℕ → Option Node → Target → Option Node → List
 cues_output scale cues t None = []
 cues_output scale cues t (Some entry) = output t.name (cues_text scale (number_of entry) cues) ∷ []
 
--- the outputs of an extraction of cue points, in the order of `targets`. `entries` has the TrackEntries of the file; a target names one by its index
--- from 0.
+-- the outputs of an extraction of cue points from `cues`, the first Cues, at `scale` nanoseconds per tick, in the order of `targets`. `entries` has
+-- the TrackEntries of the file; a target names one by its index from 0.
 abbrev pub cues_outputs : ℕ → Option Node → List Target → List Node → List Output
 cues_outputs scale cues targets entries = flat_map (λ (t : Target). cues_output scale cues t (slice_get entries t.id)) targets
 

@@ -51,7 +51,7 @@ AreNumbered (jobs.Attachments list) = All (λ (t : Target). 1 ≤ t.id) list
 AreNumbered (jobs.Cues list) = ⊤
 AreNumbered (jobs.Chapters name) = ⊤
 
--- A job may be done: the files that it writes have different names, and its attached files are numbered from 1.
+-- The job `job` may be done: the files that it writes have different names, and its attached files are numbered from 1.
 pub record CanBeDone (job : Job) : Type 0 where
   pub apart : AreApart (names_for job)
   pub numbers : AreNumbered job
@@ -74,7 +74,8 @@ names_unfit why kind entries t = option_map_or (λ entry. is_unfit why (coding_o
 abbrev pub unfit_of : Form → List Node → Target → Option UnsupportedTrack
 unfit_of kind entries t = option_map_or (λ entry. result_err (coding_of kind entry)) (slice_get entries t.id) None
 
--- the index, from 0, of the track of the first target that can't be written in the form `kind`, for the reason `why`
+-- the index, from 0, of the track of the first of `targets` that can't be written in the form `kind`, for the reason `why`. `entries` has the
+-- TrackEntries of the file.
 abbrev pub first_unfit : UnsupportedTrack → Form → List Target → List Node → Option ℕ
 first_unfit why kind targets entries = option_map (λ (t : Target). t.id) (find (names_unfit why kind entries) targets)
 
@@ -85,7 +86,8 @@ refusal_of (Some track) bad_config = Some (record { why = NoExtractor; track = t
 refusal_of None (Some track) = Some (record { why = BadConfig; track = track })
 refusal_of None None = None
 
--- the output with the name `name` for the track with the TrackEntry `entry`, in this coding; `prefix` has the bytes that header stripping removed
+-- the output with the name `name` for the track with the TrackEntry `entry`, in the coding `coding`. Its prefix has the bytes that header stripping
+-- removed.
 abbrev pub output_with : List ℕ → Node → Coding → TrackOutput
 output_with name entry coding = record {
   name = name;
@@ -111,7 +113,8 @@ output_for kind t (Some entry) = track_output t.name entry (coding_of kind entry
 abbrev pub outputs_for : Form → List Target → List Node → List TrackOutput
 outputs_for kind targets entries = flat_map (λ (t : Target). output_for kind t (slice_get entries t.id)) targets
 
--- the outputs of `targets` in the form that a job asks for, if any; none for a job that doesn't write frames
+-- the outputs of `targets` in the form that a job asks for, if any; none for a job that doesn't write frames. `entries` has the TrackEntries of the
+-- file.
 abbrev pub outputs_taken : Option Form → List Target → List Node → List TrackOutput
 outputs_taken None targets entries = []
 outputs_taken (Some kind) targets entries = outputs_for kind targets entries

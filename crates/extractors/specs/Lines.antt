@@ -12,7 +12,7 @@ abbrev pub number_or_dash : Option ℕ → List ℕ
 number_or_dash None = codes "-"
 number_or_dash (Some n) = decimal n
 
--- a label, followed by a number, or by `-` if there is none
+-- the label `name`, followed by the number `number`, or by `-` if there is none
 abbrev pub labelled : List ℕ → Option ℕ → List ℕ
 labelled name number = name ++ number_or_dash number
 

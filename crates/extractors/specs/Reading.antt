@@ -26,6 +26,6 @@ cues_at bytes (Some h) =
 abbrev pub first_cues : List ℕ → Header → Result (Option Node) Damage
 first_cues bytes segment = cues_at bytes (first_of CUES (segment_run bytes segment).list)
 
--- If the content `bytes` has this outline, `result` is its first Cues, the refusal of the Cues, or a failed read or allocation.
+-- If the content `bytes` has the outline `outline`, `result` is its first Cues, the refusal of the Cues, or a failed read or allocation.
 abbrev pub ReadsFirstCues : FileOutline → Result (Option Node) OutlineEnd → List ℕ → Type 0
 ReadsFirstCues outline result bytes = (held : ℕ) → outline_in held bytes ≡ Ok outline → ReadsAs (first_cues bytes outline.segment) result

@@ -62,7 +62,8 @@ pub record IsReady (o : TrackOutput) : Type 0 where
 abbrev pub annexed : ℕ → List ℕ → List ℕ
 annexed length_size octets = unwrap_or (annex_b length_size octets) []
 
--- the bytes written for an AAC frame with the bytes `prefix` and `octets`: its ADTS header and the frame; nothing for a bad frame
+-- the bytes written for an AAC frame with the bytes `prefix` and `octets`: its ADTS header for the configuration `aac`, and the frame. A bad frame
+-- has none.
 abbrev pub headed : Aac → List ℕ → List ℕ → List ℕ
 headed aac prefix octets = unwrap_or (adts aac (prefix ++ octets)) []
 
@@ -72,35 +73,36 @@ abbrev pub Adds : {S T E : Type 0} → writing.Ghosts S → S → S → List Sin
 Adds f old new sinks later k octets result = Gives f old new sinks later (with_more k octets) result
 
 -- The frame `frame` was appended, in the form of output `o`, to the output with index `k`; nothing was for a bad frame. `old` and `new` are the
--- states before and after the call.
+-- states before and after the call, `sinks` and `later` the outputs.
 abbrev pub AddsFrame : {S T E : Type 0} → writing.Ghosts S → TrackOutput → Framed → S → S → List Sink → List Sink → ℕ → Result T E → Type 0
 AddsFrame f o frame old new sinks later k result = Adds f old new sinks later k (entry_of o frame.number (frame_of frame)) result
 
 -- The frames of the block at cursor `c` were appended, in the form of output `o`, to the output with index `k`. The first has number `n` in its
--- track. `old` and `new` are the states before and after the call.
+-- track. `old` and `new` are the states before and after the call, `sinks` and `later` the outputs.
 abbrev pub AddsLent : {S T E : Type 0} → writing.Ghosts S → TrackOutput → ℕ → Reading → S → S → List Sink → List Sink → ℕ → Result T E → Type 0
 AddsLent f o n c old new sinks later k result = Adds f old new sinks later k (entries_from o n (frames_of_block o.step (block_of c.block))) result
 
--- The result is the number of the frame after the block at cursor `c`. The block's first frame has number `n` in the track of output `o`.
+-- `result` is the number of the frame after the block at cursor `c`. The block's first frame has number `n` in the track of output `o`.
 abbrev pub CountsFrames : {E : Type 0} → TrackOutput → ℕ → Reading → Result ℕ E → Type 0
 CountsFrames o n c result = IfOk result (λ next. next ≡ counted (n + length (frames_of_block o.step (block_of c.block))))
 
--- The timestamps of the frames of a block were appended to the output with index `k`. The cursor `c` needs only the head of this block and its number
--- of frames. `old` and `new` are the states before and after the call.
+-- The timestamps of the frames of a block were appended, in the form of output `o`, to the output with index `k`. The first frame has number `n` in
+-- its track. The cursor `c` needs only the head of this block and its number of frames. `old` and `new` are the states before and after the call,
+-- `sinks` and `later` the outputs.
 abbrev pub AddsTime : {S T E : Type 0} → writing.Ghosts S → TrackOutput → ℕ → Reading → S → S → List Sink → List Sink → ℕ → Result T E → Type 0
 AddsTime f o n c old new sinks later k result = (b : Block) → IsKnownByHead b c.block → Adds f old new sinks later k (entries_from o n (frames_of_block o.step b)) result
 
--- The result is the number of the frame after a block, if its first frame has number `n` in the track of output `o`. The cursor `c` needs only the
--- head of this block and its number of frames.
+-- `result` is the number of the frame after a block, if its first frame has number `n` in the track of output `o`. The cursor `c` needs only the head
+-- of this block and its number of frames.
 abbrev pub CountsTimes : {E : Type 0} → TrackOutput → ℕ → Reading → Result ℕ E → Type 0
 CountsTimes o n c result = (b : Block) → IsKnownByHead b c.block → IfOk result (λ next. next ≡ counted (n + length (frames_of_block o.step b)))
 
--- The frames of a block were appended to output `o`, with index `k`, if the block is of its track. The cursor `c` has enough of the block for it.
--- `old` and `new` are the states before and after the call.
+-- The frames of a block were appended to output `o`, with index `k`, if the block is of its track. The next frame of `o` has number `n`. The cursor
+-- `c` has enough of the block for it. `old` and `new` are the states before and after the call, `sinks` and `later` the outputs.
 abbrev pub AddsPart : {S T E : Type 0} → writing.Ghosts S → TrackOutput → ℕ → Reading → S → S → List Sink → List Sink → ℕ → Result T E → Type 0
 AddsPart f o n c old new sinks later k result = (b : Block) → IsEnoughFor o b c.block → Adds f old new sinks later k (piece o n b) result
 
--- The result is the number of the next frame of output `o` after the block at cursor `c`. It was `n` before the block. A block of another track adds
+-- `result` is the number of the next frame of output `o` after the block at cursor `c`. It was `n` before the block. A block of another track adds
 -- none.
 abbrev pub CountsPiece : {E : Type 0} → TrackOutput → ℕ → Reading → Result ℕ E → Type 0
 CountsPiece o n c result = (b : Block) → IsEnoughFor o b c.block → IfOk result (λ next. next ≡ counted (n + count_in o b))
@@ -120,25 +122,26 @@ number_after blocks o = counted (1 + length (frames_of o.step o.track blocks))
 abbrev pub numbers_after : List TrackOutput → List Block → List ℕ
 numbers_after list blocks = map (number_after blocks) list
 
--- The outputs `list` were created since the names were `since`. In the state `files` they have exactly the frames of `blocks`; `numbers` has the
--- number of each output's next frame.
+-- The outputs `list`, open as `sinks`, were created since the names were `since`. In the state `files` they have exactly the frames of `blocks`;
+-- `numbers` has the number of each output's next frame.
 pub record HaveBlocks {S : Type 0} (f : writing.Ghosts S) (since : Names) (list : List TrackOutput) (files : S) (sinks : List Sink) (numbers : List ℕ) (blocks : List Block) : Type 0 where
   pub given : HaveBeenGiven since (f.names files) (f.holder files) sinks (outputs_of list blocks)
   pub next : numbers ≡ numbers_after list blocks
 
 -- Block `b` was appended to the outputs `list`, whatever blocks they had in the state `old`; `new` is the state after the call. `before` and `after`
--- have the number of each output's next frame, before and after it. After a failure the block may be there in part.
+-- have the number of each output's next frame, before and after it, as `sinks` and `later` are the open outputs. After a failure the block may be
+-- there in part.
 abbrev pub WritesBlock : {S T E : Type 0} → writing.Ghosts S → List TrackOutput → S → S → List Sink → List Sink → List ℕ → List ℕ → Block → Result T E → Type 0
 WritesBlock f list old new sinks later before after b (Ok _) = (since : Names) (blocks : List Block) → HaveBlocks f since list old sinks before blocks → HaveBlocks f since list new later after (blocks ++ b ∷ [])
 WritesBlock f list old new sinks later before after b (Err _) = (since : Names) (blocks : List Block) → HaveBlocks f since list old sinks before blocks → ArePrefixes since (f.names new) (outputs_of list (blocks ++ b ∷ []))
 
 -- The block at cursor `c` was appended to all outputs of `list` that are for its track. The cursor has enough of it for them. `before` and `after`
--- have the number of each output's next frame, before and after the call, as `old` and `new` are the states.
+-- have the number of each output's next frame, before and after the call. `old` and `new` are the states, `sinks` and `later` the open outputs.
 abbrev pub GivesLent : {S T E : Type 0} → writing.Ghosts S → List TrackOutput → Reading → S → S → List Sink → List Sink → List ℕ → List ℕ → Result T E → Type 0
 GivesLent f list c old new sinks later before after result = (b : Block) → IsEnoughForAll list b c.block → WritesBlock f list old new sinks later before after b result
 
 -- The blocks `all` were appended to the outputs `list`, which had no block in the state `old`. In the state `new`, after a failure, they may be there
--- in part.
+-- in part. `sinks` and `later` are the open outputs before and after the call.
 abbrev pub GivesBlocks : {S T E : Type 0} → writing.Ghosts S → List TrackOutput → S → S → List Sink → List Sink → List Block → Result T E → Type 0
 GivesBlocks f list old new sinks later all (Ok _) = (since : Names) → HaveBeenGiven since (f.names old) (f.holder old) sinks (outputs_of list []) → HaveBeenGiven since (f.names new) (f.holder new) later (outputs_of list all)
 GivesBlocks f list old new sinks later all (Err _) = (since : Names) → HaveBeenGiven since (f.names old) (f.holder old) sinks (outputs_of list []) → ArePrefixes since (f.names new) (outputs_of list all)
@@ -165,7 +168,8 @@ ReadsFew size before now (Err _) = now ≤ before + 2 * size
 -- ---- a walk to the end of a file
 
 -- The remaining blocks in the file of cursor `c` were appended to the outputs `list`, which had none in the state `old`. After a failure, in `new`,
--- they may be there in part. It is promised if the file's content is visible to the proof.
+-- they may be there in part. `sinks` and `later` are the open outputs before and after the call. It is promised if the file's content is visible to
+-- the proof.
 abbrev pub GivesLeft : {S T E : Type 0} → Ghosts S → writing.Ghosts S → List TrackOutput → Reading → S → S → List Sink → List Sink → Result T E → Type 0
 GivesLeft r f list c old new sinks later result = IfTold r old c.file (λ bytes. GivesBlocks f list old new sinks later (blocks_of (left_of bytes c)) result)
 
@@ -174,7 +178,7 @@ GivesLeft r f list c old new sinks later result = IfTold r old c.file (λ bytes.
 abbrev pub WritesLeft : {S T E : Type 0} → Ghosts S → writing.Ghosts S → List TrackOutput → Reading → S → S → Result T E → Type 0
 WritesLeft r f list c old new result = IfTold r old c.file (λ bytes. AreWritten (f.names old) (f.names new) (outputs_of list (blocks_of (left_of bytes c))) result)
 
--- The result has the damaged places and the bad frames in the rest of the file of cursor `c`, if the outputs are `list`. It is promised if the file's
+-- `result` has the damaged places and the bad frames in the rest of the file of cursor `c`, if the outputs are `list`. It is promised if the file's
 -- content is visible to the proof in the state `old`.
 abbrev pub TellsLeft : {S E : Type 0} → Ghosts S → List TrackOutput → Reading → S → Result Extracted E → Type 0
 TellsLeft r list c old result = IfTold r old c.file (λ bytes. IfOk result (λ extracted. extracted ≡ told_of list (left_of bytes c)))
@@ -190,7 +194,7 @@ abbrev pub WritesTaken : {S T E : Type 0} → Ghosts S → writing.Ghosts S → 
 WritesTaken r f s job old new result =
     IfTold r old s.file (λ bytes. AreWritten (f.names old) (f.names new) (outputs_of (outputs_in s job) (blocks_of (events_in s bytes))) result)
 
--- The result has all damaged places of source `s` and the bad frames that `job` leaves out. It is promised if the source's content is visible to the
+-- `result` has all damaged places of source `s` and the bad frames that `job` leaves out. It is promised if the source's content is visible to the
 -- proof in the state `old`.
 abbrev pub TellsTaken : {S E : Type 0} → Ghosts S → Source → Job → S → Result Extracted E → Type 0
 TellsTaken r s job old result = IfTold r old s.file (λ bytes. IfOk result (λ extracted. extracted ≡ told_of (outputs_in s job) (events_in s bytes)))

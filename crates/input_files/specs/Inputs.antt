@@ -74,8 +74,8 @@ end_of k open_fault.Memory = inputs_end.Memory
 abbrev pub first_pending : (List ℕ → Option (List ℕ)) → List (List ℕ) → Option ℕ
 first_pending world names = position_from (is_pending world) 0 names
 
--- The result has the index of the first of the inputs `words` with a pending edit, if any. It is promised if the names are visible to the proof in
--- the state `old`.
+-- `result` has the index of the first of the inputs `words` with a pending edit, if any. It is promised if the names are visible to the proof in the
+-- state `old`.
 abbrev pub FindsPending : {S E : Type 0} → writing.Ghosts S → List FileWords → S → Result (Option ℕ) E → Type 0
 FindsPending f words old result = IfByNames f old result (λ world first. first ≡ first_pending world (file_names words))
 
@@ -85,7 +85,7 @@ is_inputs_fault (inputs_end.Missing input) = false
 is_inputs_fault inputs_end.Failed = true
 is_inputs_fault inputs_end.Memory = false
 
--- In the state `new`, the open files `ids` have the contents that the inputs' names had in `old`. It is promised if the names are visible to the
--- proof.
+-- In the state `new`, the open files `ids` have the contents that the names of the inputs `words` had in `old`. It is promised if the names are
+-- visible to the proof.
 abbrev pub HaveContents : {S : Type 0} → Ghosts S → writing.Ghosts S → List FileWords → S → S → List FileId → Type 0
 HaveContents r f words old new ids = IfVisible (f.names old) (λ world. contents_of (live_files r new).content ids ≡ map world (file_names words))

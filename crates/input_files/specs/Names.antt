@@ -2,7 +2,7 @@
 use Rattle.std.specs.Prelude.{ℕ, nat_eq, Bool, not, ◌&&◌, List, [], ◌∷◌, codes}
 use Rattle.std.specs.List.{ends_with, starts_with}
 
--- The name ends in `.srt`.
+-- The file name `name` ends in `.srt`.
 abbrev pub is_srt_name : List ℕ → Bool
 is_srt_name name = ends_with nat_eq name (codes ".srt")
 
@@ -10,6 +10,7 @@ is_srt_name name = ends_with nat_eq name (codes ".srt")
 abbrev pub begins_ebml : List ℕ → Bool
 begins_ebml bytes = starts_with nat_eq bytes (0x1A ∷ 0x45 ∷ 0xDF ∷ 0xA3 ∷ [])
 
--- The input with this name and this content is read as SubRip. The name ends in `.srt`, and the content doesn't begin with an EBML header.
+-- The input with the name `name` and the content `bytes` is read as SubRip. The name ends in `.srt`, and the content doesn't begin with an EBML
+-- header.
 abbrev pub is_srt : List ℕ → List ℕ → Bool
 is_srt name bytes = is_srt_name name && not (begins_ebml bytes)

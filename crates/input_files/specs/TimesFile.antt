@@ -12,7 +12,7 @@ use Rattle.input_files.specs.declared.times_file.TimesName.{TimesName}
 
 -- ---- timestamp files
 
--- the timestamp file that an option names for the input with the index `input`; the pair has the track and the file's name
+-- the timestamp file that an option names for the input with the index `input`; `pair` has the track and the file's name
 abbrev pub named_of : ℕ → ℕ × List ℕ → TimesName
 named_of input pair = record { input = input; id = pair.0; name = pair.1 }
 

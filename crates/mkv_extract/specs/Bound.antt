@@ -13,8 +13,8 @@ abbrev pub most_of_cues : Job → ℕ → ℕ
 most_of_cues (jobs.Cues list) octets = octets
 most_of_cues job octets = 0
 
--- the limit in bytes for reading a file of `octets` bytes up to its blocks. It is the first Cues; the outline twice; Info, Tracks, Chapters and Tags
--- once each; and attached files without their data.
+-- the limit in bytes for reading a file of `octets` bytes up to its blocks, for `job`. It is the first Cues; the outline twice; Info, Tracks,
+-- Chapters and Tags once each; and attached files without their data.
 abbrev pub most_before : Job → ℕ → ℕ
 most_before job octets = 6 * octets + min (16 * octets) (2 * MAX_ATTACHMENTS_LEN) + most_of_cues job octets
 

@@ -61,7 +61,7 @@ pub record Taken : Type 0 where
 abbrev pub entries_of : FileRead → List Node
 entries_of file = map entry_in file.tracks
 
--- the content for a job for frames or timestamps, from the file `name` with the blocks and damage `events`; `file` has its records
+-- the content for `job`, a job for frames or timestamps, from the file `name` with the blocks and damage `events`; `file` has its records
 abbrev pub frames_taken : List ℕ → Job → FileRead → List Event → Taken
 frames_taken name job file events = record {
   missing = missing_tracks name file (targets_of job);
@@ -70,7 +70,8 @@ frames_taken name job file events = record {
   bad_frames = bad_frames (job_outputs job (entries_of file)) (blocks_of events);
 }
 
--- the content of a job for anything else than frames: the outputs `outputs`, and the lines `missing`. Only damage at level 1 is reported.
+-- the content of a job for anything else than frames of the file `file`: the outputs `outputs`, and the lines `missing`. Only damage at level 1 is
+-- reported.
 abbrev pub taken_whole : FileRead → List (List ℕ) → List Output → Taken
 taken_whole file missing outputs = record { missing = missing; outputs = outputs; damages = option_to_list file.damage; bad_frames = [] }
 
@@ -110,7 +111,7 @@ abbrev pub or_line : {A : Type 0} → List ℕ → Result A Damage → Result A 
 or_line name (Ok x) = Ok x
 or_line name (Err d) = Err (refusal_line name d)
 
--- The content for the job from the file `name`, or the error line of its first refusal; `world` has the content of each name. The checks are in this
+-- The content for `job` from the file `name`, or the error line of its first refusal; `world` has the content of each name. The checks are in this
 -- order. No output has the name of a file that is read. The file exists. Its journal has no pending edit. Its content can be read. Each named track
 -- can be extracted in this form.
 abbrev pub taken_of : (List ℕ → Option (List ℕ)) → List ℕ → Job → Result Taken (List ℕ)
@@ -123,15 +124,15 @@ taken_of world name job =
 
 -- ---- the result
 
--- a warning for each damaged place of the file `name` that is reported, and the number of the others
+-- a warning for each damaged place in `d` of the file `name` that is reported, and the number of the others
 abbrev pub told_lines : List ℕ → ToldDamages → List (List ℕ)
 told_lines name d = damage_lines name d.first d.more
 
--- a warning for each frame of the file `name` that is left out and reported, and the number of the others
+-- a warning for each frame in `d` of the file `name` that is left out and reported, and the number of the others
 abbrev pub told_bad : List ℕ → ToldDamages → List (List ℕ)
 told_bad name d = bad_frame_lines name d.first d.more
 
--- the warnings of the damage of the file `name`, and then of its frames that are left out
+-- the warnings of the damage of the file `name` in `t`, and then of its frames that are left out
 abbrev pub warned : List ℕ → Taken → List (List ℕ)
 warned name t = told_lines name (told_damages t.damages) ++ told_bad name (told_damages t.bad_frames)
 
@@ -156,6 +157,6 @@ abbrev pub verdict_of : List ℕ → Result Taken (List ℕ) → Verdict
 verdict_of name (Ok t) = done_verdict name t
 verdict_of name (Err line) = refused line
 
--- the outcome of `extract` for the file `name`; `world` has the content of each name
+-- the outcome of `extract` for the file `name` and the job `job`; `world` has the content of each name
 abbrev pub extract_verdict : (List ℕ → Option (List ℕ)) → List ℕ → Job → Verdict
 extract_verdict world name job = verdict_of name (taken_of world name job)

@@ -22,13 +22,13 @@ abbrev pub Takes : {F P : Type 0} → ReadsGhosts F → FilesGhosts F → Report
 Takes r f p files files' report report' result name job =
     IfVisible (f.names files) (λ world. Fulfils r f p files files' report report' result (extract_verdict world name job))
 
--- The job can be done on `file`, which is open in the state `files`, and no output has its name.
+-- `job` can be done on `file`, which is open in the state `files`, and no output has its name.
 pub record CanTake {F : Type 0} (r : ReadsGhosts F) (f : FilesGhosts F) (files : F) (file : FileId) (job : Job) : Type 0 where
   pub done : CanBeDone job
   pub live : IsLive r files file
   pub other : AreOthers (f.holder files file.n) (names_for job)
 
--- The job can be done on `source`, which is open in the state `files`. The frames of the tracks that the job names can be used, and no output has the
+-- `job` can be done on `source`, which is open in the state `files`. The frames of the tracks that the job names can be used, and no output has the
 -- name of the source.
 pub record CanTakeFrom {F : Type 0} (r : ReadsGhosts F) (f : FilesGhosts F) (files : F) (source : Source) (job : Job) : Type 0 where
   pub done : CanBeDone job

@@ -14,6 +14,6 @@ is_either name sidecar out = bytes_eq out name || bytes_eq out sidecar
 abbrev pub is_read : List ℕ → List ℕ → Bool
 is_read name out = is_either name (sidecar_of name) out
 
--- the first output name of `job` that is also the name of a file that is read, if any
+-- the first output name of `job` that is also the name of a file that is read for the input `name`, if any
 abbrev pub first_written : List ℕ → Job → Option (List ℕ)
 first_written name job = find (is_read name) (names_for job)

@@ -35,7 +35,7 @@ abbrev pub causes_from : List Target → ℕ → List Track → List (Option Dam
 causes_from targets k [] = []
 causes_from targets k (t ∷ ts) = causes_of targets k t ++ causes_from targets (k + 1) ts
 
--- the reason why the frames of the first track that one of `targets` names can't be used, if there is such a track
+-- the reason why the frames of the first of `tracks` that one of `targets` names can't be used, if there is such a track
 abbrev pub first_unusable : List Target → List Track → Option Damage
 first_unusable targets tracks = first_damage (causes_from targets 0 tracks)
 
@@ -66,7 +66,7 @@ abbrev pub read_with : Header → Option Damage → FileRecords → Option Node 
 read_with segment damage r cues =
     record { segment = segment; damage = damage; info = r.info; tracks = r.tracks; attachments = r.attachments; chapters = r.chapters; cues = cues }
 
--- the first Cues of a file with the content `bytes` and this Segment, if the job extracts cue points; none for other jobs
+-- the first Cues of a file with the content `bytes` and the Segment `segment`, if the job extracts cue points; none for other jobs
 abbrev pub cues_for : Job → List ℕ → Header → Result (Option Node) Damage
 cues_for (jobs.Cues list) bytes segment = first_cues bytes segment
 cues_for job bytes segment = Ok None
@@ -87,7 +87,7 @@ ReadsSource found (Err (outline_end.Refused d)) = found ≡ Err d
 ReadsSource found (Err outline_end.ReadFault) = ⊤
 ReadsSource found (Err outline_end.Memory) = ⊤
 
--- If the content `bytes` has this outline, `result` has its first Cues for `job`, or the refusal of the Cues.
+-- If the content `bytes` has the outline `outline`, `result` has its first Cues for `job`, or the refusal of the Cues.
 abbrev pub ReadsCues : Job → FileOutline → Result (Option Node) OutlineEnd → List ℕ → Type 0
 ReadsCues job outline result bytes = (held : ℕ) → outline_in held bytes ≡ Ok outline → ReadsAs (cues_for job bytes outline.segment) result
 

@@ -34,7 +34,7 @@ abbrev pub more_line : WarningKind → List ℕ → ℕ → List ℕ
 more_line wrong.File name more = more_damages_line name more
 more_line wrong.Frames name more = more_bad_frames_line name more
 
--- the line with the number `more` of damaged places that aren't printed each, or none if it is 0; `what` is their kind
+-- the line for the file `name` with the number `more` of damaged places that aren't printed each, or none if it is 0. `what` is their kind.
 abbrev pub others : WarningKind → List ℕ → ℕ → List (List ℕ)
 others what name more = if more == 0 then [] else more_line what name more ∷ []
 
@@ -49,7 +49,8 @@ written count (t ∷ ts) = (if nat_lt t.id count then t.name ∷ [] else []) ++ 
 
 -- ---- the lines of the calls
 
--- a line for each number that `targets` name and the file `name` lacks, each number once; `count` is the first number that it lacks
+-- a line for each number that `targets` name and the file `name` lacks, each number once. `count` is the first number that it lacks, and `what` are
+-- tracks or attached files.
 abbrev pub absent_lines : Missing → List ℕ → ℕ → List Target → List (List ℕ)
 absent_lines what name count targets = map (line_of what name) (absent count targets)
 
@@ -57,8 +58,8 @@ absent_lines what name count targets = map (line_of what name) (absent count tar
 abbrev pub wrote_lines : ℕ → List Target → List (List ℕ)
 wrote_lines count targets = map wrote_line (written count targets)
 
--- the lines after an extraction of attached files or cue points: the outputs, and then damage at level 1. `count` is the first number that the file
--- `name` lacks.
+-- the lines after an extraction of attached files or cue points: the outputs for `targets`, and then `damage`, the damage at level 1. `count` is the
+-- first number that the file `name` lacks.
 abbrev pub held_lines : List ℕ → ℕ → List Target → Option Damage → List (List ℕ)
 held_lines name count targets damage = wrote_lines count targets ++ outline_lines name damage
 
@@ -66,12 +67,12 @@ held_lines name count targets damage = wrote_lines count targets ++ outline_line
 abbrev pub wrong_lines : List ℕ → Extracted → List (List ℕ)
 wrong_lines name e = told_lines name e.damages ++ told_bad name e.bad_frames
 
--- the lines after an extraction of frames: the outputs, then the damage and the frames that are left out. `count` is the number of tracks in the file
--- `name`.
+-- the lines after an extraction of frames: the outputs for `targets`, then the damage and the frames that are left out, which `e` has. `count` is the
+-- number of tracks in the file `name`.
 abbrev pub extracted_lines : List ℕ → ℕ → List Target → Extracted → List (List ℕ)
 extracted_lines name count targets e = wrote_lines count targets ++ wrong_lines name e
 
--- The result has the status for the damage and the frames left out that `e` reports; `is_missing` is true if an item is missing.
+-- `result` has the status for the damage and the frames left out that `e` reports; `is_missing` is true if an item is missing.
 abbrev pub HasStatusOf : Extracted → Bool → Result Status CommandEnd → Type 0
 HasStatusOf e is_missing result =
     (damages bad : List Damage) → e.damages ≡ told_damages damages → e.bad_frames ≡ told_damages bad → IfOk result (λ s. s ≡ status_of is_missing (damages ++ bad))

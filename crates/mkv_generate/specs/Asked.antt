@@ -13,6 +13,6 @@ abbrev pub IsBesidesGenerate : Names → Asked → Type 0
 IsBesidesGenerate names (Opened name) = AreOthers name (names.pictures ∷ names.sounds ∷ names.both ∷ [])
 IsBesidesGenerate names (Made name) = AreOthers name (names.pictures ∷ names.sounds ∷ names.both ∷ []) × (may_be_written true names.parts name ≡ false)
 
--- From the calls `old` to `new`, only the two files and the merged file are opened. Only the three and parts of the split are created.
+-- From the calls `old` to `new`, only the two files and the merged file of `names` are opened. Only the three and parts of the split are created.
 abbrev pub AsksToGenerate : Names → List Asked → List Asked → Type 0
 AsksToGenerate names old new = AsksNone (IsBesidesGenerate names) old new

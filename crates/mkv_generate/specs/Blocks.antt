@@ -12,8 +12,8 @@ use Rattle.mkv_generate.specs.declared.blocks.MediaKind.TheVariants.{Pictures, S
 abbrev pub counting : ℕ → ℕ → List ℕ
 counting first count = map (λ n. n % 256) (range_with_len first count)
 
--- a SimpleBlock at `time` milliseconds, a keyframe if `key` is true, whose bytes `octets` are cut into frames of the sizes `sizes`. It is on no
--- output track yet.
+-- a SimpleBlock at `time` milliseconds, a keyframe if `key` is true, with the lacing `kind`. Its bytes `octets` are cut into frames of the sizes
+-- `sizes`. It is on no output track yet.
 abbrev pub simple_block : ℕ → Bool → Lace → List ℕ → List ℕ → OutputBlock
 simple_block time key kind sizes octets = record {
   lane = 0;

@@ -29,21 +29,21 @@ most_behind names (Err why) = 0
 abbrev pub most_made : ℕ → own.Names → ℕ
 most_made n names = most_merged (both_words names) (layouts (two_files n names)) + most_behind names (merge_of (both_words names) (two_files n names))
 
--- the limit in bytes for `generate N PREFIX`, where `n` is N, with any other files present
+-- the limit in bytes for `generate N PREFIX`, where `n` is N and `prefix` is PREFIX, with any other files present
 abbrev pub most_to_generate : ℕ → List ℕ → ℕ
 most_to_generate n prefix = most_made n (names_of prefix)
 
 -- ---- on the way
 
--- The split reads at most its limit, if the two files and the merged file are complete in the names `old`. `before` and `now` are the counts of bytes
--- read before and after.
+-- The split reads at most its limit, if the two files and the merged file of `names` are complete in the names `old`. `before` and `now` are the
+-- counts of bytes read before and after.
 abbrev pub ReadsMerged : Names → own.Names → ℕ → ℕ → Type 0
 ReadsMerged old names before now =
     (n : ℕ) (first : Names) (world : List ℕ → Option (List ℕ)) (made : MergeMade) → first ≡ Some world → merge_of (both_words names) (two_files n names) ≡ Ok made → IsOneFile names.both made
     → WritesAll first old (two_files n names ++ made.outputs) → now ≤ before + most_merged (parts_words names) (layouts made.outputs)
 
--- Both merges read at most their limit, if the two files are complete in the names `old`. `before` and `now` are the counts of bytes read before and
--- after.
+-- Both merges read at most their limit, if the two files of `names` are complete in the names `old`. `before` and `now` are the counts of bytes read
+-- before and after.
 abbrev pub ReadsBoth : Names → own.Names → ℕ → ℕ → Type 0
 ReadsBoth old names before now =
     (n : ℕ) (first : Names) (world : List ℕ → Option (List ℕ)) → first ≡ Some world → names.pictures ≢ names.sounds → WritesAll first old (two_files n names) → now ≤ before + most_made n names

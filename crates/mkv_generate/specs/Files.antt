@@ -36,7 +36,7 @@ track_of medium = master TRACK_ENTRY 0 (nodes_of (
 abbrev pub front_of : MediaKind → Front
 front_of medium = record { webm = false; info = output_info 1000000 []; tracks = output_tracks (track_of medium ∷ []); attachments = [] }
 
--- The code's `f` has the Elements before the Clusters of the file of this kind.
+-- The code's `f` has the Elements before the Clusters of the file of the kind `medium`.
 pub record IsFrontOf (medium : MediaKind) (f : given.Front) : Type 0 where
   pub webm : f.webm ≡ false
   pub info : f.info ≡ output_info 1000000 []
@@ -52,7 +52,7 @@ abbrev pub rule_of : MediaKind → CueRule
 rule_of Pictures = Key
 rule_of Sounds = Never
 
--- the blocks of the file of this kind for `n` pictures, on output track 1
+-- the blocks of the file of the kind `medium` for `n` pictures, on output track 1
 abbrev pub lane_blocks : MediaKind → ℕ → List OutputBlock
 lane_blocks medium n = map (in_lane 1) (blocks_of medium n)
 

@@ -44,11 +44,11 @@ names_of prefix = record {
 
 -- ---- the two files
 
--- the output `name` of pictures or of sounds, by its kind, for `n` pictures
+-- the output `name` of the kind `medium`, pictures or sounds, for `n` pictures
 abbrev pub made_file : MediaKind → ℕ → List ℕ → PlannedOutput
 made_file medium n name = record { name = name; blocks = blocks_of medium n; document = file_of medium n }
 
--- the two files that are merged, for `n` pictures: the pictures, and two sounds for each
+-- the two files of `names` that are merged, for `n` pictures: the pictures, and two sounds for each
 abbrev pub two_files : ℕ → Names → List PlannedOutput
 two_files n names = made_file Pictures n names.pictures ∷ made_file Sounds n names.sounds ∷ []
 
@@ -92,23 +92,23 @@ abbrev pub first_written : List Written → Written
 first_written [] = record { name = []; blocks = 0; clusters = 0; cues = 0 }
 first_written (file ∷ more) = file
 
--- the line that `generate` prints for `n` pictures: the counts of the merged file `both`, and the number of parts
+-- the line that `generate` prints for `n` pictures: the counts of the merged file `both`, and the number of `parts`
 abbrev pub line_for : ℕ → Written → ℕ → List ℕ
 line_for n both parts = generated_line n both.blocks both.clusters both.cues parts
 
--- the outcome with this status, the files `files`, written in sequence, and the lines `lines`
+-- the outcome with the status `status`, the files `files`, written in sequence, and the lines `lines`
 abbrev pub comes_to : Status → List PlannedOutput → List (List ℕ) → Verdict
 comes_to status files lines = record { status = status; lines = lines; before = []; outputs = in_turn (drafts_of files) }
 
--- the outcome for `n` pictures, once `files` and the merged file are written, by the split that makes the parts or is refused. Warnings follow the
--- line.
+-- the outcome for `n` pictures, once `files` and the merged file `both` of `names` are written. The split makes the parts or is refused. Warnings
+-- follow the line.
 abbrev pub with_parts : ℕ → Names → List PlannedOutput → MergeMade → Result MergeMade Refusal → Verdict
 with_parts n names files both (Ok parts) =
     comes_to (warned_if (both.damaged || parts.damaged)) (files ++ both.outputs ++ parts.outputs)
     (line_for n (first_written (map written_of both.outputs)) (length parts.outputs) ∷ both.warned ++ parts.warned)
 with_parts n names files both (Err why) = comes_to Refused (files ++ both.outputs) (line_of (parts_words names) why ∷ [])
 
--- the outcome for `n` pictures, once `files` are written, by the merge that makes the merged file or is refused
+-- the outcome for `n` pictures, once `files` of `names` are written, by the merge that makes the merged file or is refused
 abbrev pub with_both : ℕ → Names → List PlannedOutput → Result MergeMade Refusal → Verdict
 with_both n names files (Ok both) = with_parts n names files both (merge_of (parts_words names) both.outputs)
 with_both n names files (Err why) = comes_to Refused files (line_of (both_words names) why ∷ [])
@@ -117,7 +117,7 @@ with_both n names files (Err why) = comes_to Refused files (line_of (both_words 
 abbrev pub verdict_of : ℕ → Names → Verdict
 verdict_of n names = with_both n names (two_files n names) (merge_of (both_words names) (two_files n names))
 
--- the outcome of `generate N PREFIX`, where `n` is N, with any other files present
+-- the outcome of `generate N PREFIX`, where `n` is N and `prefix` is PREFIX, with any other files present
 abbrev pub generate_verdict : ℕ → List ℕ → Verdict
 generate_verdict n prefix = verdict_of n (names_of prefix)
 
@@ -127,7 +127,7 @@ abbrev pub MakesNamed : {F P : Type 0} → ReadsGhosts F → FilesGhosts F → R
 MakesNamed r f p files files' report report' result n names =
     IfVisible (f.names files) (λ world. Fulfils r f p files files' report report' result (verdict_of n names))
 
--- The call has the outcome of `generate N PREFIX`, where `n` is N, or failed on the way. `files` and `files'` are the states of the files before and
--- after, `report` and `report'` of the report. It is promised if the contents are visible to the proof.
+-- The call has the outcome of `generate N PREFIX`, where `n` is N and `prefix` is PREFIX, or failed on the way. `files` and `files'` are the states
+-- of the files before and after, `report` and `report'` of the report. It is promised if the contents are visible to the proof.
 abbrev pub Generates : {F P : Type 0} → ReadsGhosts F → FilesGhosts F → ReportGhosts P → F → F → P → P → Result Status CommandEnd → ℕ → List ℕ → Type 0
 Generates r f p files files' report report' result n prefix = MakesNamed r f p files files' report report' result n (names_of prefix)

@@ -6,7 +6,7 @@ use Rattle.output_model.specs.OutputBlock.{IsLent, Lent, OutputBlock, lent_block
 use Rattle.cluster_writer.specs.Lent.{lent}
 use Rattle.mkv_generate.specs.declared.blocks.Made.{Made}
 
--- the head of a SimpleBlock at `time` milliseconds, a keyframe if `key` is true, with this lacing
+-- the head of a SimpleBlock at `time` milliseconds, a keyframe if `key` is true, with the lacing `kind`
 abbrev pub simple_head : ℕ → Bool → Lace → OutHead
 simple_head time key kind = record {
   tick = time;

@@ -56,19 +56,20 @@ pub record HasMade (old new : Names) (n : ℕ) (outcome : Outcome) (v : Verdict)
   pub lines : v.lines ≡ lines_of n outcome
   pub status : v.status ≡ status_for outcome
 
--- The names `old` have become `new`: the files of `generate` for `n` pictures are made as defined. After a failure some first ones are complete, and
--- the next one is a draft.
+-- The contents `old` of all names have become `new`: the files `names` of `generate` for `n` pictures are made as defined. After a failure some first
+-- ones are complete, and the next one is a draft.
 abbrev pub Makes : Names → Names → ℕ → own.Names → Result Outcome CommandEnd → Type 0
 Makes old new n names (Ok outcome) = HasMade old new n outcome (verdict_of n names)
 Makes old new n names (Err why) = Leaves old new (verdict_of n names).outputs
 
--- `Makes` holds, from the names `old` to `new`, if the two files and the merged file, made by `both`, are complete in `old`.
+-- `Makes` holds of the files `names`, from the contents `old` of all names to `new`. It needs that the two files and the merged file, made by `both`,
+-- are complete in `old`.
 abbrev pub MakesParts : Names → Names → own.Names → Done → Result Outcome CommandEnd → Type 0
 MakesParts old new names both result =
     (n : ℕ) (before : Names) (world : List ℕ → Option (List ℕ)) (made : MergeMade) → before ≡ Some world → merge_of (both_words names) (two_files n names) ≡ Ok made → IsDone made both → IsOneFile names.both made
     → WritesAll before old (two_files n names ++ made.outputs) → Makes before new n names result
 
--- `Makes` holds, from the names `old` to `new`, if the two files are complete in `old`.
+-- `Makes` holds of the files `names`, from the contents `old` of all names to `new`, if the two files are complete in `old`.
 abbrev pub MakesBoth : Names → Names → own.Names → Result Outcome CommandEnd → Type 0
 MakesBoth old new names result =
     (n : ℕ) (before : Names) (world : List ℕ → Option (List ℕ)) → before ≡ Some world → names.pictures ≢ names.sounds → WritesAll before old (two_files n names) → Makes before new n names result

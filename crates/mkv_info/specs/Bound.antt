@@ -24,6 +24,6 @@ abbrev pub most_with : Form → Option (List ℕ) → ℕ
 most_with form None = 0
 most_with form (Some bytes) = with_sidecar_head (most_of_form form) (length bytes)
 
--- the limit in bytes for describing the file `name` in this form, if `world` has the content of each name
+-- the limit in bytes for describing the file `name` in the form `form`, if `world` has the content of each name
 abbrev pub most_to_tell : Form → (List ℕ → Option (List ℕ)) → List ℕ → ℕ
 most_to_tell form world name = most_with form (world name)

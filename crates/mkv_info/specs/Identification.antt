@@ -26,7 +26,7 @@ container_properties info = object_of (
     if_there "title" (option_map string (title_of info)) ∷
     [])
 
--- the value of the key `container` for a file with this first Info: that the file is Matroska, and its properties
+-- the value of the key `container` for a file with the first Info `info`: that the file is Matroska, and its properties
 abbrev pub container_value : Option Node → Data
 container_value info = object_of (
     given "properties" (container_properties info) ∷

@@ -16,7 +16,7 @@ Member = List ℕ × Option Data
 abbrev pub given : String → Data → Member
 given key value = (codes key, Some value)
 
--- the member with the key `key`, which is left out if there is no value
+-- the member with the key `key` and the value `value`, which is left out if there is no value
 abbrev pub if_there : String → Option Data → Member
 if_there key value = (codes key, value)
 

@@ -10,12 +10,12 @@ use Rattle.std.specs.declared.string.String.{String}
 use Rattle.serde_json.specs.View.{members_view, view}
 use Rattle.serde_json.specs.declared.value.Value.{Value}
 
--- the members of an object after the member `key` is put into it; without a value the object stays
+-- the members `ms` of an object after the member `key` is put into it; without a value the object stays
 abbrev pub put_if : List ℕ → Option Data → Members → Members
 put_if key None ms = ms
 put_if key (Some value) ms = put key value ms
 
--- The code put the member `key` with this value into an object, whose members were `old` and are `new`. Without a value the object stays.
+-- The code put the member `key` with the value `value` into an object, whose members were `old` and are `new`. Without a value the object stays.
 abbrev pub PutsMember : List ℕ → Option Value → List (String Global × Value) → List (String Global × Value) → Type 0
 PutsMember key value old new = members_view new ≡ put_if key (option_map view value) (members_view old)
 

@@ -29,7 +29,7 @@ abbrev pub is_counted : Scope → Node → Bool
 is_counted Global tag = not (list_any (λ own. true) (tracks_named tag))
 is_counted (Track uid) tag = list_any (λ own. own == uid) (tracks_named tag)
 
--- the SimpleTags directly in the Tags of `ns` that are counted in this scope, each once; `ns` has the children of a Tags
+-- the SimpleTags directly in the Tags of `ns` that are counted in `scope`, each once; `ns` has the children of a Tags
 abbrev pub simple_tags : Scope → List Node → List Node
 simple_tags scope ns = flat_map (λ t. part SIMPLE_TAG (children t)) (filter (is_counted scope) (part TAG ns))
 
@@ -42,11 +42,11 @@ tag_count scope (Some tags) = length (simple_tags scope (children tags))
 abbrev pub counted_tags : ℕ → ℕ → Data
 counted_tags count id = object_of (given "num_entries" (whole count) ∷ given "track_id" (whole id) ∷ [])
 
--- the object for the SimpleTags of the track `t`, which has the index `id`, as a list; empty if it has none
+-- the object for the SimpleTags in `tags` of the track `t`, which has the index `id`, as a list; empty if it has none
 abbrev pub track_tags : Option Node → ℕ → tracks.Track → List Data
 track_tags tags id t =
     if tag_count (Track t.uid) tags == 0 then [] else counted_tags (tag_count (Track t.uid) tags) id ∷ []
 
--- the value of the key `track_tags`: the counts for all of `tracks` that have SimpleTags, with their index from 0
+-- the value of the key `track_tags`: the counts in `tags` for all of `tracks` that have SimpleTags, with their index from 0
 abbrev pub track_tags_value : Option Node → List tracks.Track → Data
 track_tags_value tags tracks = array_of (numbered (track_tags tags) 0 tracks)

@@ -16,7 +16,7 @@ use Rattle.mkv_info.specs.Texts.{text_or_empty, unless_empty}
 abbrev pub flag : ℕ → Node → Data
 flag id entry = boolean (not (uint_in id entry == 0))
 
--- two numbers of pixels as `WIDTHxHEIGHT`
+-- `width` and `height`, both in pixels, as `WIDTHxHEIGHT`
 abbrev pub dimensions_text : ℕ → ℕ → List ℕ
 dimensions_text width height = decimal width ++ (codes "x" ++ decimal height)
 
@@ -54,6 +54,6 @@ track_value id t = object_of (
     given "type" (string (type_name t.kind)) ∷
     [])
 
--- the value of the key `tracks`: a list of the tracks in their order in the file, numbered from 0
+-- the value of the key `tracks`: the tracks `list` in their order in the file, numbered from 0
 abbrev pub tracks_value : List Track → Data
 tracks_value list = array_of (numbered (λ id t. track_value id t ∷ []) 0 list)

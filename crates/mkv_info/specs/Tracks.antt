@@ -17,11 +17,11 @@ abbrev pub tracks_in : Option Node → Result (List Track) Damage
 tracks_in None = Ok []
 tracks_in (Some tracks) = tracks_of tracks
 
--- the tracks of a file with the content `bytes` and this Segment, or the damage for which they are refused
+-- the tracks of a file with the content `bytes` and the Segment `segment`, or the damage for which they are refused
 abbrev pub file_tracks : List ℕ → Header → Result (List Track) Damage
 file_tracks bytes segment = and_then (first_tree TRACKS bytes segment) tracks_in
 
--- If the content `bytes` has this outline, `found` is the tracks of the file, or the damage for which they are refused.
+-- If the content `bytes` has the outline `outline`, `found` is the tracks of the file, or the damage for which they are refused.
 abbrev pub AreTracksOf : FileOutline → Result (List Track) Damage → List ℕ → Type 0
 AreTracksOf outline found bytes = outline_in 0 bytes ≡ Ok outline → found ≡ file_tracks bytes outline.segment
 

@@ -35,7 +35,7 @@ abbrev pub change_told : List ℕ → FileChange → List ℕ → Verdict
 change_told name (Edits edits) M = told name (edited M edits.now)
 change_told name Index M = indexed_told name (index_of M)
 
--- the outcome of the command for the file `name` with the content `media` and a journal with the content `sidecar`. If `is_there` is false, the file
+-- the outcome of `change` for the file `name` with the content `media` and a journal with the content `sidecar`. If `is_there` is false, the file
 -- doesn't exist.
 abbrev pub change_verdict : Bool → List ℕ → FileChange → List ℕ → List ℕ → Verdict
 change_verdict is_there name change media sidecar = file_verdict is_there name sidecar (change_told name change media)
@@ -62,7 +62,7 @@ abbrev pub most_to_plan_change : FileChange → ℕ → ℕ
 most_to_plan_change (Edits edits) octets = most_to_plan octets
 most_to_plan_change Index octets = most_to_index octets
 
--- the limit in bytes for making a change of a file of `octets` bytes in place: that for planning, and the head of its journal
+-- the limit in bytes for making `change` of a file of `octets` bytes in place: that for planning, and the head of its journal
 abbrev pub most_to_change : FileChange → ℕ → ℕ
 most_to_change change octets = HEAD + most_to_plan_change change octets
 

@@ -80,8 +80,8 @@ pub record IsEdit {D : Type 0} (d : Ghosts D) (found : List ℕ → Result (List
   pub pair : OfReads d old (λ M S. LeavesEdited s found M S (d.pair new))
   pub any_moment : AnyMoment d old new (LeftByEdit s found)
 
--- An edit of the file `name` that ended with the status `s` took the disk from `old` to `new`, as `IsEdit` describes. The file and its journal are
--- open under this name, or couldn't be opened.
+-- An edit of the file `name` that ended with the status `s` took the disk from `old` to `new`, as `IsEdit` describes. `found` gives the writes for a
+-- content. The file and its journal are open under this name, or couldn't be opened.
 pub record IsEditOf {D : Type 0} (r : reads.Ghosts D) (d : Ghosts D) (name : List ℕ) (found : List ℕ → Result (List Write) Refusal) (old new : D) (s : Status) : Type 0 where
   pub leaves : IsEdit d found old new s
   pub opened : (d.opened new ≡ Some name) ⊎ IsUnopened r d name old new s
@@ -98,7 +98,7 @@ StaysOpenOf r d old new most = StaysOpen r d old new (most (file_size r old MEDI
 
 -- ---- the execution of a plan
 
--- The plan was made for a file with the content `M`, and its journal, with the content `S`, has no pending edit.
+-- The plan `plan` was made for a file with the content `M`, and its journal, with the content `S`, has no pending edit.
 pub record IsPlannedFor (plan : Planned) (M S : List ℕ) : Type 0 where
   pub sound : IsPlan plan
   pub made : IsMadeFor plan.head M

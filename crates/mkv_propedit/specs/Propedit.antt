@@ -63,8 +63,8 @@ unless_begun name (Bad offset) v = refused (bad_sidecar_line name offset)
 abbrev pub file_verdict : Bool → List ℕ → List ℕ → Verdict → Verdict
 file_verdict is_there name sidecar v = if is_there then unless_begun name (state sidecar) v else refused (missing_line name)
 
--- the outcome of `propedit` for the file `name` with the content `media` and a journal with the content `sidecar`; `is_there` is whether the file
--- exists
+-- the outcome of `propedit` with `edits` for the file `name` with the content `media` and a journal with the content `sidecar`. `is_there` is whether
+-- the file exists.
 abbrev pub propedit_verdict : Bool → List ℕ → List Edit → List ℕ → List ℕ → Verdict
 propedit_verdict is_there name edits media sidecar = file_verdict is_there name sidecar (told name (edited media edits))
 

@@ -28,13 +28,14 @@ reach_for words = reach_in (command (texts words))
 abbrev pub verdict_for : {F D : Type 0} → FilesGhosts F → DiskGhosts D → F → D → List (String Global) → Option Verdict
 verdict_for f d files disk words = verdict_in (f.names files) (disk_world d disk) (texts words)
 
--- The run of `words` ends with `status`, and leaves the outcome of `words` or a part of it. The states without a prime are before the run. It is
--- promised if the outcome is visible to the proof.
+-- The run of `words` ends with `status`, and leaves the outcome of `words` or a part of it. The states before the run are `files`, `disk` and
+-- `report`, and the ones with a prime are after it. It is promised if the outcome is visible to the proof.
 abbrev pub EndsFor : {F D R : Type 0} → ReadsGhosts F → FilesGhosts F → ReadsGhosts D → DiskGhosts D → ReportGhosts R → F → F → D → D → R → R → List (String Global) → Status → Type 0
 EndsFor r f s d p files files' disk disk' report report' words status =
     IfVisible (verdict_for f d files disk words) (Ends (run_seen r f s d p files disk report) (run_seen r f s d p files' disk' report') status)
 
--- The run of `words` ends with the status of a failure only if a failure was counted. The states without a prime are before the run.
+-- The run of `words` ends with `status`, if it is one of a failure, only if a failure was counted. The states before the run are `files`, `disk` and
+-- `report`, and the ones with a prime are after it.
 abbrev pub HasCauseFor : {F D R : Type 0} → ReadsGhosts F → FilesGhosts F → ReadsGhosts D → DiskGhosts D → ReportGhosts R → F → F → D → D → R → R → List (String Global) → Status → Type 0
 HasCauseFor r f s d p files files' disk disk' report report' words status =
     HasStatusCause (reach_for words) (run_seen r f s d p files disk report) (run_seen r f s d p files' disk' report') status

@@ -60,9 +60,9 @@ verdict_in names disk words = verdict_after names disk (command words)
 
 -- ---- limits on the bytes that are read
 
--- The number of bytes read grows from `before` to `now` by at most the limit of the command. It needs that the files, or for an edit in place the
--- disk, are visible to the proof. A recovery reads at most the largest size of a record, however large the file is. Help and the version read
--- nothing.
+-- The number of bytes read grows from `before` to `now` by at most the limit of the command. It needs that the files `names`, or for an edit in place
+-- the disk `disk`, are visible to the proof. A recovery reads at most the largest size of a record, however large the file is. Help and the version
+-- read nothing.
 abbrev pub ReadsWithin : Names → Option DiskWorld → Command → ℕ → ℕ → Type 0
 ReadsWithin names disk (Help about) before now = now ≡ before
 ReadsWithin names disk Version before now = now ≡ before
@@ -76,12 +76,14 @@ ReadsWithin names disk (Extract file job) before now = IfVisible names (λ world
 ReadsWithin names disk (Propedit file edits) before now = IfVisible disk (λ world. now ≤ before + most_to_edit (length world.media))
 ReadsWithin names disk (Merge words) before now = IfVisible names (λ world. now ≤ before + most_read world words)
 
--- The number of bytes read grows from `before` to `now` by at most the limit of a command line, as parsed. A refused one reads nothing.
+-- The number of bytes read grows from `before` to `now` by at most the limit of a command line, as parsed. `names` are the files and `disk` is the
+-- disk before the run. A refused command line reads nothing.
 abbrev pub ReadsWithinAfter : Names → Option DiskWorld → Result Command Usage → ℕ → ℕ → Type 0
 ReadsWithinAfter names disk (Ok command) before now = ReadsWithin names disk command before now
 ReadsWithinAfter names disk (Err usage) before now = now ≡ before
 
--- The number of bytes read grows from `before` to `now` by at most the limit of the command line `words`. A refused one reads nothing.
+-- The number of bytes read grows from `before` to `now` by at most the limit of the command line `words`. `names` are the files and `disk` is the
+-- disk before the run. A refused command line reads nothing.
 abbrev pub ReadsWithinIn : Names → Option DiskWorld → List (List ℕ) → ℕ → ℕ → Type 0
 ReadsWithinIn names disk words before now = ReadsWithinAfter names disk (command words) before now
 
@@ -97,8 +99,8 @@ MergesReadable names _ r = ⊤
 abbrev pub MergesReadableIn : Names → List (List ℕ) → Result Status CommandEnd → Type 0
 MergesReadableIn names words r = IfOk (command words) (λ (c : Command). MergesReadable names c r)
 
--- If the command line `words` merges, its output can be read again after a run with this status. It isn't promised if memory ran out or a call of the
--- system failed.
+-- If the command line `words` merges, its output can be read again after a run with this status; `names` has the contents before the run. It isn't
+-- promised if memory ran out or a call of the system failed.
 abbrev pub LeavesReadable : Names → List (List ℕ) → Status → Type 0
 LeavesReadable names words status.NoMemory = ⊤
 LeavesReadable names words status.Outside = ⊤

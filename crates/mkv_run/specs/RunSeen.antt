@@ -60,8 +60,8 @@ HasRunStop reach old new (Err stop.Disk) = DiskRose old.disk new.disk × (new.se
 HasRunStop reach old new (Err stop.Report) =
     ReportRose old.seen.counts new.seen.counts × (new.seen.counts ≡ record old.seen.counts { report = new.seen.counts.report }) × (new.disk ≡ old.disk)
 
--- A command that works on `reach` ended with an ordinary status, or failed for the right reason. The same files are open as before. The states with a
--- prime are after it.
+-- A command that works on `reach` ended with an ordinary status, or failed for the right reason. The same files are open as before. The states before
+-- are `files`, `disk` and `report`, and the ones with a prime are after it.
 pub record HasObeyed {F D R : Type 0} (r : ReadsGhosts F) (f : FilesGhosts F) (s : ReadsGhosts D) (d : DiskGhosts D) (p : ReportGhosts R) (files files' : F) (disk disk' : D) (report report' : R) (reach : Reach) (result : Result Status CommandEnd) : Type 0 where
   pub ordinary : IfOk result IsOrdinary
   pub live : (file : ℕ) → (live_files r files').live file ≡ (live_files r files).live file

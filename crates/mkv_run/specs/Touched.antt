@@ -59,7 +59,7 @@ Touches r d (recovered file) old new disk disk_now s = (new ≡ old) × IsRecove
 Touches r d (edited file edits) old new disk disk_now s = (new ≡ old) × IsEditOf r d file (writes_of_edits edits) disk disk_now s
 Touches r d (indexed file) old new disk disk_now s = (new ≡ old) × IsEditOf r d file writes_of_index disk disk_now s
 
--- A command that ended with `result` changes only what it works on. `old` and `new` are the states of the files before and after, `disk` and
+-- A command that ended with `result` changes only what it works on, `reach`. `old` and `new` are the states of the files before and after, `disk` and
 -- `disk_now` of the disk.
 abbrev pub Touched : {F D : Type 0} → reads.Ghosts D → disks.Ghosts D → Reach → F → F → D → D → Result Status CommandEnd → Type 0
 Touched r d reach old new disk disk_now result = Touches r d reach old new disk disk_now (status_of result)

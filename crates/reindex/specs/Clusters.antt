@@ -44,7 +44,7 @@ pub record HasComeTo (bytes : List ℕ) (list : List Header) (c : Clusters) : Ty
   pub ascends : AscendFrom 0 (due bytes c)
   pub before : (at : ℕ) → c.reached ≤ at → cluster_before at list ≡ option_or (cluster_before at (due bytes c)) c.last
 
--- The walk `c` has passed no Element, in any file with the length of this outline.
+-- The walk `c` has passed no Element, in any file with the length of the outline `outline`.
 abbrev pub StandsAtStart : FileOutline → Clusters → Type 0
 StandsAtStart outline c = (bytes : List ℕ) → outline.total ≡ length bytes → HasComeTo bytes (segment_run bytes outline.segment).list c
 
@@ -88,11 +88,11 @@ pub record IsReady (files : LiveFiles) (c : Clusters) : Type 0 where
   pub inside : c.level.at ≤ c.level.end
   pub reads : CanRead files c.level
 
--- The bytes that the walk `c` has buffered begin at its offset or before, and end at the end of the file `file` or before.
+-- The bytes that the walk `c` has buffered begin at its offset or before. They end at the end of the file `file` in the state `src`, or before.
 abbrev pub IsWindowIn : {S : Type 0} → Ghosts S → S → FileId → Clusters → Type 0
 IsWindowIn r src file c = HasNotPassed c.level.ahead c.level.at (file_size r src file)
 
--- The walk `old` became `new`: it didn't go back, is in the same Segment of the same file, and can continue.
+-- The walk `old` became `new`: it didn't go back, is in the same Segment of the same file, and can continue over `files`.
 pub record StaysReady (files : LiveFiles) (old new : Clusters) : Type 0 where
   pub file : new.level.file ≡ old.level.file
   pub end : new.level.end ≡ old.level.end

@@ -45,7 +45,8 @@ IsFound bytes (Err (outline_end.Refused d)) = pointed bytes ≡ Err d
 IsFound bytes (Err outline_end.ReadFault) = ⊤
 IsFound bytes (Err outline_end.Memory) = ⊤
 
--- The result has the writes of the new index of `found`, or their refusal. It is promised if the content of the file `file` is visible to the proof.
+-- `result` has the writes of the new index of `found`, or their refusal. It is promised if the content of the file `file` is visible to the proof in
+-- the state `src`.
 abbrev pub WritesFound : {S : Type 0} → Ghosts S → S → FileId → IndexableFile → Result (Vec Write Global) PlanEnd → Type 0
 WritesFound r src file found result =
     IfOutline r src file found.outline (λ bytes. Answers (index_writes bytes found.outline (cues_of found.points)) result)

@@ -11,7 +11,7 @@ use Rattle.edit_changes.specs.Records.{EditableFile, trees_of}
 use Rattle.output_model.specs.declared.places.CuePoint.{CuePoint}
 use Rattle.reindex.specs.Points.{index_points}
 
--- the first damage at level 1 or in the Clusters of a file with the content `bytes` and this Segment, if any
+-- the first damage at level 1 or in the Clusters of a file with the content `bytes` and the Segment `segment`, if any
 abbrev pub file_damage : List ℕ → Header → Option Damage
 file_damage bytes segment = slice_get (damages_of (file_events true bytes segment)) 0
 
@@ -23,6 +23,6 @@ indexable bytes =
     and_then (trees_of bytes o.segment) (λ trees.
     unless (file_damage bytes o.segment) (record { outline = o; trees = trees })))
 
--- The cue points of a file with the content `bytes` and this Segment, or its first damage; `tracks` has the children of its Tracks.
+-- The cue points of a file with the content `bytes` and the Segment `segment`, or its first damage; `tracks` has the children of its Tracks.
 abbrev pub points_of : List ℕ → Header → List Node → Result (List CuePoint) Damage
 points_of bytes segment tracks = unless (file_damage bytes segment) (index_points bytes segment tracks)

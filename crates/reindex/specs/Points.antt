@@ -54,13 +54,13 @@ points_to scale base list b = option_map_or (λ h. point_in scale base b h ∷ [
 
 -- ---- the points of a file
 
--- the cue points of the blocks in `blocks` that get one, in their order. `list` has all headers at level 1, and `numbers` the TrackNumbers of the
--- indexed tracks.
+-- the cue points of the blocks in `blocks` that get one, in their order. `scale` is the number of nanoseconds per tick, and `base` the offset of the
+-- Segment's data. `list` has all headers at level 1, and `numbers` the TrackNumbers of the indexed tracks.
 abbrev pub points_among : ℕ → ℕ → List Header → List ℕ → List Block → List CuePoint
 points_among scale base list numbers blocks = flat_map (points_to scale base list) (filter (is_indexed numbers) blocks)
 
--- The cue points of a file with the content `bytes` and this Segment, in the order of its blocks, at most MAX_CUES. `tracks` has the children of its
--- Tracks.
+-- The cue points of a file with the content `bytes` and the Segment `segment`, in the order of its blocks, at most MAX_CUES. `tracks` has the
+-- children of its Tracks.
 abbrev pub index_points : List ℕ → Header → List Node → List CuePoint
 index_points bytes segment tracks = take MAX_CUES
     (points_among (file_scale bytes segment) segment.body (segment_run bytes segment).list (indexed_tracks tracks)

@@ -65,26 +65,27 @@ pub record AddsPoint (i : Indexing) (list : List Header) (bytes : List ℕ) (b :
   pub come : HasComeTo bytes list clusters
   pub points : cues_of new ≡ take MAX_CUES (cues_of old ++ points_for i list b)
 
--- The cue point of the block `given` was appended to `old`, which became `new`, if it gets one and there is room. The walk `before` became
--- `clusters`. It is promised if the file's content is visible to the proof in the state `src`.
+-- If the block `given` gets a cue point by the properties `i` and there is room, it was appended to `old`, which became `new`. The walk `before`
+-- became `clusters`. It is promised if the file's content is visible to the proof in the state `src`.
 abbrev pub AddsPointIn : {S : Type 0} → Ghosts S → S → Indexing → Buffered → List Point → List Point → Clusters → Clusters → Type 0
 AddsPointIn r src i given old new before clusters = IfTold r src before.level.file (λ bytes. (list : List Header)
     → HasComeTo bytes list before → before.reached ≤ given.head.offset → AddsPoint i list bytes (block_of given) old new clusters)
 
--- A call that succeeded appended the cue point of the block at `cursor` to `old`, which became `new`. It did so only if the block gets one and there
--- is room. The walk `before` became `clusters`.
+-- A call that succeeded appended the cue point of the block at `cursor` to `old`, which became `new`. It did so only if the block gets one, by the
+-- properties `i` of the file, and there is room. The walk `before` became `clusters`. It is promised if the content is visible to the proof in the
+-- state `src`.
 abbrev pub AddsPointOf : {S T E : Type 0} → Ghosts S → S → Indexing → Reading → List Point → List Point → Clusters → Clusters → Result T E → Type 0
 AddsPointOf r src i cursor old new before clusters result = OnOk result (AddsPointIn r src i cursor.block old new before clusters)
 
--- The result has the cue points of the remaining blocks of `cursor` by the properties `i`, or the first damage. `clusters` is the walk for their
--- Clusters. It is promised if the file's content is visible to the proof.
+-- `result` has the cue points of the remaining blocks of `cursor` by the properties `i`, or the first damage. `clusters` is the walk for their
+-- Clusters. It is promised if the file's content is visible to the proof in the state `src`.
 abbrev pub ReadsLeft : {S : Type 0} → Ghosts S → S → Indexing → Clusters → Reading → Result (List Point) OutlineEnd → Type 0
 ReadsLeft r src i clusters cursor result = IfTold r src cursor.file (λ bytes. (list : List Header)
     → HasComeTo bytes list clusters → BlocksAscend clusters.reached (blocks_of (left_of bytes cursor))
     → ReadsPoints (points_in i list (left_of bytes cursor)) result)
 
--- The result has the cue points of the file `file` with this outline and these records, or its first damage. It is promised if the content is visible
--- to the proof.
+-- `result` has the cue points of the file `file` with the outline `outline` and the records `trees`, or its first damage. It is promised if the
+-- content is visible to the proof.
 abbrev pub ReadsAll : {S : Type 0} → Ghosts S → S → FileId → FileOutline → Trees → Result (List Point) OutlineEnd → Type 0
 ReadsAll r src file outline trees result = IfTold r src file (λ bytes. (held : ℕ) → outline_in held bytes ≡ Ok outline
     → trees_of bytes outline.segment ≡ Ok trees → ReadsPoints (points_of bytes outline.segment trees.tracks) result)

@@ -20,7 +20,7 @@ pub record IsNumbered (n : Node) : Type 0 where
   pub small : uid < 2 ^ 64
   pub one : part FILE_UID (children n) ≡ uint_leaf FILE_UID uid ∷ []
 
--- the AttachedFiles that are written for attached files of the content `bytes`, with the FileUIDs in the second list, each with its data
+-- the AttachedFiles that are written for the attached files `files` of the content `bytes`, with the FileUIDs in the second list, each with its data
 abbrev pub written_files : List ℕ → List ℕ → List AttachedFile → List Node
 written_files bytes [] files = []
 written_files bytes (uid ∷ uids) [] = []

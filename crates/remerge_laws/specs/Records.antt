@@ -25,8 +25,8 @@ use Rattle.remerge_laws.specs.Files.{AttachmentsKeepLimits, IsFileOf}
 
 -- ---- trees
 
--- A reader with limits finds the record `own` as the first Element with the ID `id` in the Segment `segment`, as it was written. Without a record it
--- finds no Element.
+-- A reader with limits finds the record `own` as the first Element with the ID `id` in the Segment `segment`, as it was written. `bytes` is the
+-- content of the file. Without a record it finds no Element.
 abbrev pub FirstTreeIs : ℕ → List ℕ → Header → Option Node → Type 0
 FirstTreeIs id bytes segment own = (found : Option Node) × (first_tree id bytes segment ≡ Ok found) × MayStandAs own found
 

@@ -37,7 +37,7 @@ pub record IsDefault (words : MergeWords) : Type 0 where
   pub duration : words.duration ≡ false
   pub cues : All (λ (f : FileWords). f.cues ≡ []) words.files
 
--- The sources of the merge `words` are plain: only the types of their tracks decide on cue points, and the title has no zero byte.
+-- The sources `sources` of the merge `words` are plain. Only the types of their tracks decide on cue points, and the title has no zero byte.
 pub record ArePlainSources (words : MergeWords) (sources : List Source) : Type 0 where
   pub cues : All (λ (t : TakenTrack). t.cues ≡ None) (tracks_taken (reads_of sources))
   pub title : HasNoZero (title_of words (reads_of sources))

@@ -10,7 +10,8 @@ use Rattle.merge_plan.specs.Refusal.{plan_refusal}
 use Rattle.mkv_merge.specs.Merge.{blocks_of, outputs_of}
 use Rattle.remerge_laws.specs.Limits.{RecordsAreSmall}
 
--- the document of a merge of `sources` that isn't split and whose output gets no identifier: all blocks, with the unchanged Elements around them
+-- the document of the merge `words` of `sources` that isn't split and whose output gets no identifier. It has all blocks, with the unchanged Elements
+-- around them.
 abbrev pub whole_document : MergeWords → List Source → Document
 whole_document words sources =
     document_of (limits_of words) (rules_given (reads_of sources)) (front_of words sources) (chapters_of (reads_of sources)) (tags_of (reads_of sources))

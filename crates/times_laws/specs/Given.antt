@@ -8,7 +8,7 @@ use Rattle.extractors.specs.Content.{content_of}
 use Rattle.extractors.specs.declared.frame_form.FrameForm.TheVariants as form
 use Rattle.extractors.specs.declared.track_output.TrackOutput.{TrackOutput}
 
--- the blocks of the track with the TrackNumber `number`
+-- the blocks in `blocks` of the track with the TrackNumber `number`
 abbrev pub of_track : ℕ → List Block → List Block
 of_track number blocks = filter (λ (b : Block). b.track == number) blocks
 

@@ -48,7 +48,7 @@ pub record HasOption (id : ℕ) (name : List ℕ) (new old : FileWords) : Type 0
   pub named : others id new.named ≡ others id old.named
   pub alike : untold new ≡ untold old
 
--- the inputs in the list with `new` in the place of the one with this number, from 0
+-- the inputs in the list with `new` in the place of the one with the number `number`, from 0
 abbrev pub set_input : ℕ → FileWords → List FileWords → List FileWords
 set_input number new [] = []
 set_input zero new (file ∷ files) = new ∷ files
@@ -68,8 +68,8 @@ times_job id out = Tracks Times (record { id = id; name = out } ∷ [])
 abbrev pub WritesTimes : World → List ℕ → ℕ → List ℕ → Type 0
 WritesTimes world file id content = (out : List ℕ) × ((extract_verdict world file (times_job id out)).outputs ≡ at_once (output out content ∷ []))
 
--- The options `new` of an input of the merge `words` give a track the timestamps of a file. That file holds what was extracted from the same track in
--- `before`. In `world` the input consists of bytes and hasn't changed since.
+-- The options `new` of the input of the merge `words` with the number `n`, from 0, give a track the timestamps of a file. That file holds what was
+-- extracted from the same track in `before`. In `world` the input consists of bytes and hasn't changed since.
 pub record IsTakenOut (before world : World) (words : MergeWords) (n : TimesName) (new : FileWords) : Type 0 where
   pub input : FileWords
   pub content : List ℕ
@@ -87,12 +87,12 @@ is_too_long (Refused TooLarge) = true
 is_too_long (Refused (Bad line)) = false
 is_too_long (Read times) = false
 
--- the timestamp files of the inputs `files` that are too long, in the order of the command line
+-- the timestamp files of the inputs `files` that are too long, in the order of the command line; `world` has the content of each name
 abbrev pub too_long : World → List FileWords → List TimesName
 too_long world files = map (λ (f : TimesFile). f.named) (filter (λ (f : TimesFile). is_too_long f.given) (times_files world files))
 
--- The option in `new` adds no refusal by a name or a length to the merge `words`. The first output name that is also the name of a file that is read
--- is the same. So are the timestamp files that are too long.
+-- The option in `new`, for the input with the number `n` from 0, adds no refusal to the merge `words` by a name or a length. The first output name
+-- that is also the name of a file that is read is the same. So are the timestamp files that are too long. `world` has the content of each name.
 pub record IsAllowed (world : World) (words : MergeWords) (n : TimesName) (new : FileWords) : Type 0 where
   pub name : first_written (with_input n.input new words) ≡ first_written words
   pub length : too_long world (with_input n.input new words).files ≡ too_long world words.files

@@ -55,7 +55,7 @@ job_words (jobs.Chapters name) = codes "chapters" ∷ codes "--simple" ∷ name 
 
 -- ---- propedit
 
--- the letter of a TrackType in the argument of `propedit --edit`: video, audio or subtitle
+-- the letter of the TrackType `kind` in the argument of `propedit --edit`: video, audio or subtitle
 abbrev pub type_letter : ℕ → List ℕ
 type_letter kind = if kind == VIDEO_TRACK then codes "v" else if kind == AUDIO_TRACK then codes "a" else codes "s"
 

@@ -84,7 +84,7 @@ file_options file =
     for_tracks (codes "--cues") cues_word file.cues ∷
     for_tracks (codes "--timestamps") (λ name. name) file.times ∷ []
 
--- the arguments for one input: `+` if it is appended, the options for it, and its name
+-- the arguments for the input `file`: `+` if it is appended, the options for it, and its name
 abbrev pub file_words : FileWords → List (List ℕ)
 file_words file = flag (codes "+") file.appended ++ (parts_joined (file_options file) ++ file.name ∷ [])
 

@@ -78,7 +78,7 @@ abbrev pub delay_word : ℤ → List ℕ
 delay_word (pos n) = decimal (n / 1000000)
 delay_word earlier = codes "-" ++ decimal (nat_abs earlier / 1000000)
 
--- the value of a flag: `1` or `0`
+-- the value of the flag `flag`: `1` or `0`
 abbrev pub flag_word : Bool → List ℕ
 flag_word flag = if flag then codes "1" else codes "0"
 

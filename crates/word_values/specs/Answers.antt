@@ -20,16 +20,16 @@ TellsOf view (Ok x) meant = meant ≡ Ok (view x)
 TellsOf view (Err (args_end.Usage usage)) meant = meant ≡ Err usage
 TellsOf view (Err args_end.Memory) meant = Unit {0}
 
--- The result of parsing has the value that the definitions give as `meant`, or the same first wrong argument with its reason. Out of memory, nothing
--- is promised.
+-- The code's `result` of parsing has the value that the definitions give as `meant`, or the same first wrong argument with its reason. Out of memory,
+-- nothing is promised.
 abbrev pub Tells : {X : Type 0} → Result X ArgsEnd → Result X Usage → Type 0
 Tells {X} result meant = TellsOf (λ (x : X). x) result meant
 
--- the refusal of the argument with the index `word`, from 0, by the definitions
+-- the refusal of the argument with the index `word`, from 0, for the reason `why`
 abbrev pub wrong : {X : Type 0} → ℕ → Why → Result X Usage
 wrong word why = Err (record { word = word; why = why })
 
--- the refusal of the argument with the index `word`, from 0, as a result of the code
+-- the refusal of the argument with the index `word`, from 0, for the reason `why`, as a result of the code
 abbrev pub refuses : {X : Type 0} → ℕ → Why → Result X ArgsEnd
 refuses word why = Err (args_end.Usage (record { word = word; why = why }))
 

@@ -12,7 +12,7 @@ use Rattle.word_values.specs.Answers.{wrong, ◌>>=◌}
 abbrev pub texts : List (String Global) → List (List ℕ)
 texts words = map string_bytes words
 
--- The argument with the index `at`, counted from 0, is `word`: the arguments from there on are `word` and the ones after it.
+-- The argument of `words` with the index `at`, counted from 0, is `word`: the arguments from there on are `word` and the ones after it.
 abbrev pub IsWordAt : List (List ℕ) → ℕ → List ℕ → Type 0
 IsWordAt words at word = drop at words ≡ word ∷ drop (at + 1) words
 
@@ -21,7 +21,7 @@ abbrev pub due : ℕ → Option (List ℕ) → Result (List ℕ) Usage
 due count None = wrong count MissingValue
 due count (Some word) = Ok word
 
--- the argument with the index `at`, counted from 0, or the refusal if it is missing
+-- the argument of `words` with the index `at`, counted from 0, or the refusal if it is missing
 abbrev pub due_at : List (List ℕ) → ℕ → Result (List ℕ) Usage
 due_at words at = due (length words) (slice_get words at)
 
@@ -29,7 +29,7 @@ due_at words at = due (length words) (slice_get words at)
 abbrev pub is_option : List ℕ → Bool
 is_option word = nat_le 2 (length word) && slice_index word 0 == DASH
 
--- the argument with the index `at`, the name of a file that is read. It is refused if it is missing or looks like an option.
+-- the argument of `words` with the index `at`, the name of a file that is read. It is refused if it is missing or looks like an option.
 abbrev pub file_at : List (List ℕ) → ℕ → Result (List ℕ) Usage
 file_at words at = do
   file ← due_at words at
