@@ -14,7 +14,7 @@ use Rattle.elements.specs.Body.{IsBody}
 abbrev pub children : List ℕ → ℕ → ℕ → Run
 children bytes p e = children_in (in_tree EBML) bytes p e
 
--- the damage of the first child in `run` that isn't a value of its kind, or the damage that ends the children
+-- the damage of the first child in `run` that isn't a value of its kind, or the damage that ends the children. `bytes` is the content of the file.
 abbrev pub child_refusal : List ℕ → Run → Option Damage
 child_refusal bytes run = first_damage (bad_value bytes EBML run.list ∷ run.damage ∷ [])
 
@@ -22,7 +22,7 @@ child_refusal bytes run = first_damage (bad_value bytes EBML run.list ∷ run.da
 abbrev pub IsShortValue : ℕ → Type 0
 IsShortValue id = (body : List ℕ) → is_known_value EBML id body ≡ true → length body ≤ 8
 
--- the causes that may refuse the values of the children `list` of an EBML header, in the order of the checks
+-- the causes that may refuse the values of the children `list` of an EBML header, in the order of the checks. `bytes` is the content of the file.
 abbrev pub value_causes : List ℕ → List Header → List (Option Damage)
 value_causes bytes list =
     wrong_doc_type bytes list ∷
@@ -40,11 +40,11 @@ in_body bytes base body = children bytes base (base + length body)
 abbrev pub IfSound : ℕ → ℕ → List ℕ → (List ℕ → Type 0) → Type 0
 IfSound base total body P = (bytes : List ℕ) → IsBody bytes base total body → child_refusal bytes (in_body bytes base body) ≡ None → P bytes
 
--- the damage for which the values of the children `run` are refused, the DocType first
+-- the damage for which the values of the children `run` are refused, the DocType first; `bytes` is the content of the file
 abbrev pub value_refusal : List ℕ → Run → Option Damage
 value_refusal bytes run = first_damage (value_causes bytes run.list)
 
--- the DocType among the children `run` of an EBML header, or its default
+-- the DocType among the children `run` of an EBML header, or its default; `bytes` is the content of the file
 abbrev pub doc_type_in : List ℕ → Run → Option (List ℕ)
 doc_type_in bytes run = text_in bytes DOC_TYPE run.list
 

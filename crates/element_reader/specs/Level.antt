@@ -41,12 +41,13 @@ pub record IsOnWay (held : ℕ) (whole left : Run) (kept : Collected) : Type 0 w
   pub split : whole ≡ all_in_front given left
   pub limits : limits_from held [] whole.list ≡ limits_from held given left.list
 
--- the end of `segment` in a file of `total` bytes. If its size is unknown, it is the end `at` of its Elements, or the end of the file if damage ended
--- them.
+-- the end of `segment` in a file of `total` bytes. If its size is unknown, it is the end `at` of its Elements, or the end of the file if `damage`
+-- ended them.
 abbrev pub end_met : ℕ → Header → ℕ → Option Damage → ℕ
 end_met total segment at damage = if is_unknown segment.size then option_map_or (λ _. total) damage at else end_in total segment
 
--- A reader that keeps `kept` has reached the end of `segment`, at the offset `at`, with or without damage. Then `level` is what an outline has of it.
+-- A reader that keeps `kept` has reached the end of `segment` in a file of `total` bytes, at the offset `at`, with or without `damage`. Then `level`
+-- is what an outline has of it.
 abbrev pub EndsWay : ℕ → Header → ℕ → Option Damage → Collected → Level → Type 0
 EndsWay total segment at damage kept level = (held : ℕ) (bytes : List ℕ) → total ≡ length bytes
     → IsOnWay held (segment_run bytes segment) (nothing_left at damage) kept → HasLevel held bytes segment level

@@ -47,7 +47,7 @@ abbrev pub Gives : Option Header → List Header → List Header → Type 0
 Gives (Some h) old new = old ≡ h ∷ new
 Gives None old new = (old ≡ []) × (new ≡ [])
 
--- The result is the first Element that the iterator `old` has left in the content `bytes`, if there is one. The iterator `new` has the others left.
+-- `found` is the first Element that the iterator `old` has left in the content `bytes`, if there is one. The iterator `new` has the others left.
 abbrev pub GivesNext : List ℕ → Listing → Listing → Option Header → Type 0
 GivesNext bytes old new found = Gives found (left bytes old) (left bytes new)
 
@@ -62,7 +62,7 @@ pub record IsSameSegment (old new : Listing) : Type 0 where
   pub size : new.size ≡ old.size
   pub end : new.end ≡ old.end
 
--- The iterator `old` became `new`, which is in the same Segment and can go on.
+-- The iterator `old` became `new`, which is in the same Segment and can go on over `files`.
 pub record StandsOn (files : LiveFiles) (old new : Listing) : Type 0 where
   pub segment : IsSameSegment old new
   pub inside : new.at ≤ new.end
@@ -72,6 +72,6 @@ pub record StandsOn (files : LiveFiles) (old new : Listing) : Type 0 where
 abbrev pub GoesAlong : {S T E : Type 0} → Ghosts S → Listing → Listing → S → S → Result T E → Type 0
 GoesAlong r old new before now result = GoesTo r old.file old.at new.at old.ahead new.ahead before now result
 
--- The iterator `p` has all Elements at level 1 left, in each content with the length of this outline.
+-- The iterator `p` has all Elements at level 1 left, in each content with the length of the outline `outline`.
 abbrev pub HasAllElementsLeft : Outline → Listing → Type 0
 HasAllElementsLeft outline p = (bytes : List ℕ) → outline.total ≡ length bytes → left bytes p ≡ (segment_run bytes outline.segment).list

@@ -15,8 +15,8 @@ StepsOn (Element header (Err d)) left at from = left ≡ in_front header (breaks
 StepsOn (Damaged d) left at from = left ≡ breaks_at at d
 StepsOn End left at from = left ≡ ends_at at
 
--- The step is the first over the Elements at level 1 from the offset `at` on, in the content `bytes`. The Segment has this size, and ends at `end` or
--- before.
+-- `step` is the first over the Elements at level 1 from the offset `at` on, in the content `bytes`. The Segment has the size `size`, and ends at
+-- `end` or before.
 abbrev pub StepsIn : List ℕ → Size → ℕ → ℕ → Level1Step → Type 0
 StepsIn bytes size at end step = StepsOn step (level_1 bytes size at end) at (λ q. level_1 bytes size q end)
 
@@ -33,7 +33,7 @@ IsWholeStep (Element header next) end = IsWhole in_segment end header
 IsWholeStep (Damaged d) end = ⊤
 IsWholeStep End end = ⊤
 
--- A step from the offset `at` found a whole Element, and the next offset is after `at` and at most `end`; or it found none.
+-- The step `step` from the offset `at` found a whole Element, or it found none. The offset after an Element is after `at` and at most `end`.
 pub record IsStep (step : Level1Step) (at end : ℕ) : Type 0 where
   pub further : IsFurther step at end
   pub whole : IsWholeStep step end

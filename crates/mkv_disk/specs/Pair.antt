@@ -38,7 +38,7 @@ IsSynced p = p ≡ both p.media.reads p.sidecar.reads
 abbrev pub IsPairWith : FileId → (DiskFile → DiskFile) → Pair → List ℕ → List ℕ → Type 0
 IsPairWith file change p = IsPairImage (on file.n change p)
 
--- The file `name` and its journal are open on `disk`, and it is the file that was opened last.
+-- The file `name` and its journal are open on `disk`, and it is the file that was opened last, as `opened` gives it.
 pub record OpensPair {S : Type 0} (r : Ghosts S) (opened : S → Option (List ℕ)) (disk : S) (name : List ℕ) : Type 0 where
   pub media : IsLive r disk MEDIA
   pub sidecar : IsLive r disk SIDECAR

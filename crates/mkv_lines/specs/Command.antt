@@ -19,12 +19,12 @@ abbrev pub seen_in : {F P : Type 0} → ReadsGhosts F → FilesGhosts F → Repo
 seen_in r f p files report = seen r f.writing_faults f.names p files report
 
 -- The command has its outcome `v`: lines, outputs and status. Or it ended early, with a first part of them. `files` and `report` are the states
--- before.
+-- before, `files'` and `report'` after.
 abbrev pub Fulfils : {F P : Type 0} → ReadsGhosts F → FilesGhosts F → ReportGhosts P → F → F → P → P → Result Status CommandEnd → Verdict → Type 0
 Fulfils r f p files files' report report' result v = Reaches (seen_in r f p files report) (seen_in r f p files' report') result v
 
 -- The command ended with an ordinary status; or out of memory; or because a call failed and its failure count increased. The same files are open as
--- before. `files` and `report` are the states before.
+-- before. `files` and `report` are the states before, `files'` and `report'` after.
 pub record HasEnded {F P : Type 0} (r : ReadsGhosts F) (f : FilesGhosts F) (p : ReportGhosts P) (files files' : F) (report report' : P) (result : Result Status CommandEnd) : Type 0 where
   pub ordinary : IfOk result IsOrdinary
   pub live : (file : ℕ) → (live_files r files').live file ≡ (live_files r files).live file

@@ -56,7 +56,7 @@ more_bad_frames_line name more = codes "warning: " ++ (shown_text name ++ (codes
 abbrev pub more_lines : List ℕ → ℕ → List (List ℕ)
 more_lines name more = if more == 0 then [] else more_damages_line name more ∷ []
 
--- a warning for each of the first damaged places of the file `name`, and a line with the number `more` of the others
+-- a warning for each damaged place in `first` of the file `name`, and a line with the number `more` of the others
 abbrev pub damage_lines : List ℕ → List Damage → ℕ → List (List ℕ)
 damage_lines name first more = map (warning_line name) first ++ more_lines name more
 
@@ -64,7 +64,7 @@ damage_lines name first more = map (warning_line name) first ++ more_lines name 
 abbrev pub more_bad_lines : List ℕ → ℕ → List (List ℕ)
 more_bad_lines name more = if more == 0 then [] else more_bad_frames_line name more ∷ []
 
--- a warning for each of the first frames of the file `name` that aren't written, and a line with the number `more` of the others
+-- a warning for each frame in `first` of the file `name` that isn't written, and a line with the number `more` of the others
 abbrev pub bad_frame_lines : List ℕ → List Damage → ℕ → List (List ℕ)
 bad_frame_lines name first more = map (warning_line name) first ++ more_bad_lines name more
 
@@ -76,11 +76,13 @@ no_track_line name number = codes "warning: " ++ (shown_text name ++ (codes ": n
 abbrev pub no_attachment_line : List ℕ → ℕ → List ℕ
 no_attachment_line name number = codes "warning: " ++ (shown_text name ++ (codes ": no attachment " ++ decimal number))
 
--- the line that refuses an extraction because the codec of the track `number`, counted from 0, has no form in a file of its own
+-- the line that refuses an extraction because the codec of a track has no form in a file of its own. The track has the number `number` in the file
+-- `name`, counted from 0.
 abbrev pub no_extractor_line : List ℕ → ℕ → List ℕ
 no_extractor_line name number = codes "error: " ++ (shown_text name ++ (codes ": NoExtractor, track " ++ decimal number))
 
--- the line that refuses an extraction because the track `number`, counted from 0, lacks a valid configuration of its codec
+-- the line that refuses an extraction because a track lacks a valid configuration of its codec. The track has the number `number` in the file `name`,
+-- counted from 0.
 abbrev pub bad_config_line : List ℕ → ℕ → List ℕ
 bad_config_line name number = codes "error: " ++ (shown_text name ++ (codes ": BadConfig, track " ++ decimal number))
 
@@ -132,7 +134,8 @@ wrote_line name = codes "wrote " ++ shown_text name
 abbrev pub wrote_blocks_line : List ℕ → ℕ → List ℕ
 wrote_blocks_line name blocks = wrote_line name ++ (codes ": " ++ (decimal blocks ++ codes " blocks"))
 
--- the line about the files that `generate n` has written: the blocks, Clusters and cue points of the merged file, and the number of its parts
+-- the line about the files that `generate n` has written. The merged file has `blocks` blocks, `clusters` Clusters and `cues` cue points, and `parts`
+-- is the number of its parts.
 abbrev pub generated_line : ℕ → ℕ → ℕ → ℕ → ℕ → List ℕ
 generated_line n blocks clusters cues parts =
     codes "generated "

@@ -75,7 +75,8 @@ abbrev pub mark_text : Mark → List ℕ
 mark_text Length = codes "length"
 mark_text (Octet at) = codes "octet " ++ decimal at
 
--- the track with the index `index` in the file, from 0, as `info` prints it
+-- the track with the index `index` in the file, from 0, as `info` prints it. It has the TrackType `type`, the CodecID `codec`, the TrackNumber
+-- `number`, the TrackUID `uid` and the language `language`.
 abbrev pub track_text : ℕ → List ℕ → List ℕ → ℕ → ℕ → List ℕ → List ℕ
 track_text index type codec number uid language =
     codes "track " ++ (decimal index ++ (codes ": " ++ (type ++ (codes " " ++ (shown_text codec ++ (codes " number " ++ (decimal number ++ (codes " uid " ++ (decimal uid ++ (codes " language " ++ shown_text language))))))))))

@@ -18,7 +18,7 @@ abbrev pub is_language_suffix : List ℕ → Bool
 is_language_suffix (hyphen ∷ a ∷ b ∷ c ∷ []) = hyphen == 0x2D && (is_ascii_lowercase a && (is_ascii_lowercase b && is_ascii_lowercase c))
 is_language_suffix _ = false
 
--- the name of a tag without a hyphen and a language of three letters at its end: `BPS` for `BPS-eng`
+-- the name `name` of a tag without a hyphen and a language of three letters at its end: `BPS` for `BPS-eng`
 abbrev pub stem : List ℕ → List ℕ
 stem name = if is_language_suffix (drop (length name - 4) name) then take (length name - 4) name else name
 
@@ -94,7 +94,7 @@ AddsNames old new names = HasSame (bytes_of new) (bytes_of old ++ names)
 abbrev pub has_nothing_else : List (List ℕ) → Node → Bool
 has_nothing_else names tag = list_any (is_statistic names) (children tag) && not (list_any (is_other names) (children tag))
 
--- the child `n` of a Tag, as a list, empty if it is a statistic
+-- the child `n` of a Tag, as a list, empty if it is a statistic; `names` has the names of statistics
 abbrev pub bare_part : List (List ℕ) → Node → List Node
 bare_part names n = if is_statistic names n then [] else n ∷ []
 

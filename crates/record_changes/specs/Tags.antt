@@ -23,17 +23,17 @@ is_target n = is_target_id (id_of n) && not (integer_of n == 0)
 abbrev pub number_of : (ℕ → ℕ → Option ℕ) → Node → Option ℕ
 number_of numbers target = numbers (id_of target) (integer_of target)
 
--- the child `n` of Targets, as the output gets it: a target gets its number or is removed, and others are unchanged
+-- the child `n` of Targets, as the output gets it with its `numbers`: a target gets its number or is removed, and others are unchanged
 abbrev pub written_target : (ℕ → ℕ → Option ℕ) → Node → List Node
 written_target numbers n = if is_target n then given (uint_leaf (id_of n)) (number_of numbers n) else n ∷ []
 
 -- ---- a Tag
 
--- the child `n` of a Tag, as the output gets it: a Targets with the output's numbers, and others unchanged
+-- the child `n` of a Tag, as the output gets it: a Targets with the output's `numbers`, and others unchanged
 abbrev pub written_part : (ℕ → ℕ → Option ℕ) → Node → Node
 written_part numbers n = if id_of n == TARGETS then with_children n (flat_map (written_target numbers) (children n)) else n
 
--- the Tag `tag`, as the output gets it: with the output's numbers in its Targets
+-- the Tag `tag`, as the output gets it: with the output's `numbers` in its Targets
 abbrev pub written_tag : (ℕ → ℕ → Option ℕ) → Node → Node
 written_tag numbers tag = with_children tag (map (written_part numbers) (children tag))
 
@@ -41,7 +41,8 @@ written_tag numbers tag = with_children tag (map (written_part numbers) (childre
 abbrev pub targets_in : Node → List Node
 targets_in n = if id_of n == TARGETS then filter is_target (children n) else []
 
--- the summary of `targets`, which decides whether their Tag is kept: any target, one with a track, one that is in the output
+-- the summary of `targets`, which decides whether their Tag is kept. It has whether there is any target, one of a track, and one in the output by its
+-- `numbers`.
 abbrev pub tag_targets_of : (ℕ → ℕ → Option ℕ) → List Node → TagTargets
 tag_targets_of numbers targets = record {
   any = list_any (λ n. true) targets;
@@ -57,7 +58,7 @@ both_aims some others = record {
   written = some.written || others.written;
 }
 
--- the summary of all targets of the Tag `tag`
+-- the summary of all targets of the Tag `tag`; `numbers` has the ones that are in the output
 abbrev pub aims_in : (ℕ → ℕ → Option ℕ) → Node → TagTargets
 aims_in numbers tag = tag_targets_of numbers (flat_map targets_in (children tag))
 
@@ -68,10 +69,10 @@ are_kept keep aims = (if aims.track then keep.tracks else keep.global) && (not a
 
 -- ---- all Tags
 
--- the child `n` of Tags, as the output gets it, as a list, empty unless it is a Tag that is kept
+-- the child `n` of Tags, as the output gets it with its `numbers`, as a list, empty unless it is a Tag that `keep` keeps
 abbrev pub written_child : TagKeep → (ℕ → ℕ → Option ℕ) → Node → List Node
 written_child keep numbers n = if id_of n == TAG && are_kept keep (aims_in numbers n) then written_tag numbers n ∷ [] else []
 
--- the Tags `tags` of an input, as the output gets them
+-- the Tags `tags` of an input, as the output gets them: the ones that `keep` keeps, with the output's `numbers`
 abbrev pub written_tags : TagKeep → (ℕ → ℕ → Option ℕ) → Node → Node
 written_tags keep numbers tags = with_children tags (flat_map (written_child keep numbers) (children tags))

@@ -2,11 +2,11 @@
 use Rattle.std.specs.Prelude.{◌≡◌, ◌<◌, ◌+◌, ◌^◌, ℕ, Bool, true, ◌||◌, nat_eq, length}
 use Rattle.indexmap.specs.IndexSet.{IndexSet, contains}
 
--- The number `n` is in one of the two sets: the inputs' identifiers or the numbers that were given.
+-- The number `n` is in one of the two sets: `source`, the inputs' identifiers, or `given`, the numbers that were given.
 abbrev pub is_taken : {S : Type 0} → IndexSet ℕ S → IndexSet ℕ S → ℕ → Bool
 is_taken source given n = contains nat_eq source n || contains nat_eq given n
 
--- The number `n` is positive, and each smaller positive number is taken.
+-- The number `n` is positive, and each smaller positive number passes `taken`.
 pub record IsNext (taken : ℕ → Bool) (n : ℕ) : Type 0 where
   pub positive : 0 < n
   pub below : (k : ℕ) → 0 < k → k < n → taken k ≡ true

@@ -97,7 +97,7 @@ no_place = record { at = 0; len = 0 }
 abbrev pub spelled : Place → List ℕ
 spelled p = big_bytes 8 p.at ++ big_bytes 8 p.len
 
--- the bytes of the place with the index `k`, counted from 0, in a record, or zeros if there are fewer
+-- the bytes of the place in `ps` with the index `k`, counted from 0, in a record, or zeros if there are fewer
 abbrev pub slot : List Place → ℕ → List ℕ
 slot ps k = spelled (get_or ps k no_place)
 

@@ -33,8 +33,8 @@ abbrev pub is_joined : Option ℕ → ℕ → Place → Bool
 is_joined None from p = true
 is_joined (Some old) from p = nat_le p.at (max old from)
 
--- The length `new_len` after the edit is right: it is the length before, if it is known, or `end`, the end of the last write. In version 1 it is only
--- at least that end.
+-- The length `new_len` after the edit is right in a record of the version `version`. It is the length before, if it is known, or `end`, the end of
+-- the last write. In version 1 it is only at least that end.
 abbrev pub is_new_len : ℕ → Option ℕ → ℕ → ℕ → Bool
 is_new_len version None new_len end = (version == 2) || nat_le end new_len
 is_new_len version (Some old) new_len end = new_len == max old end
@@ -43,8 +43,9 @@ is_new_len version (Some old) new_len end = new_len == max old end
 abbrev pub has_new_len : List ℕ → Bool
 has_new_len s = is_new_len (version_in s) (old_len_of s) (new_len_in s) (last_end 0 (used_in s))
 
--- the rules of the places in the list. The first place is at the offset `octet` of the journal, and the given number of them are used. A used place
--- has bytes, begins at or after `from`, the end of the previous one, and leaves no gap. An unused place is zero.
+-- the rules of the places in the list. The first `used` of them are used, and the first one is at the offset `octet` of the journal. A used place has
+-- bytes, and begins at or after `from`, the end of the previous one. It leaves no gap, if the file's length `old` before the edit is known. An unused
+-- place is zero.
 abbrev pub place_rules : Option ℕ → ℕ → ℕ → ℕ → List Place → List Rule
 place_rules old octet used from [] = []
 place_rules old octet zero from (p ∷ ps) =

@@ -11,7 +11,8 @@ planned old_len new_len first places payload = record {
   payload = payload;
 }
 
--- the plan of an edit with these lengths, first bytes and places, whose record has the bytes `octets` after the gate
+-- the plan of an edit from `old_len` to `new_len` bytes of a file that begins with `first`, with writes at `places`. Its record has the bytes
+-- `octets` after the gate.
 abbrev pub planned_in : ℕ → ℕ → List ℕ → List Place → List ℕ → Planned
 planned_in old_len new_len first places octets = planned old_len new_len first places (drop (HEAD - 1) octets)
 

@@ -36,7 +36,7 @@ abbrev pub octet_mark : List ℕ → List ℕ → Option ℕ → Option RecoverE
 octet_mark head media None = None
 octet_mark head media (Some k) = Some (Foreign (Octet k) (slice_index head (168 + k)) (slice_index media k))
 
--- the refusal of a record of version 2, if it was made for another file than the one of `size` bytes with the first bytes `media`. The length is
+-- the refusal of the record of version 2 in `head`, if it was made for another file. The file has `size` bytes and begins with `media`. Its length is
 -- impossible during the edit, or a byte differs.
 abbrev pub foreign_of : List ℕ → ℕ → List ℕ → Option RecoverEnd
 foreign_of head size media =

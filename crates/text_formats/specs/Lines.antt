@@ -4,7 +4,7 @@ use Rattle.std.specs.List.{enumerate_from}
 use Rattle.std.specs.Str.{bytes_eq}
 use Rattle.std.specs.Str.Lines.{lines}
 
--- the content of a file after the byte order mark of UTF-8 (`EF BB BF`), or all of it if it doesn't begin with one
+-- the content `content` of a file after the byte order mark of UTF-8 (`EF BB BF`), or all of it if it doesn't begin with one
 abbrev pub behind_mark : List ℕ → List ℕ
 behind_mark content = if bytes_eq (take 3 content) (239 ∷ 187 ∷ 191 ∷ []) then drop 3 content else content
 

@@ -27,7 +27,7 @@ pub record Timed : Type 0 where
   pub number : List ℕ
   pub start : ℕ
 
--- the first line of a chapter, `CHAPTERnn=` and a time, where nn are two to four digits
+-- the first line `line` of a chapter, `CHAPTERnn=` and a time, where nn are two to four digits
 unfoldable pub first_line : List ℕ → Option Timed
 first_line line = do
   rest ← behind (codes "CHAPTER") line
@@ -36,7 +36,7 @@ first_line line = do
   t ← time_of p.1
   Some (record { number = p.0; start = t })
 
--- the name in the second line of a chapter, `CHAPTERnnNAME=` and the name, if `number` has the digits nn and the name is UTF-8
+-- the name in the second line `line` of a chapter, `CHAPTERnnNAME=` and the name, if `number` has the digits nn and the name is UTF-8
 unfoldable pub second_line : List ℕ → List ℕ → Option (List ℕ)
 second_line number line = do
   rest ← behind (codes "CHAPTER") line

@@ -33,7 +33,7 @@ is_tail word = length word == 0 || slice_index word 0 == SPACE
 abbrev pub span : ℕ → ℕ → Times
 span start end = record { start = start; end = end }
 
--- the times of a time line: two times with ` --> ` between them, and anything after a space
+-- the times of the time line `line`: two times with ` --> ` between them, and anything after a space
 unfoldable pub times : List ℕ → Option Times
 times line = do
   start ← clock line

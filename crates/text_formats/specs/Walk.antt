@@ -24,7 +24,7 @@ is_misplaced Front begins l = has_arrow l || not (begins || length l == 0)
 is_misplaced (Second t) begins l = nat_lt t.end t.start
 is_misplaced Behind begins l = has_arrow l
 
--- The line `l` isn't UTF-8 or isn't allowed at its place. `begins` is true if it begins a head.
+-- The line `l` isn't UTF-8 or isn't allowed at `place`. `begins` is true if it begins a head.
 abbrev pub is_bad_at : Place → Bool → List ℕ → Bool
 is_bad_at place begins l = not (is_utf8 l) || is_misplaced place begins l
 
