@@ -43,8 +43,8 @@ fn edit_info(alloc: Global, info: &mut Option<Tree>, edit: &Edit) -> Result<(), 
     }
 }
 
-/// Makes `edit`, one of a track, in the child of Tracks with index `k`, which is a TrackEntry. A refused edit leaves it
-/// as it was.
+/// Makes `edit`, one of a track, in the child with index `k` of the Tracks that has the children `tracks`. It is a
+/// TrackEntry. A refused edit leaves it as it was.
 fn edit_entry(alloc: Global, tracks: &mut Vec<Tree>, k: usize, edit: &Edit) -> Result<(), EditEnd>
     requires section { is_info edit.now.place ≡ false }
     requires inside { k < length tracks.old.items }

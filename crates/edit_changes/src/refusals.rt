@@ -79,8 +79,8 @@ pub fn lacks(why: Room, need: u64, have: u64) -> Option<Refusal>
     None
 }
 
-/// Returns the refusal `Room::Twin` if the file has more than one Element with the ID `id` at level 1. Such an Element
-/// can't move.
+/// Returns the refusal `Room::Twin` if the file with this `outline` has more than one Element with the ID `id` at level
+/// 1. Such an Element can't move.
 pub fn twin_refusal(outline: &Outline, id: u32) -> Option<Refusal>
     ensures { result ≡ plan.twin_of outline.now.others id }
 {
@@ -106,8 +106,8 @@ pub fn size_width(segment: &Header) -> u64
         .saturating_sub(u64::from(put_id(SEGMENT).len))
 }
 
-/// Returns the refusal `Room::SegmentSize` if the Segment ends at the offset `end` after the edit, and its size field
-/// has too few bytes for that. A Segment of unknown size isn't refused.
+/// Returns the refusal `Room::SegmentSize` if the size field of `segment`, which ends at the offset `end` after the
+/// edit, has too few bytes for that. A Segment of unknown size isn't refused.
 pub fn size_refusal(segment: &Header, end: u64) -> Option<Refusal>
     requires { end ≤ 2 ^ 50 }
     ensures { result ≡ plan.size_refusal segment.now end }

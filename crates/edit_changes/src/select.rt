@@ -45,7 +45,8 @@ fn fits(selector: Selector, tree: &Tree) -> bool
     }
 }
 
-/// Returns the position, from 1, of the selected TrackEntry among those that `fits` accepts; 0 for the Info.
+/// Returns the position, from 1, of the TrackEntry that `selector` names among those that `fits` accepts; 0 for the
+/// Info.
 fn turn_of(selector: Selector) -> u64
     ensures { result ≡ spec.turn_of selector }
 {

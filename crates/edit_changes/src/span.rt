@@ -19,8 +19,8 @@ fn end_of(total: u64, header: &Header) -> u64
     header.body + known(header.size)
 }
 
-/// Returns the offset after `next` if it is a Void that begins at `end`, or else `end`. It is one step over the Voids
-/// after an Element.
+/// Returns the offset after `next` if it is a Void that begins at `end`, or else `end`, in a file of `total` bytes. It
+/// is one step over the Voids after an Element.
 fn end_behind(total: u64, end: u64, next: &Header) -> u64
     requires next { stated_end next.now ≤ total }
     requires end { end ≤ total }
@@ -34,7 +34,7 @@ fn end_behind(total: u64, end: u64, next: &Header) -> u64
 }
 
 /// Returns the room in bytes of the Element at level 1 with this `header`: its length and the Voids that follow it
-/// directly.
+/// directly in `outline`.
 #[tactic(auto, using(crate::proofs::OutlineLemmas::spans))]
 pub fn span_of(outline: &Outline, header: &Header) -> u64
     requires { IsInFile outline.now.total header.now }

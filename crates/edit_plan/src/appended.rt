@@ -79,8 +79,8 @@ pub fn appended(alloc: Global, parts: &[Part]) -> Result<Vec<u8>, AllocError>
     Ok(out)
 }
 
-/// Returns the refusal for the first of `parts` that moves to the file's end and isn't the only Element with its ID, if
-/// any.
+/// Returns the refusal for the first of `parts` that moves to the file's end and has a twin in `outline`. A twin is
+/// another Element with the same ID.
 pub fn duplicates(outline: &Outline, parts: &[Part]) -> Option<Refusal>
     ensures { result ≡ spec.twin_refusal outline.now.others (spec.moving (map shown parts.now)) }
 {

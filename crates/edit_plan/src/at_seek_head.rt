@@ -52,7 +52,7 @@ fn moving_len(places: &[Write], added: u64, head: u64, size: u64) -> Result<u64,
 }
 
 /// Prepares the writes of `parts`, and of the SeekHead with new Seeks for `ids`, for `moving_writes`, which then checks
-/// them. `head` is the old SeekHead. The file isn't touched.
+/// them. `head` is the old SeekHead, and `outline` the file's. The file isn't touched.
 fn prepared(
     alloc: Global,
     ids: &[u32],
@@ -104,8 +104,8 @@ fn sorted(alloc: Global, first: Write, mut writes: Vec<Write>) -> Result<Vec<Wri
     ascending(alloc, writes)
 }
 
-/// Returns the write of the Segment's size, then `writes`, then `last`, the write at the end of the file. The Segment
-/// ends at the offset `end` afterwards.
+/// Returns the write of the size of `segment`, then `writes`, then `last`, the write at the end of the file. The
+/// Segment ends at the offset `end` afterwards.
 fn assembled(
     alloc: Global,
     segment: &Header,
@@ -124,7 +124,8 @@ fn assembled(
 }
 
 /// Returns the writes of `parts`, and of the SeekHead with new Seeks for `ids`, sorted by offset; or the first refusal.
-/// `head` is the old SeekHead. It is for an edit that moves an Element, or that always writes the SeekHead.
+/// `head` is the old SeekHead, and `outline` the file's. It is for an edit that moves an Element, or that always writes
+/// the SeekHead.
 pub fn moving_writes(
     alloc: Global,
     ids: &[u32],

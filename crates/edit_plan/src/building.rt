@@ -36,7 +36,8 @@ fn body_of(alloc: Global, nodes: &[Tree]) -> Result<Bytes, AllocError>
     Ok(body)
 }
 
-/// Makes the part that replaces the Element with this `header` at level 1 by one with the children `nodes`.
+/// Makes the part that replaces the Element with this `header` at level 1 of `outline` by one with the children
+/// `nodes`.
 fn part(
     alloc: Global,
     outline: &Outline,
@@ -59,8 +60,8 @@ fn part(
     })
 }
 
-/// Appends to `parts` the first Element with the ID `id` at level 1, with the new children `nodes`. It appends nothing
-/// if there is none.
+/// Appends to `parts` the first Element with the ID `id` at level 1 of `outline`, with the new children `nodes`. It
+/// appends nothing if there is none.
 #[tactic(auto, using(crate::proofs::PartLemmas::firsts))]
 fn add_part(
     alloc: Global,
@@ -105,7 +106,7 @@ fn are_of_tracks(edits: &List<Edit>) -> bool
 }
 
 /// Returns the Info and the Tracks with their edited children in `trees`, in this order, each if one of `edits` is
-/// about it.
+/// about it. `outline` is the file's.
 #[tactic(auto, unfolding(ebml_numbers::specs::Number::is_id))]
 pub fn parts(
     alloc: Global,

@@ -37,8 +37,8 @@ fn appended_seek(moved: &[Seek], id: u32) -> Option<Seek>
     None
 }
 
-/// Returns the Seek of the first existing Element with the ID `id` at level 1. Returns None if there is none, or if one
-/// of `parts` removes it.
+/// Returns the Seek of the first existing Element with the ID `id` at level 1 of `outline`. Returns None if there is
+/// none, or if one of `parts` removes it.
 fn standing_seek(outline: &Outline, parts: &[Part], id: u32) -> Option<Seek>
     requires { (id == CLUSTER) ≡ false }
     ensures { result ≡ spec.standing_seek outline.now (map shown parts.now) id }
@@ -54,7 +54,7 @@ fn standing_seek(outline: &Outline, parts: &[Part], id: u32) -> Option<Seek>
 }
 
 /// Returns the Seek for the ID `id`: in `moved`, the Seeks of the appended Elements, or else of the first existing
-/// Element, if any.
+/// Element in `outline`. It is None if there is neither, or if one of `parts` removes the Element.
 fn seek_for(outline: &Outline, parts: &[Part], moved: &[Seek], id: u32) -> Option<Seek>
     requires { (id == CLUSTER) ≡ false }
     ensures { result ≡ spec.seek_for moved.now outline.now (map shown parts.now) id }
@@ -65,8 +65,8 @@ fn seek_for(outline: &Outline, parts: &[Part], moved: &[Seek], id: u32) -> Optio
     }
 }
 
-/// Returns the Seeks for `ids`, in this order, without those that have no Element. `moved` has the Seeks of the
-/// appended Elements.
+/// Returns the Seeks for `ids`, in this order, without those that have no Element in `outline` after `parts` are
+/// written. `moved` has the Seeks of the appended Elements.
 fn seeks_for(
     alloc: Global,
     ids: &[u32],
@@ -86,7 +86,8 @@ fn seeks_for(
     Ok(seeks)
 }
 
-/// Returns the new Seeks for `ids`, in this order, after `parts` are written; an ID without an Element has none.
+/// Returns the new Seeks for `ids`, in this order, after `parts` are written. An ID without an Element has none.
+/// `outline` is the file's.
 pub fn seeks(
     alloc: Global,
     ids: &[u32],

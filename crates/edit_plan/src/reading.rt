@@ -22,8 +22,8 @@ use mkv_schema::ids::{CHAPTERS, INFO, TAGS, TRACKS};
 use std::alloc::Global;
 use track_records::read_tracks;
 
-/// Returns the Tracks that was read, after a check of its entries. A file without Tracks is refused, at the offset of
-/// its `segment`.
+/// Returns the Tracks `tracks` that was read, after a check of its entries. A file without Tracks is refused, at the
+/// offset of its `segment`.
 fn good_tracks(alloc: Global, segment: &Header, tracks: Option<Tree>) -> Result<Tree, OutlineEnd>
     requires { IfSome tracks (IsRead TRACKS_ID) }
     ensures exact { ReadsAs (spec.good_tracks segment.now tracks) result }

@@ -38,7 +38,7 @@ fn old_seeks(head: &Option<SeekHead>) -> &[Tree]
 }
 
 /// Returns the body of the new SeekHead: the Seeks for `ids` after `parts` are written, and the other children of the
-/// old one, `head`.
+/// old one, `head`. `outline` is the file's.
 #[tactic(auto, using(crate::proofs::HeadLemmas::heads))]
 pub fn new_seek_head(
     alloc: Global,
@@ -59,8 +59,8 @@ pub fn new_seek_head(
     Ok(body)
 }
 
-/// Returns the room in bytes of the old SeekHead `head`: its length and the Voids directly after it, or 0 if there is
-/// none.
+/// Returns the room in bytes of the old SeekHead `head` in `outline`: its length and the Voids directly after it, or 0
+/// if there is none.
 pub fn room_of(outline: &Outline, head: &Option<SeekHead>) -> u64
     requires { IfSome head.now (λ s. IsInFile outline.now.total s.header) }
     ensures exact { result ≡ spec.room_of (option_map found head.now) outline.now.others }
@@ -112,8 +112,8 @@ fn size_len(segment: &Header) -> u64
     }
 }
 
-/// Returns the number of bytes that the edit writes for the Segment's size: 0 unless one of `parts` is appended to the
-/// file.
+/// Returns the number of bytes that the edit writes for the Segment's size in `outline`: 0 unless one of `parts` is
+/// appended to the file.
 pub fn size_added(outline: &Outline, parts: &[Part]) -> u64
     ensures { result ≡ if list_any spec.moves (map shown parts.now) then spec.size_length outline.now.segment else 0 }
 {
@@ -123,7 +123,7 @@ pub fn size_added(outline: &Outline, parts: &[Part]) -> u64
     0
 }
 
-/// Returns the write of the Segment's size field for a Segment that ends at the offset `end`; none if its size is
+/// Returns the write of the size field of `segment`, which ends at the offset `end` after the edit; none if its size is
 /// unknown.
 #[tactic(auto, unfolding(ebml_numbers::specs::Number::is_id), using(crate::proofs::SizeLemmas::sizes))]
 pub fn size_write(alloc: Global, segment: &Header, end: u64) -> Result<Vec<Write>, AllocError>

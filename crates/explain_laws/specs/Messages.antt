@@ -1,4 +1,4 @@
--- The words of messages, each of which has a page in `explain`. They are this project's.
+-- The words of messages that have a page in `explain`. They are this project's.
 use Rattle.std.specs.Prelude.{◌≡◌, ℕ, List, ◌++◌, map, codes, Option, Some, None, IfSome, IsSome}
 use Rattle.std.specs.List.{IsDistinct}
 use Rattle.mkv_io.specs.Kind.{kind_name}

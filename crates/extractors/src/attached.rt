@@ -19,8 +19,8 @@ use std::alloc::Global;
 /// Size in bytes of the buffer through which the data of attached files is copied.
 const CHUNK: usize = 65_536;
 
-/// Returns the attached file with the ID `number`, counted from 1 in the order of the Attachments; None for 0 and for a
-/// number past the last.
+/// Returns the attached file of `list` with the ID `number`, counted from 1 in the order of the Attachments. There is
+/// none for 0 or a number past the last.
 fn attached_at(list: &List<Attachment>, number: u64) -> Option<&Attachment>
     ensures { option_map (λ a. a.now) result ≡ attached_at list.now number }
 {
@@ -60,8 +60,8 @@ fn write_attachment<F: Files>(
     )
 }
 
-/// Writes the file of each target in `targets`, in order, for `write_attachments`. The data goes through `buffer`, and
-/// the first failure ends it.
+/// Writes the file of each target in `targets`, in order, from `source`, for `write_attachments`. The data goes through
+/// `buffer`, and the first failure ends it.
 fn write_each<F: Files>(
     files: &mut F,
     source: &Source,

@@ -51,8 +51,8 @@ fn give_to<F: Files>(
     }
 }
 
-/// Writes the cursor's block to each output of `list` that is for its track. `numbers` has, for each output, the number
-/// of its next frame, counted from 1, and is advanced.
+/// Writes the cursor's block to each output of `list` that is for its track, open in `outputs`. `numbers` has, for each
+/// output, the number of its next frame, counted from 1, and is advanced.
 fn give_block<F: Files>(
     list: &[TrackOutput],
     outputs: &mut Outputs,
@@ -76,8 +76,8 @@ fn give_block<F: Files>(
     Ok(())
 }
 
-/// Adds the bad frames of the cursor's block to `bad`, and writes its good frames to the outputs of its track. It is
-/// one step of `write_blocks`.
+/// Adds the bad frames of the cursor's block to `bad`, and writes its good frames to the outputs in `list` of its
+/// track. `numbers` has the number of each output's next frame, and is advanced. It is one step of `write_blocks`.
 fn take_block<F: Files>(
     list: &[TrackOutput],
     outputs: &mut Outputs,
@@ -101,9 +101,9 @@ fn take_block<F: Files>(
     give_block(list, outputs, files, numbers, cursor, scratch)
 }
 
-/// Writes all remaining blocks of `cursor` to the outputs of their tracks, in one pass over the source, for `extract`.
-/// The outputs must be open and have only the bytes before their first frame. Returns the damage of the source and the
-/// bad frames. Blocks that no output takes are passed over without their frames.
+/// Writes all remaining blocks of `cursor` to the outputs in `list` of their tracks, in one pass over the source, for
+/// `extract`. The outputs must be open and have only the bytes before their first frame. Returns the damage of the
+/// source and the bad frames. Blocks that no output takes are passed over without their frames.
 pub fn write_blocks<F: Files>(
     alloc: Global,
     list: &[TrackOutput],

@@ -174,7 +174,7 @@ fn give_frame<F: Files>(
     }
 }
 
-/// Writes `prefix` and then `octets` to the output with index `k`. The frame needs no buffer.
+/// Writes `prefix` and then `octets` to the output with index `k` in `outputs`. The frame needs no buffer.
 fn give_behind<F: Files>(
     outputs: &mut Outputs,
     files: &mut F,
@@ -192,8 +192,8 @@ fn give_behind<F: Files>(
     outputs.write(files, k, octets)
 }
 
-/// Writes the timestamp `time`, in nanoseconds, as a line of milliseconds to the output with index `k`. `text` is
-/// working memory.
+/// Writes the timestamp `time`, in nanoseconds, as a line of milliseconds to the output with index `k` in `outputs`.
+/// `text` is working memory.
 fn give_time<F: Files>(
     outputs: &mut Outputs,
     files: &mut F,
@@ -212,7 +212,8 @@ fn give_time<F: Files>(
     outputs.write(files, k, text.as_bytes())
 }
 
-/// Writes an entry of SubRip to the output with index `k`; its text is `prefix` and the bytes of `frame`.
+/// Writes an entry of SubRip to the output with index `k` in `outputs`; its text is `prefix` and the bytes of `frame`.
+/// `scratch` is working memory.
 fn give_text<F: Files>(
     outputs: &mut Outputs,
     files: &mut F,
@@ -246,8 +247,9 @@ fn put_text(prefix: &[u8], frame: Framed<'_>, scratch: &mut Scratch) -> Result<(
     )
 }
 
-/// Writes the H.264 frame `prefix` and `octets` to the output with index `k`, each unit after a start code; writes
-/// nothing for a bad frame. `length_size` is the number of bytes of each length before a unit.
+/// Writes the H.264 frame `prefix` and `octets` to the output with index `k` in `outputs`, each unit after a start
+/// code. It writes nothing for a bad frame. `length_size` is the number of bytes of each length before a unit. `text`
+/// is working memory.
 fn give_units<F: Files>(
     outputs: &mut Outputs,
     files: &mut F,
@@ -268,9 +270,9 @@ fn give_units<F: Files>(
     give_join(outputs, files, k, frame, length_size)
 }
 
-/// Writes the units of the whole H.264 frame `frame`, each after a start code, to the output with index `k`. It writes
-/// nothing if the units don't fill the frame exactly. `length_size` is the number of bytes of each length before a
-/// unit.
+/// Writes the units of the whole H.264 frame `frame`, each after a start code, to the output with index `k` in
+/// `outputs`. It writes nothing if the units don't fill the frame exactly. `length_size` is the number of bytes of each
+/// length before a unit.
 fn give_join<F: Files>(
     outputs: &mut Outputs,
     files: &mut F,
@@ -296,8 +298,8 @@ fn give_join<F: Files>(
     Ok(())
 }
 
-/// Writes the AAC frame `prefix` and `octets` after its ADTS header to the output with index `k`. It writes nothing if
-/// the frame is too long for the header.
+/// Writes the AAC frame `prefix` and `octets` after its ADTS header, for the configuration `aac`, to the output with
+/// index `k` in `outputs`. It writes nothing if the frame is too long for the header.
 fn give_headed<F: Files>(
     outputs: &mut Outputs,
     files: &mut F,

@@ -36,8 +36,8 @@ pub fn targets_of(job: &Job) -> &[Target]
     }
 }
 
-/// Returns the outputs that are created for `targets` in the form `form`, in order. A target gets none if its track is
-/// missing, or can't be written in this form. No file is touched.
+/// Returns the outputs that are created for `targets` in the form `form`, in order. `tracks` has the tracks of the
+/// file. A target gets none if its track is missing, or can't be written in this form. No file is touched.
 pub fn track_outputs(
     alloc: Global,
     form: Form,

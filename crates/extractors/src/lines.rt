@@ -32,7 +32,8 @@ pub fn put_cues(cues: &Tree, track: u64, scale: u64, out: &mut String) -> Result
     Ok(())
 }
 
-/// Appends the lines of one CuePoint, `point`, for the track with TrackNumber `track`, at `scale` nanoseconds per tick.
+/// Appends to `out` the lines of one CuePoint, `point`, for the track with TrackNumber `track`, at `scale` nanoseconds
+/// per tick.
 fn put_point(point: &Tree, track: u64, scale: u64, out: &mut String) -> Result<(), AllocError>
     requires { IsSoundOf ids.CUE_POINT point.now }
     ensures { OnOk result (string_bytes out.new ≡ string_bytes out.old ++ spec.point_lines scale track point.now) }
@@ -56,7 +57,8 @@ fn time_of(point: &Tree, scale: u64) -> Option<u128>
     Some(u128::from(ticks) * u128::from(scale))
 }
 
-/// Appends the line of `place`, a CueTrackPositions of a CuePoint at `time` nanoseconds, if its CueTrack is `track`.
+/// Appends to `out` the line of `place`, a CueTrackPositions of a CuePoint at `time` nanoseconds, if its CueTrack is
+/// `track`.
 fn put_place(
     time: Option<u128>,
     place: &Tree,
@@ -72,7 +74,8 @@ fn put_place(
     }
 }
 
-/// Appends one line: `time` in nanoseconds, and the positions in `place`, a CueTrackPositions. An absent number is `-`.
+/// Appends one line to `out`: `time` in nanoseconds, and the positions in `place`, a CueTrackPositions. An absent
+/// number is `-`.
 fn put_line(time: Option<u128>, place: &Tree, out: &mut String) -> Result<(), AllocError>
     requires { IsSoundOf ids.CUE_TRACK_POSITIONS place.now }
     ensures { OnOk result (string_bytes out.new ≡ string_bytes out.old ++ spec.cue_line time place.now) }
@@ -83,8 +86,8 @@ fn put_line(time: Option<u128>, place: &Tree, out: &mut String) -> Result<(), Al
     out.push_str("\n")
 }
 
-/// Appends the label `name`, and the first child of `tree` with this `id`, an unsigned integer, in decimal, or `-` if
-/// it is absent.
+/// Appends to `out` the label `name`, and the first child of `tree` with this `id` in decimal, or `-` if it is absent.
+/// The child is an unsigned integer.
 fn put_integer(name: &str, tree: &Tree, id: u32, out: &mut String) -> Result<(), AllocError>
     requires sound { IsSound tree.now }
     requires uint { HasUint (id_of tree.now) id }
@@ -96,7 +99,7 @@ fn put_integer(name: &str, tree: &Tree, id: u32, out: &mut String) -> Result<(),
     }
 }
 
-/// Appends the label `name`, and `number` in decimal, or `-` if it is None.
+/// Appends to `out` the label `name`, and `number` in decimal, or `-` if it is None.
 fn put_number(name: &str, number: Option<u128>, out: &mut String) -> Result<(), AllocError>
     ensures { OnOk result (string_bytes out.new ≡ string_bytes out.old ++ spec.labelled name.now number) }
 {

@@ -20,8 +20,8 @@ pub fn frame_time(head: &BlockHead, i: usize, step: u64) -> i64
     head.time + (i as u64 * step) as i64
 }
 
-/// Appends `time`, in nanoseconds, as a line of a timestamp file: in milliseconds, with six decimals unless it is
-/// whole.
+/// Appends to `text` the line of a timestamp file for `time`, in nanoseconds: milliseconds, with six decimals unless it
+/// is whole.
 pub fn push_time(text: &mut String, time: i64) -> Result<(), AllocError>
     ensures { OnOk result (string_bytes text.new ≡ string_bytes text.old ++ time_line time) }
 {

@@ -68,7 +68,7 @@ fn tell_step(
     }
 }
 
-/// Appends the kind, ID and offset of `damage`, and whether reading stops at it.
+/// Appends to `text` the kind, ID and offset of `damage`, and whether reading stops at it (`stopped`).
 fn tell_damaged(damage: Damage, stopped: bool, text: &mut String) -> Result<(), AllocError> {
     let kind = damage.kind;
     let id = damage.id;
@@ -100,7 +100,7 @@ fn tell_flags(cursor: &Cursor, text: &mut String) -> Result<(), AllocError> {
     tell_flag(head.group, " group", text)
 }
 
-/// Appends `word` if `flag` is true.
+/// Appends `word` to `text` if `flag` is true.
 fn tell_flag(flag: bool, word: &str, text: &mut String) -> Result<(), AllocError> {
     if flag { text.push_str(word) } else { Ok(()) }
 }

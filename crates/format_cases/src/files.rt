@@ -37,7 +37,7 @@ pub fn tell_file(
     }
 }
 
-/// Appends the result of the case `word` for the open file `file`.
+/// Appends to `text` the result of the case `word` for the open file `file`.
 fn tell_open<R: Reads>(
     alloc: Global,
     word: &str,

@@ -27,7 +27,7 @@ pub fn tell<R: Reads>(
     }
 }
 
-/// Appends a line for each Element that `elements` returns, up to its second end or 1000 calls.
+/// Appends to `text` a line for each Element that `elements` returns, up to its second end or 1000 calls.
 fn tell_elements<R: Reads>(
     elements: &mut LevelOne,
     src: &mut R,

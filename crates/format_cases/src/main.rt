@@ -18,7 +18,7 @@ mod trees;
 
 use case::Case;
 
-/// Appends a damaged place to `text`: its kind, ID and offset in the file.
+/// Appends `damage`, a damaged place, to `text`: its kind, ID and offset in the file.
 fn tell_damage(damage: Damage, text: &mut String) -> Result<(), AllocError> {
     let kind = damage.kind;
     let id = damage.id;
@@ -26,7 +26,7 @@ fn tell_damage(damage: Damage, text: &mut String) -> Result<(), AllocError> {
     write!(text, "  {kind:?} {id:X} {offset}\n")
 }
 
-/// Appends bytes in hexadecimal digits to `text`, each after a space.
+/// Appends the bytes `octets` in hexadecimal digits to `text`, each after a space.
 fn tell_octets(octets: &[u8], text: &mut String) -> Result<(), AllocError> {
     for octet in octets {
         write!(text, " {octet:02X}")?;

@@ -41,7 +41,7 @@ fn tell_header(id: u32, size: Size, text: &mut String) -> Result<(), AllocError>
     tell_size(size, text)
 }
 
-/// Appends the size with its written bytes, or `unknown`.
+/// Appends to `text` the size with its written bytes, or `unknown`.
 fn tell_size(size: Size, text: &mut String) -> Result<(), AllocError> {
     match size {
         Size::Known(size) if size < LONGEST_FILE => {

@@ -38,7 +38,7 @@ pub fn tell_info(alloc: Global, case: &Case, text: &mut String) -> Result<(), Al
     }
 }
 
-/// Appends the TimestampScale of `info` in nanoseconds, or the damage for which it is refused.
+/// Appends to `text` the TimestampScale of `info` in nanoseconds, or the damage for which it is refused.
 fn tell_scale(info: &Tree, text: &mut String) -> Result<(), AllocError>
     requires { IsSoundOf INFO_ID info.now }
 {
@@ -64,7 +64,7 @@ pub fn tell_tracks(alloc: Global, case: &Case, text: &mut String) -> Result<(), 
     }
 }
 
-/// Appends a line for each of `tracks`.
+/// Appends to `text` a line for each of `tracks`.
 fn tell_each(tracks: &[Track], text: &mut String) -> Result<(), AllocError> {
     for track in tracks {
         tell_track(track, text)?;
@@ -72,7 +72,8 @@ fn tell_each(tracks: &[Track], text: &mut String) -> Result<(), AllocError> {
     Ok(())
 }
 
-/// Appends the line of `track`: offset, type, codec, numbers, language, and the written length of its entry in bytes.
+/// Appends to `text` the line of `track`: offset, type, codec, numbers, language, and the written length of its entry
+/// in bytes.
 fn tell_track(track: &Track, text: &mut String) -> Result<(), AllocError> {
     let offset = track.offset;
     let kind = track.type_name();
@@ -94,7 +95,7 @@ pub fn tell_usable(alloc: Global, case: &Case, text: &mut String) -> Result<(), 
     }
 }
 
-/// Appends the result for the first of `tracks`, or `none`.
+/// Appends to `text` the result for the first of `tracks`, or `none`.
 fn tell_first(tracks: &List<Track>, text: &mut String) -> Result<(), AllocError>
     requires { All (λ track. IsEntry track.entry) tracks.now }
 {
@@ -104,7 +105,8 @@ fn tell_first(tracks: &List<Track>, text: &mut String) -> Result<(), AllocError>
     }
 }
 
-/// Appends the bytes that header stripping removed from each frame of `track`, or the reason why they can't be used.
+/// Appends to `text` the bytes that header stripping removed from each frame of `track`, or the reason why they can't
+/// be used.
 fn tell_prefix(track: &Track, text: &mut String) -> Result<(), AllocError>
     requires { IsEntry track.now.entry }
 {

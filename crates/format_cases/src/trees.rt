@@ -25,7 +25,7 @@ fn master_of(alloc: Global, id: u32, body: &[u8], nodes: u32) -> Result<Tree, Tr
     Tree::parse(alloc, id, 95, body, 100, nodes)
 }
 
-/// Appends to `text` the reason why a master isn't read.
+/// Appends to `text` the reason `end` why a master isn't read.
 pub fn tell_end(end: TreeEnd, text: &mut String) -> Result<(), AllocError> {
     match end {
         TreeEnd::Damage(damage) => tell_damage(damage, text),
@@ -48,7 +48,7 @@ pub fn tell_master(
     }
 }
 
-/// Appends the result of the case `word` for `tree`: its normal form, or the value of its first child.
+/// Appends to `text` the result of the case `word` for `tree`: its normal form, or the value of its first child.
 fn tell_tree(alloc: Global, word: &str, tree: &Tree, text: &mut String) -> Result<(), AllocError> {
     match (word, tree.at(0)) {
         ("tree", _) => tell_normal_form(alloc, tree, text),
@@ -59,7 +59,8 @@ fn tell_tree(alloc: Global, word: &str, tree: &Tree, text: &mut String) -> Resul
     }
 }
 
-/// Appends the depth of `tree`, the length of its normal form in bytes, and the bytes of a copy's normal form.
+/// Appends to `text` the depth of `tree`, the length of its normal form in bytes, and the bytes of a copy's normal
+/// form.
 fn tell_normal_form(alloc: Global, tree: &Tree, text: &mut String) -> Result<(), AllocError> {
     write!(
         text,
@@ -71,7 +72,7 @@ fn tell_normal_form(alloc: Global, tree: &Tree, text: &mut String) -> Result<(),
     tell_written(alloc, &copy, text)
 }
 
-/// Appends the bytes of the normal form of `tree`.
+/// Appends to `text` the bytes of the normal form of `tree`.
 fn tell_written(alloc: Global, tree: &Tree, text: &mut String) -> Result<(), AllocError> {
     let mut out = Bytes::new(alloc);
     tree.put(&mut out)?;
@@ -79,7 +80,7 @@ fn tell_written(alloc: Global, tree: &Tree, text: &mut String) -> Result<(), All
     text.push_str("\n")
 }
 
-/// Appends the value of `child` as an unsigned integer, unless it has more than 8 bytes.
+/// Appends to `text` the value of `child` as an unsigned integer, unless it has more than 8 bytes.
 fn tell_uint(child: &Tree, text: &mut String) -> Result<(), AllocError> {
     if child.body().len() > 8 {
         return text.push_str("  too long\n");
@@ -87,7 +88,7 @@ fn tell_uint(child: &Tree, text: &mut String) -> Result<(), AllocError> {
     write!(text, "  {}\n", child.uint())
 }
 
-/// Appends the value of `child` as a signed integer, unless it has more than 8 bytes.
+/// Appends to `text` the value of `child` as a signed integer, unless it has more than 8 bytes.
 fn tell_int(child: &Tree, text: &mut String) -> Result<(), AllocError> {
     if child.body().len() > 8 {
         return text.push_str("  too long\n");

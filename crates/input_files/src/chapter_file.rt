@@ -51,8 +51,8 @@ fn read_named<F: Files>(alloc: Global, name: &str, files: &mut F) -> Result<Chap
     }
 }
 
-/// Reads the chapter file that the command line of a merge names by `--chapters`, if any. It is closed again. A file
-/// that can't be opened or read is a `ReadFault`.
+/// Reads the chapter file `name` that the command line of a merge names by `--chapters`, if any. It is closed again. A
+/// file that can't be opened or read is a `ReadFault`.
 pub fn read_chapter_file<F: Files>(
     alloc: Global,
     name: &Option<Text>,

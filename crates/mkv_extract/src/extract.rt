@@ -165,7 +165,7 @@ fn extract_fit<F: Files, P: Report>(
     }
 }
 
-/// Returns the error line for the track of the file `name` that can't be extracted.
+/// Returns the error line for the track of the file `name` that can't be extracted, as `refusal` has it.
 fn line_of(name: &str, refusal: Refusal) -> Line<'_>
     ensures { text_of result ≡ unfit_line name.now refusal.why refusal.track }
 {

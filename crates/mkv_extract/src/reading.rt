@@ -61,7 +61,7 @@ pub fn read_source<R: Reads>(
 }
 
 /// Reads the first Cues of the open file `file` if `job` extracts cue points, or returns the damage for which it is
-/// refused. Other jobs get None.
+/// refused. Other jobs get None. `outline` is the file's.
 fn cues_for<R: Reads>(
     alloc: Global,
     job: &Job,

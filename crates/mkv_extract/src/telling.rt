@@ -37,8 +37,9 @@ pub enum WarningKind {
     Frames,
 }
 
-/// Warns of each item that `targets` name and that the file `name` lacks, once: its number is at least `count`. For
-/// tracks, numbered from 0, `count` is their number. For attached files, numbered from 1, it is their number plus 1.
+/// Warns of each item that `targets` name and that the file `name` lacks, once: its number is at least `count`.
+/// `missing` is the kind of items. For tracks, numbered from 0, `count` is their number. For attached files, numbered
+/// from 1, it is their number plus 1.
 pub fn say_absent<P: Report>(
     alloc: Global,
     missing: Missing,
@@ -61,7 +62,8 @@ pub fn say_absent<P: Report>(
     Ok(())
 }
 
-/// Warns that the file `name` lacks the track or attached file with the number `number`.
+/// Warns that the file `name` lacks the item of the kind `missing`, a track or an attached file, with the number
+/// `number`.
 fn say_missing<P: Report>(
     alloc: Global,
     missing: Missing,
@@ -94,8 +96,8 @@ fn is_told(told: &mut IndexSet<u64>, number: u64, count: u64) -> Result<bool, Co
     }
 }
 
-/// Prints the messages after an extraction of frames: a line for each complete output, and the warnings of `extracted`.
-/// Returns the status. `count` is the number of tracks in the file `name`.
+/// Prints the messages after an extraction of frames: a line for each complete output of `targets`, and the warnings of
+/// `extracted`. Returns the status. `count` is the number of tracks in the file `name`.
 pub fn tell<P: Report>(
     alloc: Global,
     name: &str,
@@ -114,7 +116,7 @@ pub fn tell<P: Report>(
     Ok(status_of(targets, count, extracted))
 }
 
-/// Warns of the damage of the file `name`, and then of the frames that were left out.
+/// Warns of the damage of the file `name` that `extracted` has, and then of the frames that were left out.
 fn warn_all<P: Report>(
     alloc: Global,
     name: &str,
@@ -196,9 +198,9 @@ fn say_more<P: Report>(
     }
 }
 
-/// Prints the messages after an extraction of attached files or cue points: a line for each complete output, and a
-/// warning of damage at level 1. Returns the status, which is a warning if there is damage or if a target names a
-/// missing item. `count` is the first number that the file `name` lacks.
+/// Prints the messages after an extraction of attached files or cue points. They are a line for each complete output of
+/// `targets`, and a warning of damage at level 1. Returns the status, which is a warning if there is damage or if a
+/// target names a missing item. `count` is the first number that the file `name` lacks.
 pub fn tell_held<P: Report>(
     alloc: Global,
     name: &str,

@@ -145,8 +145,8 @@ fn make_both<F: Files>(alloc: Global, names: &Names, files: &mut F) -> Result<Ou
     }
 }
 
-/// Makes all files of `generate` for `n` pictures: writes the two files, merges them, and splits the merged file. Each
-/// step reads files that the previous one has written.
+/// Makes all files of `generate` for `n` pictures, under `names`: writes the two files, merges them, and splits the
+/// merged file. Each step reads files that the previous one has written.
 pub(crate) fn make<F: Files>(
     alloc: Global,
     n: u32,

@@ -32,8 +32,8 @@ pub fn prepare(
     Ok(holder)
 }
 
-/// Adds the file `one`, for which `prepare` has reserved room, and returns its number. Its identity stays in `seen`
-/// after it is closed.
+/// Adds the file `one`, for which `prepare` has reserved room, to `opened`, and returns its number. Its identity stays
+/// in `seen` after it is closed.
 pub fn add(opened: &mut Vec<Option<Opened>>, seen: &mut Vec<Node>, one: Opened) -> FileId
     requires room { length opened.old.items < vec_capacity opened.old }
     requires seen_room { length seen.old.items < vec_capacity seen.old }
@@ -58,14 +58,14 @@ pub fn open_at(opened: &Vec<Option<Opened>>, file: FileId) -> &Opened
     }
 }
 
-/// Checks whether the file with the identity `node` was opened or created before, under any name.
+/// Checks whether the file with the identity `node` is in `seen`: it was opened or created before, under any name.
 pub fn is_seen(seen: &Vec<Node>, node: Node) -> bool
     ensures { result ≡ list_any (is_node node) seen.now.items }
 {
     seen.iter().any(|one| *one == node)
 }
 
-/// Adds `count` bytes to the noted length of the open file `file`.
+/// Adds `count` bytes to the noted length of the open file `file` in `opened`.
 pub fn lengthen(opened: &mut Vec<Option<Opened>>, file: FileId, count: u64)
     requires live { IsTrue (is_some (opened_at opened.old.items file.n)) }
     requires room { size_at opened.old.items file.n + count ≤ LONGEST_FILE }

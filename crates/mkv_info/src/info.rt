@@ -53,8 +53,8 @@ pub fn info_of<F: Files, P: Report>(
     ended
 }
 
-/// Prints the description of the open file `file` with the name `name`. If its journal has a pending edit, it prints
-/// only an error, since the file may be half written.
+/// Prints the description of the open file `file` with the name `name` in the form `form`. If its journal has a pending
+/// edit, it prints only an error, since the file may be half written.
 fn report_unless_pending<F: Files, P: Report>(
     alloc: Global,
     form: Form,

@@ -27,8 +27,8 @@ pub enum Scope {
     Track(u64),
 }
 
-/// Makes the value of the key `track_tags`: a list with the number of SimpleTags of each track that has some. A track
-/// is named by its index from 0.
+/// Makes the value of the key `track_tags`: a list with the number of SimpleTags in `tags` of each of `tracks` that has
+/// some. A track is named by its index from 0.
 pub(crate) fn track_tags_value(
     alloc: Global,
     tags: &Option<Tree>,
@@ -55,7 +55,7 @@ fn track_tags(alloc: Global, count: usize, id: usize) -> Result<Value, AllocErro
     json!(in alloc; {"num_entries": count, "track_id": id})
 }
 
-/// Returns the number of SimpleTags directly in the Tags that `scope` counts; 0 if the file has no Tags.
+/// Returns the number of SimpleTags directly in the Tags of `tags` that `scope` counts; 0 if the file has no Tags.
 pub(crate) fn tag_count(tags: &Option<Tree>, scope: Scope) -> Result<usize, AllocError>
     requires { IfSome tags.now AreTags }
     ensures { IfOk result (λ count. count ≡ tag_count scope tags.now) }

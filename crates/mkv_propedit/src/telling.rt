@@ -44,7 +44,7 @@ pub fn tell<R: Report>(
     }
 }
 
-/// Returns the error line for a refused edit or new index of the file `name`.
+/// Returns the error line for an edit or new index of the file `name` that was refused for the reason `refusal`.
 pub fn refusal_line(name: &str, refusal: Refusal) -> Line<'_>
     ensures { text_of result ≡ spec.refusal_text name.now refusal }
 {

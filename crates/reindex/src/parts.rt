@@ -33,7 +33,7 @@ fn cues_part(place: u64, room: u64, body: Option<Bytes>) -> Part
     }
 }
 
-/// Returns the part that writes a Cues with `points` over the old Cues of the file, or appends it if there is none.
+/// Returns the part that writes a Cues with `points` over the old Cues in `outline`, or appends it if there is none.
 /// Without points the old Cues is removed. The list is empty if there is neither an old nor a new Cues.
 pub fn cues_parts(
     alloc: Global,

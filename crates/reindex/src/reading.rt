@@ -82,8 +82,8 @@ fn collect<R: Reads>(
     }
 }
 
-/// Reads the cue points of `file`, whose outline and records are given, in the order of its blocks. It fails with the
-/// first damage. After 1,048,576 points it only checks for damage. Frames aren't read.
+/// Reads the cue points of `file`, which has this `outline` and the records `trees`, in the order of its blocks. It
+/// fails with the first damage. After 1,048,576 points it only checks for damage. Frames aren't read.
 pub fn read_points<R: Reads>(
     alloc: Global,
     outline: &Outline,

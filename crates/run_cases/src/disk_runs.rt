@@ -107,8 +107,8 @@ impl Edit<'_> {
     }
 }
 
-/// Runs `disk fails`, or `disk stops` if `stops`: makes each call fail in turn, and all later ones if `stops`. At least
-/// `STOPS` calls must stop the run.
+/// Runs `disk fails`, or `disk stops` if `stops`, for the case `reading`: makes each call fail in turn, and all later
+/// ones if `stops`. At least `STOPS` calls must stop the run.
 pub fn check(alloc: Global, reading: &Reading, stops: bool) -> Result<String, Fault> {
     let recover = recover_words(alloc)?;
     let edit = Edit {

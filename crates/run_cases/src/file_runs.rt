@@ -27,7 +27,7 @@ fn files_before(alloc: Global, reading: &Reading) -> Result<MemFiles, Fault> {
     Ok(files)
 }
 
-/// Checks whether a stopped run may leave the bytes `left` in `out.mkv`, or no such file.
+/// Checks whether a stopped run of the case `reading` may leave the bytes `left` in `out.mkv`, or no such file.
 fn is_left(reading: &Reading, left: Option<&[u8]>) -> bool {
     match left {
         Some(octets) => {
@@ -39,8 +39,8 @@ fn is_left(reading: &Reading, left: Option<&[u8]>) -> bool {
     }
 }
 
-/// Runs the command over `files`, whose call number `call`, from 0, fails. Returns whether it ended as if no call
-/// failed.
+/// Runs the command of the case `reading` over `files`, whose call number `call`, from 0, fails. Returns whether it
+/// ended as if no call failed.
 fn ends_over(
     alloc: Global,
     reading: &Reading,
@@ -52,8 +52,8 @@ fn ends_over(
     has_ended(status, &report, reading.said.as_str(), "fault: files", call)
 }
 
-/// Runs the command while the call number `call`, from 0, fails, and checks its output. Returns the length of the
-/// output if the run was stopped, and None if not.
+/// Runs the command of the case `reading` while the call number `call`, from 0, fails, and checks its output. Returns
+/// the length of the output if the run was stopped, and None if not.
 fn left_by(alloc: Global, reading: &Reading, call: u64) -> Result<Option<usize>, Fault> {
     let mut files = files_before(alloc, reading)?;
     files.fail_at(call, KEPT)?;

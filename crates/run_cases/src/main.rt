@@ -35,7 +35,7 @@ fn answer(alloc: Global, line: &str, reading: &mut Reading) -> Result<String, Fa
     }
 }
 
-/// Prints the result of `line`, if it starts a run.
+/// Prints the result of `line`, if it starts a run, for the case that `reading` has read up to it.
 fn take_line(rt: &(impl Print + AllocGlobal), line: &str, reading: &mut Reading) -> io::Result<()> {
     match answer(rt.alloc(), line, reading) {
         Ok(text) if text.is_empty() => Ok(()),

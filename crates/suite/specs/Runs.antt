@@ -113,9 +113,9 @@ pub record Runs (words : List (List ℕ)) (before after : Outside) (s : Status) 
   -- `generate` ends with the status Done and one line, and its files hold exactly their blocks. It isn't promised if memory runs out or a call of the
   -- system fails.
   pub generate_succeeds : GeneratesWell before.names words s
-  -- A crash at any moment leaves the file and its journal as they were, or as an edit or a recovery can leave them on its way. Either way `recover`
-  -- makes the old file or the edited one of them. If the run is refused or out of memory, a crash leaves them as they were. This is promised if the
-  -- disk is visible to the proof and had nothing left to sync.
+  -- A crash at any moment leaves the file and its journal as they were, or as an edit or a recovery can leave them. Either way `recover` makes the
+  -- old file or the edited one. If the run is refused or out of memory, a crash leaves them as they were. This is promised if the disk is visible to
+  -- the proof and had nothing left to sync.
   pub survives_crashes : IsTrue before.tells → IsSynced before.disk.pair
       → CrashLeavesOnly before after (LeftOnTheWay (reach_in (command words)) s before.disk.pair.media.reads before.disk.pair.sidecar.reads)
 

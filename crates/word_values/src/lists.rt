@@ -77,7 +77,7 @@ impl Piece for SpanPiece {
 
     ghost spelled = { spec.span };
 
-    /// Reads an item that is a period, `a-b` or `a-`.
+    /// Reads the item `word`, a period, `a-b` or `a-`.
     fn read(word: &[u8]) -> Option<SpanWords> {
         span(word)
     }
@@ -112,7 +112,8 @@ pub(crate) fn numbers(alloc: Global, word: &[u8]) -> Result<List<u64>, ValueEnd>
     list_of::<NumberPiece>(alloc, word)
 }
 
-/// Reads the value of `--video-tracks` and its like: track IDs with commas, or `!` and the IDs that are excluded.
+/// Reads `word`, the value of `--video-tracks` and its like: track IDs with commas, or `!` and the IDs that are
+/// excluded.
 #[tactic(auto, unfolding(crate::specs::Lists::ids))]
 pub(crate) fn ids(alloc: Global, word: &[u8]) -> Result<Select, ValueEnd>
     ensures { ReadsValue result (spec.ids word.now) }
@@ -166,7 +167,7 @@ fn spans(alloc: Global, word: &[u8]) -> Result<List<SpanWords>, ValueEnd>
     }
 }
 
-/// Reads the period `a-b`, or `a-` for one without an end; both are times.
+/// Reads the period `word`: `a-b`, or `a-` for one without an end; both are times.
 #[tactic(auto, unfolding(crate::specs::Lists::span))]
 fn span(word: &[u8]) -> Option<SpanWords>
     ensures { result ≡ spec.span word.now }
@@ -206,7 +207,7 @@ fn follow(spans: &[SpanWords]) -> bool
     true
 }
 
-/// Reads the value of `--segment-uid`: identifiers with commas between them, 1 to 1024, all different.
+/// Reads `word`, the value of `--segment-uid`: identifiers with commas between them, 1 to 1024, all different.
 #[tactic(auto, unfolding(crate::specs::Lists::uuids))]
 pub(crate) fn uuids(alloc: Global, word: &[u8]) -> Result<List<u128>, ValueEnd>
     ensures { ReadsValue result (spec.uuids word.now) }
@@ -231,8 +232,8 @@ fn differ(numbers: &[u128]) -> bool
     true
 }
 
-/// Reads the value of `--split`: `duration:`, `timestamps:`, `chapters:`, `parts:` or `size:`, followed by its own
-/// value.
+/// Reads `word`, the value of `--split`: `duration:`, `timestamps:`, `chapters:`, `parts:` or `size:`, followed by its
+/// own value.
 #[tactic(auto, unfolding(crate::specs::Lists::split, crate::specs::Lists::split_of))]
 pub(crate) fn split(alloc: Global, word: &str) -> Result<SplitWords, ValueEnd>
     ensures { ReadsValue result (spec.split word.now) }
@@ -260,7 +261,7 @@ pub(crate) fn split(alloc: Global, word: &str) -> Result<SplitWords, ValueEnd>
     }
 }
 
-/// Reads the value after `duration:`, a time above 0: the split into parts of that duration.
+/// Reads `word`, the value after `duration:`, a time above 0: the split into parts of that duration.
 #[tactic(auto, unfolding(crate::specs::Lists::duration))]
 fn duration(word: &[u8]) -> Option<SplitWords>
     ensures { result ≡ spec.duration word.now }
@@ -273,7 +274,7 @@ fn duration(word: &[u8]) -> Option<SplitWords>
     }
 }
 
-/// Reads the value after `chapters:`: `all`, or the numbers of chapters with commas between them.
+/// Reads `word`, the value after `chapters:`: `all`, or the numbers of chapters with commas between them.
 #[tactic(auto, unfolding(crate::specs::Lists::chapters))]
 fn chapters(alloc: Global, word: &[u8]) -> Result<SplitWords, ValueEnd>
     ensures { ReadsValue result (spec.chapters word.now) }

@@ -46,7 +46,7 @@ fn place_of(word: &[u8], octet: u8) -> Option<usize>
     word.iter().position(|b| *b == octet)
 }
 
-/// Reads the value of `--sync` after the track: milliseconds with or without `-`. Returns nanoseconds.
+/// Reads `word`, the value of `--sync` after the track: milliseconds with or without `-`. Returns nanoseconds.
 #[tactic(auto, unfolding(crate::specs::Numbers::delay))]
 pub(crate) fn delay(word: &[u8]) -> Option<i64>
     ensures { result ≡ spec.delay word.now }
@@ -67,8 +67,8 @@ fn delay_size(word: &[u8]) -> Option<u64>
     if time < DELAY_LIMIT { Some(time) } else { None }
 }
 
-/// Reads a time: `H:MM:SS`, with or without a fraction of up to nine digits, or digits followed by `s`. Returns
-/// nanoseconds, below 2^63.
+/// Reads the time `word`: `H:MM:SS`, with or without a fraction of up to nine digits, or digits followed by `s`.
+/// Returns nanoseconds, below 2^63.
 #[tactic(auto, unfolding(crate::specs::Numbers::time))]
 pub(crate) fn time(word: &[u8]) -> Option<u64>
     ensures { result ≡ spec.time word.now }
@@ -80,7 +80,7 @@ pub(crate) fn time(word: &[u8]) -> Option<u64>
     if time < TIME_LIMIT { Some(time) } else { None }
 }
 
-/// Reads the time `H:MM:SS`, with or without a fraction, and returns nanoseconds.
+/// Reads the time `word`, `H:MM:SS` with or without a fraction, and returns nanoseconds.
 #[tactic(auto, unfolding(crate::specs::Numbers::clock))]
 fn clock(word: &[u8]) -> Option<u64>
     ensures { result ≡ below (2 ^ 64) (spec.clock word.now) }
@@ -110,7 +110,7 @@ fn minutes_or_seconds(word: &[u8]) -> Option<u64>
     if value < 60 { Some(value) } else { None }
 }
 
-/// Reads the seconds of a time, `SS` with or without a fraction; returns nanoseconds.
+/// Reads `word`, the seconds of a time, `SS` with or without a fraction; returns nanoseconds.
 #[tactic(auto, unfolding(crate::specs::Numbers::seconds))]
 fn seconds(word: &[u8]) -> Option<u64>
     ensures same { result ≡ spec.seconds word.now }
@@ -138,8 +138,8 @@ fn fraction(word: &[u8]) -> Option<u64>
     Some(value * 10u64.pow(9 - word.len() as u32))
 }
 
-/// Reads a size in bytes: a number, with or without the unit `k`, `m` or `g` (1024, its square and its cube). A product
-/// that is too large for 64 bits is 2^64 - 1.
+/// Reads `word`, a size in bytes: a number, with or without the unit `k`, `m` or `g` (1024, its square and its cube). A
+/// product that is too large for 64 bits is 2^64 - 1.
 #[tactic(auto, unfolding(crate::specs::Numbers::size))]
 pub(crate) fn size(word: &[u8]) -> Option<u64>
     ensures { result ≡ spec.size word.now }

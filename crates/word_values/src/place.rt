@@ -7,7 +7,7 @@ ghost use Rattle.word_values.specs.Place.{texts, IsWordAt};
 
 use crate::usage::{ArgsEnd, Usage, Why};
 
-/// Returns the argument with the index `at`, counted from 0, or None if the command line ends before it.
+/// Returns the argument of `words` with the index `at`, counted from 0, or None if the command line ends before it.
 pub fn word_at(words: &[String], at: usize) -> Option<&str>
     ensures same { option_map (λ w. w.now) result ≡ slice_get (texts words.now) at }
     ensures rest { MatchOption result (drop at (texts words.now) ≡ []) (λ word. IsWordAt (texts words.now) at word.now) }
@@ -26,7 +26,7 @@ fn text_at(words: &[String], at: usize) -> Option<&str>
     Some(words.get(at)?.as_str())
 }
 
-/// Returns the argument with the index `at`, counted from 0. If it is missing, the command line is refused
+/// Returns the argument of `words` with the index `at`, counted from 0. If it is missing, the command line is refused
 /// (`MissingValue`).
 pub fn due_at(words: &[String], at: usize) -> Result<&str, ArgsEnd>
     ensures { TellsOf (λ w. w.now) result (place.due_at (texts words.now) at) }
@@ -37,8 +37,8 @@ pub fn due_at(words: &[String], at: usize) -> Result<&str, ArgsEnd>
     }
 }
 
-/// Returns the argument with the index `at`, the name of a file that is read. A missing one is refused, and one that
-/// looks like an option.
+/// Returns the argument of `words` with the index `at`, the name of a file that is read. A missing one is refused, and
+/// one that looks like an option.
 pub fn file_at(words: &[String], at: usize) -> Result<&str, ArgsEnd>
     ensures { TellsOf (λ w. w.now) result (place.file_at (texts words.now) at) }
 {
@@ -49,7 +49,7 @@ pub fn file_at(words: &[String], at: usize) -> Result<&str, ArgsEnd>
     Ok(file)
 }
 
-/// Refuses the command line if it has an argument with the index `at`, after a complete command (`ExtraWord`).
+/// Refuses the command line `words` if it has an argument with the index `at`, after a complete command (`ExtraWord`).
 pub fn end_at(words: &[String], at: usize) -> Result<(), ArgsEnd>
     ensures { Tells result (place.end_at (texts words.now) at) }
 {

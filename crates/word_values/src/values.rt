@@ -206,7 +206,7 @@ fn are_lowercase(word: &[u8]) -> bool
     word.iter().all(|b| b.is_ascii_lowercase())
 }
 
-/// Reads the value of `--timestamp-scale`: 1000 to 10000000 nanoseconds per tick.
+/// Reads `word`, the value of `--timestamp-scale`: 1000 to 10000000 nanoseconds per tick.
 #[tactic(auto, unfolding(crate::specs::Values::scale))]
 fn scale(word: &[u8]) -> Option<Value>
     ensures { result ≡ spec.scale word.now }
@@ -219,7 +219,7 @@ fn scale(word: &[u8]) -> Option<Value>
     }
 }
 
-/// Reads the value of `--cluster-length`: 1 to 65535 blocks, or 100 to 32000 milliseconds followed by `ms`.
+/// Reads `word`, the value of `--cluster-length`: 1 to 65535 blocks, or 100 to 32000 milliseconds followed by `ms`.
 #[tactic(auto, unfolding(crate::specs::Values::cluster_length))]
 fn cluster_length(word: &[u8]) -> Option<Value>
     ensures { result ≡ spec.cluster_length word.now }
@@ -256,7 +256,7 @@ fn track_flag(word: &str) -> Option<Value>
     }
 }
 
-/// Returns which blocks of a track get a cue point, by the value of `--cues` after the track.
+/// Returns which blocks of a track get a cue point, by `word`, the value of `--cues` after the track.
 #[tactic(auto, unfolding(crate::specs::Values::cue_word))]
 fn cue_word(word: &str) -> Option<CueWord>
     ensures { result ≡ spec.cue_word word.now }
