@@ -10,8 +10,8 @@ use Rattle.element_reader.specs.declared.collected.Collected.{Collected}
 use Rattle.element_reader.specs.declared.level.Level.{Level}
 use Rattle.mkv_schema.specs.Element.{is_unknown, end_in}
 
--- `level` has what an outline keeps of the Elements at level 1 of `segment` in the content `bytes`, the damage that ends them, and the Segment's end.
--- None passes a limit, after `held` bytes in earlier inputs.
+-- `level` has what an outline keeps of the Elements at level 1 of `segment` in the content `bytes`. It also has the damage that ends them, and the
+-- Segment's end. None passes a limit, after `held` bytes in earlier inputs.
 pub record HasLevel (held : ℕ) (bytes : List ℕ) (segment : Header) (level : Level) : Type 0 where
   pub limits : limits_from held [] (segment_run bytes segment).list ≡ None
   pub kept : Keeps held (segment_run bytes segment).list level.kept

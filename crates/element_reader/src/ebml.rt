@@ -94,8 +94,8 @@ fn first_element<R: Reads>(
     Ok(read_header(octets, Parent::File, total, 0, total))
 }
 
-/// Reads the EBML header of `file`, which has `total` bytes, and returns its header. The inner error is the damage for
-/// which the file is refused there.
+/// Reads the EBML header of `file`, which has `total` bytes, through `window`, and returns its header. The inner error
+/// is the damage for which the file is refused there.
 pub fn ebml_header<R: Reads>(
     alloc: Global,
     window: &mut Window,

@@ -59,7 +59,7 @@ pub fn has_doc_type(body: &[u8], base: u64, total: u64) -> bool
     }
 }
 
-/// Returns the offset in the file of the first child with the ID `id`, or 0 if there is none; damage of its value is
+/// Returns the offset in the file of the first child with the ID `id`, or 0 if there is none. Damage of its value is
 /// reported there. The header's data is `body`, at the offset `base` of a file of `total` bytes.
 fn place_of(body: &[u8], base: u64, total: u64, id: u32) -> u64
     requires { base + length body.now ≤ LONGEST_FILE }

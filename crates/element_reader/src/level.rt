@@ -61,8 +61,9 @@ pub fn segment_bound(segment: &Header, total: u64) -> u64
     }
 }
 
-/// Collects the Elements at level 1 of `segment` in `file`, which has `total` bytes. The inner error is the damage of
-/// the first one that passes a limit. Earlier inputs have `held` bytes of Info, Tracks, Chapters and Tags.
+/// Collects the Elements at level 1 of `segment` in `file`, which has `total` bytes, through `window`. The inner error
+/// is the damage of the first one that passes a limit. Earlier inputs have `held` bytes of Info, Tracks, Chapters and
+/// Tags.
 pub fn collect<R: Reads>(
     alloc: Global,
     window: &mut Window,

@@ -190,7 +190,7 @@ impl BufferedRange {
     }
 
     /// Returns the header of the Element at the offset `at` of `file`, in a parent that ends at the offset `end`. The
-    /// inner error is its damage.
+    /// inner error is its damage. The bytes are read through `buffer`.
     pub fn element<R: Reads>(
         &mut self,
         buffer: &mut [u8],

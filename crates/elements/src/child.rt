@@ -14,7 +14,7 @@ use mkv_io::Damage;
 use mkv_schema::Header;
 
 /// Returns the header of the child at the offset `at` of a file of `total` bytes, or its damage. The master's data is
-/// `body`, at the offset `base` of the file.
+/// `body`, at the offset `base` of the file; `parent` is its kind.
 pub fn child_at(
     parent: Parent,
     body: &[u8],

@@ -78,8 +78,8 @@ pub fn cluster_end<W: Lookahead, R: Reads>(
     Ok(Ok(at))
 }
 
-/// Returns the offset after `header`, an Element of a Segment that ends at the offset `end`. The inner error is the
-/// damage inside it. A Cluster of unknown size ends with its children.
+/// Returns the offset after `header`, an Element of a Segment in `file` that ends at the offset `end`. The inner error
+/// is the damage inside it. A Cluster of unknown size ends with its children.
 pub fn behind<W: Lookahead, R: Reads>(
     window: &mut W,
     src: &mut R,

@@ -153,7 +153,8 @@ fn is_statistic(names: &IndexSet<&[u8]>, child: &Tree) -> bool
     }
 }
 
-/// Checks whether `child`, a child of a Tag, is a SimpleTag that isn't a statistic.
+/// Checks whether `child`, a child of a Tag, is a SimpleTag that isn't a statistic. `names` has the names of
+/// statistics.
 fn is_other(names: &IndexSet<&[u8]>, child: &Tree) -> bool
     ensures { result ≡ spec.is_other (bytes_of names.now.keys) child.now }
 {
@@ -183,7 +184,7 @@ fn has_nothing_else(names: &IndexSet<&[u8]>, tag: &Tree) -> bool
     has_statistic(names, tag) && !has_other(names, tag)
 }
 
-/// Returns a copy of `child`, a child of a Tag, or None if it is a statistic.
+/// Returns a copy of `child`, a child of a Tag, or None if it is a statistic, by its name in `names`.
 fn bare_part(
     alloc: Global,
     names: &IndexSet<&[u8]>,

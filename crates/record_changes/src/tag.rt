@@ -71,7 +71,7 @@ fn tag_targets_in_part(part: &Tree, map: &UidMap) -> TagTargets
     aims
 }
 
-/// Returns the summary of all targets of `tag`, which decides whether the Tag is kept.
+/// Returns the summary of all targets of `tag`, which decides whether the Tag is kept. `map` has the output's numbers.
 pub(crate) fn aims_in(tag: &Tree, map: &UidMap) -> TagTargets
     requires { IsRead TAG_ID tag.now }
     ensures { result ≡ aims_in (numbers_in map.now) tag.now }

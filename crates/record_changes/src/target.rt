@@ -55,8 +55,8 @@ fn number_of(target: &Tree, map: &UidMap) -> Option<u64>
     number_in(map, target.id(), target.uint())
 }
 
-/// Returns `child`, a child of Targets, as the output gets it: a target gets the output's number. Returns None if the
-/// output lacks its item.
+/// Returns `child`, a child of Targets, as the output gets it: a target gets the output's number in `map`. Returns None
+/// if the output lacks its item.
 pub(crate) fn written_target(
     alloc: Global,
     child: &Tree,
@@ -75,7 +75,8 @@ pub(crate) fn written_target(
     }
 }
 
-/// Returns the summary of `child`, a child of Targets: no targets unless it names one item.
+/// Returns the summary of `child`, a child of Targets: no targets unless it names one item. `map` has the output's
+/// numbers.
 pub(crate) fn tag_targets_of(child: &Tree, map: &UidMap) -> TagTargets
     requires { StandsIn TARGETS_ID child.now }
     ensures { result ≡ tag_targets_of (numbers_in map.now) (filter is_target (child.now ∷ [])) }

@@ -17,7 +17,7 @@ pub fn number_at(head: &[u8], at: usize) -> u64
     BigEndian::read_u64(&head[at..])
 }
 
-/// Returns the place of the write with the index `k`, counted from 0, in the record.
+/// Returns the place of the write with the index `k`, counted from 0, in the record `head`.
 pub fn place_in(head: &[u8], k: usize) -> Place
     requires { 48 + 16 * k ≤ length head.now }
     ensures { result ≡ place_in head.now k }

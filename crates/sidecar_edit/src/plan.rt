@@ -135,7 +135,7 @@ fn append_places(octets: &mut Bytes, places: &[Place]) -> Result<(), AllocError>
     Ok(())
 }
 
-/// Appends the place with the index `k`, counted from 0, to `octets`, or zeros if there are fewer.
+/// Appends to `octets` the one of `places` with the index `k`, counted from 0, or zeros if there are fewer.
 fn append_place(octets: &mut Bytes, places: &[Place], k: usize) -> Result<(), AllocError>
     ensures { OnOk result (octets.new ≡ octets.old ++ slot places.now k) }
 {
@@ -153,7 +153,7 @@ fn zeros_behind(first: &[u8]) -> &'static [u8]
     &ZEROS[first.len()..]
 }
 
-/// Appends to `octets` the bytes that identify the file: its length before the edit, and its first bytes.
+/// Appends to `octets` the bytes that identify the file: its length `old_len` before the edit, and its first bytes.
 fn append_marks(octets: &mut Bytes, old_len: u64, first: &[u8]) -> Result<(), AllocError>
     requires { length first.now ≤ KEPT }
     ensures { OnOk result (octets.new ≡ octets.old ++ mark_octets old_len first.now) }
