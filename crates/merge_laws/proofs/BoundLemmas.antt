@@ -1,7 +1,8 @@
 -- The bytes that a merge may read, by the lengths of its files.
 use Rattle.std.proofs.Common.{◌≡◌, ◌≤◌, ℕ, suc, ◌+◌, ◌*◌, Bool, true, false, not, if◌then◌else◌, List, [], ◌∷◌, length, map, Option, Some, None, is_none, Result, Ok, Err, refl, sym, ap, subst, ◌∙◌, arith, unwrap_or}
-use Rattle.std.specs.List.{sum_by, zip}
-use Rattle.std.proofs.lemmas.List.Sums.{sum_by-cons}
+use Rattle.std.specs.List.{All, sum, sum_by, zip}
+use Rattle.std.proofs.lemmas.List.Elements.{All-head, All-tail}
+use Rattle.std.proofs.lemmas.List.Sums.{sum-map, sum_by-cons}
 use Rattle.std.proofs.Math.Nat.{add-mul, mul_assoc}
 use Rattle.mkv_io.specs.Faults.{counted}
 use Rattle.mkv_io.specs.Results.{and_then}
@@ -27,13 +28,13 @@ use Rattle.merge_inputs.specs.Taken.{taken_from}
 use Rattle.merge_plan.specs.Front.{attached_length, reads_of}
 use Rattle.merge_plan.specs.Places.{begun_at, end_of, in_place_from}
 use Rattle.merge_plan.specs.Plan.{Source}
-use Rattle.mkv_merge.specs.Bound.{contents_length, data_count, lane_count, looked_into, most_looked}
+use Rattle.mkv_merge.specs.Bound.{contents_length, contents_walked, data_count, lane_count, looked_into, most_looked, walked_before}
 use Rattle.mkv_merge.specs.Chapters.{chaptered, first_with, with_chapters}
 use Rattle.mkv_merge.specs.Merge.{sources_of}
 use Rattle.mkv_merge.specs.Read.{contents_held, inputs_from, numbered}
 use Rattle.mkv_merge.specs.Texts.{listings_at, timed_from, with_listings}
 use Rattle.mkv_merge.specs.declared.refusal.Refusal.{Refusal}
-use Rattle.merge_laws.specs.Bound.{ReadsAreBounded}
+use Rattle.merge_laws.specs.Bound.{OnlyAppendingWalks, ReadsAreBounded}
 use Rattle.merge_laws.proofs.AttachedLemmas.{attached-inside, data_sum}
 use Rattle.merge_laws.proofs.SourceLemmas.{found-ok, numbered-ok, text-ok, then-ok, unrefused-ok, were-read}
 
@@ -182,11 +183,55 @@ looked-few words sound = of (is_none words.split)
 looked-most : (words : MergeWords) → IsSoundMerge words → most_looked words ≤ 1048576
 looked-most words sound = let few = looked-few words sound in omega arith
 
+-- ---- files that are walked to their ends
+
+before-most : (b : Bool) (n : ℕ) → (if b then n else 0) ≤ n
+before-most true n = omega arith
+before-most false n = omega arith
+
+-- At most all files are walked over.
+walked-within : (files : List FileWords) (before : ℕ) (sizes : List ℕ) → sum_by walked_before (zip files (before ∷ sizes)) ≤ before + sum sizes
+walked-within [] before sizes = omega arith
+walked-within (w ∷ ws) before [] =
+    rw (sum_by-cons walked_before (w, before) (zip ws [])) (let none = nothing ws in let one = before-most w.appended before in omega arith)
+  where
+    nothing : (files : List FileWords) → sum_by walked_before (zip files []) ≡ 0
+    nothing [] = refl
+    nothing (f ∷ fs) = refl
+walked-within (w ∷ ws) before (size ∷ sizes) =
+    let rest = walked-within ws size sizes in
+    rw (sum_by-cons walked_before (w, before) (zip ws (size ∷ sizes))) (rw (sum_by-cons (λ (n : ℕ). n) size sizes) (let one = before-most w.appended before in omega arith))
+
+contents-within : (world : List ℕ → Option (List ℕ)) (files : List FileWords) → contents_walked world files ≤ contents_length world files
+contents-within world files =
+    let size : FileWords → ℕ = λ (w : FileWords). length (unwrap_or (world w.name) []) in
+    omega (arith, walked-within files 0 (map size files), sum-map size files)
+
+-- No file is walked over if none is appended.
+walked-none : (files : List FileWords) (sizes : List ℕ) → All (λ (w : FileWords). w.appended ≡ false) files → sum_by walked_before (zip files sizes) ≡ 0
+walked-none [] sizes none = refl
+walked-none (w ∷ ws) [] none = refl
+walked-none (w ∷ ws) (size ∷ sizes) none =
+    let here : walked_before (w, size) ≡ 0 = ap (λ (b : Bool). if b then size else 0) (All-head (λ (each : FileWords). each.appended ≡ false) w ws none) in
+    let rest = walked-none ws sizes (All-tail (λ (each : FileWords). each.appended ≡ false) w ws none) in
+    sum_by-cons walked_before (w, size) (zip ws sizes) ∙ omega (arith, here, rest)
+
+-- ---- the bound
+
 pub reads-bounded : ReadsAreBounded
 reads-bounded world words sound =
-    of (text_octets world words.chapters words.files) (lane_count (sources_of world words)) (contents_length world words.files) (data_count (sources_of world words)) (most_looked words)
-    (count-within world words) (looked-most words sound)
+    of (text_octets world words.chapters words.files) (lane_count (sources_of world words)) (contents_length world words.files) (contents_walked world words.files) (data_count (sources_of world words)) (most_looked words)
+    (contents-within world words.files) (count-within world words) (looked-most words sound)
   where
-    of : (texts tracks octets attached looked : ℕ) → attached ≤ octets → looked ≤ 1048576
-        → texts + ((27 * octets + (2 * (tracks * octets) + attached)) + looked) ≤ 16 * (tracks + 3) * octets + 1048576 + texts
-    of texts tracks octets attached looked within few = omega (arith, mul_assoc 16 (tracks + 3) octets, add-mul tracks 3 octets)
+    of : (texts tracks octets walked attached looked : ℕ) → walked ≤ octets → attached ≤ octets → looked ≤ 1048576
+        → texts + ((25 * octets + 2 * walked + (2 * (tracks * octets) + attached)) + looked) ≤ 16 * (tracks + 3) * octets + 1048576 + texts
+    of texts tracks octets walked attached looked part within few = omega (arith, mul_assoc 16 (tracks + 3) octets, add-mul tracks 3 octets)
+
+pub appending-walks : OnlyAppendingWalks
+appending-walks world words none =
+    of (text_octets world words.chapters words.files) (lane_count (sources_of world words)) (contents_length world words.files) (contents_walked world words.files) (data_count (sources_of world words)) (most_looked words)
+    (walked-none words.files (0 ∷ map (λ (w : FileWords). length (unwrap_or (world w.name) [])) words.files) none)
+  where
+    of : (texts tracks octets walked attached looked : ℕ) → walked ≡ 0
+        → texts + ((25 * octets + 2 * walked + (2 * (tracks * octets) + attached)) + looked) ≡ texts + (25 * octets + (2 * (tracks * octets) + attached) + looked)
+    of texts tracks octets walked attached looked none = omega arith

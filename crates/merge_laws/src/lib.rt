@@ -4,7 +4,7 @@
 //! RFC 8794, section 8 (EBML Document), and RFC 9559, sections 5.1 (Segment Element) and 10 (Cluster Blocks). No code
 //! that reads or writes depends on this crate.
 
-ghost use Rattle.merge_laws.specs.Bound.{ReadsAreBounded};
+ghost use Rattle.merge_laws.specs.Bound.{OnlyAppendingWalks, ReadsAreBounded};
 ghost use Rattle.merge_laws.specs.Laws.{DamagedLanesGoOn, LayoutsHoldOutputs, MergedDocumentsAreSound, SelectedBlocksAreSound, SourcesAreRead, UndamagedLanesStay, WholeMergesAreOne};
 
 /// Law: the contents of a merge's sources are bytes, and their tracks can be written.
@@ -47,4 +47,10 @@ pub fn damaged_lanes_go_on()
 /// It adds at most 1 MiB, and each text file once.
 pub fn reads_are_bounded_by_lengths()
     ensures { ReadsAreBounded }
+{}
+
+/// Law: a merge that appends no file walks none to its end before the blocks. It reads its inputs at most 25 times, and
+/// twice for each output track.
+pub fn only_appending_walks()
+    ensures { OnlyAppendingWalks }
 {}

@@ -1,11 +1,10 @@
 -- Inputs are placed one at a time.
-use Rattle.std.proofs.Common.{◌≡◌, ◌≤◌, ℕ, ◌+◌, ◌*◌, ◌-◌, List, [], ◌∷◌, ◌++◌, length, map, Option, Some, None, refl, sym, ap, ap₂, subst, ◌∙◌, arith, append_assoc, length-append}
+use Rattle.std.proofs.Common.{◌≡◌, ◌≤◌, ℕ, ◌+◌, ◌*◌, ◌-◌, List, [], ◌∷◌, ◌++◌, length, map, Option, Some, refl, sym, ap, ap₂, subst, ◌∙◌, arith, append_assoc, length-append}
 use Rattle.std.specs.Prelude.{slice_get}
-use Rattle.std.specs.List.{All, sum_by}
+use Rattle.std.specs.List.{All}
 use Rattle.std.specs.Option.{option_map, option_map_or, unwrap_or}
 use Rattle.std.proofs.lemmas.List.{map-append}
 use Rattle.std.proofs.lemmas.List.Elements.{All-head, All-push, All-tail}
-use Rattle.std.proofs.lemmas.List.Sums.{sum_by-cons}
 use Rattle.mkv_io.specs.declared.outside.FileId.{FileId}
 use Rattle.mkv_io.specs.LiveFiles.{LiveFiles}
 use Rattle.merge_model.specs.declared.limits.TheConstants.{MAX_LINKS}
@@ -103,18 +102,10 @@ module _ (f : LiveFiles) (inputs placed new left rest : List Input) (i : Input) 
       let last : size_behind f new ≡ walked_of f i = ap (size_behind f) put ∙ behind-push (walked_of f) placed (moved shift i) in
       omega (arith, ap (walked_behind f (size_behind f placed)) next, ap (λ (n : ℕ). walked_behind f n rest) last)
 
--- At most the bytes of all files are walked over.
-pub walked-within : (f : LiveFiles) (before : ℕ) (inputs : List Input) → walked_behind f before inputs ≤ before + sum_by (λ (i : Input). f.size i.file.n) inputs
-walked-within f before [] = omega arith
-walked-within f before (i ∷ is) =
-    let own = within i.blocks (f.size i.file.n) in
-    let rest = walked-within f (walked_of f i) is in
-    omega (arith, at i.shift, sum_by-cons (λ (each : Input). f.size each.file.n) i is)
+-- At most the bytes of an input's file are walked over.
+pub walked-within : (f : LiveFiles) (i : Input) → walked_of f i ≤ f.size i.file.n
+walked-within f i = within i.blocks (f.size i.file.n)
   where
     within : (blocks : Blocks) (size : ℕ) → walked_in blocks size ≤ size
     within (held_by.Clusters outline scale) size = omega arith
     within (held_by.Entries entries) size = omega arith
-
-    at : (shift : Option ℕ) → walked_for shift before ≤ before
-    at None = omega arith
-    at (Some time) = omega arith

@@ -1,7 +1,6 @@
 -- The bytes that are read while the files of `generate` are made.
 use Rattle.std.proofs.Common.{◌≡◌, ◌≢◌, ℕ, ◌+◌, ◌≤◌, List, [], ◌∷◌, ◌++◌, length, map, Option, Some, Result, Ok, sym, ◌∙◌, ap, ap₂, subst, arith}
 use Rattle.std.specs.Prelude.{sum_by, unwrap_or}
-use Rattle.std.proofs.lemmas.List.Sums.{sum_by-cons}
 use Rattle.mkv_io.specs.Names.{Names}
 use Rattle.output_model.specs.Document.{layout}
 use Rattle.requests.specs.declared.merge.FileWords.{FileWords}
@@ -11,12 +10,13 @@ use Rattle.remux_plan.specs.Parts.{PlannedOutput}
 use Rattle.remux_plan.specs.declared.summary.Summary.{Summary}
 use Rattle.remuxer.specs.Output.{WritesAll, laid_out}
 use Rattle.remuxer.proofs.OutputsLemmas.{world_with}
-use Rattle.mkv_merge.specs.Bound.{contents_length, most_of}
+use Rattle.mkv_merge.specs.Bound.{contents_length, contents_walked, most_of, walked_size}
 use Rattle.mkv_merge.specs.Joined.{Merges, sources_alone, sources_apart}
 use Rattle.mkv_merge.specs.Merge.{outputs_of as merge_outputs}
 use Rattle.mkv_io.specs.Results.{and_then}
 use Rattle.mkv_merge.specs.declared.joining.Merged.TheVariants as merged
 use Rattle.mkv_merge.specs.declared.refusal.Refusal.{Refusal}
+use Rattle.mkv_merge.proofs.MergingLemmas.{same-lengths}
 use Rattle.mkv_generate.specs.declared.blocks.MediaKind.TheVariants.{Pictures, Sounds}
 use Rattle.mkv_generate.specs.declared.names.Names as own
 use Rattle.mkv_generate.specs.Files.{file_of}
@@ -26,38 +26,41 @@ use Rattle.requests.specs.Plain.{plain_file}
 use Rattle.mkv_generate.proofs.MakingLemmas.{both-found, both-one, both-there, parts-found, told-then}
 use Rattle.mkv_generate.proofs.TurnLemmas.{first-told, last-told, written-behind}
 
--- The contents of inputs that are visible to the proof have their lengths.
-one-length : (world : List ℕ → Option (List ℕ)) (a x : List ℕ) → world a ≡ Some x → contents_length world (plain_file a ∷ []) ≡ sum_by (λ (bytes : List ℕ). length bytes) (x ∷ [])
-one-length world a x is =
-    let here : length (unwrap_or (world a) []) ≡ length x = ap (λ (o : Option (List ℕ)). length (unwrap_or o [])) is in
-    sum_by-cons (λ (w : FileWords). length (unwrap_or (world w.name) [])) (plain_file a) []
-    ∙ ap (λ (n : ℕ). n + sum_by (λ (w : FileWords). length (unwrap_or (world w.name) [])) []) here
-    ∙ sym (sum_by-cons (λ (bytes : List ℕ). length bytes) x [])
+-- The inputs have the lengths of the contents.
+abbrev HaveLengths : (List ℕ → Option (List ℕ)) → List FileWords → List (List ℕ) → Type 0
+HaveLengths world files contents =
+    (contents_length world files ≡ sum_by (λ (bytes : List ℕ). length bytes) contents) × (contents_walked world files ≡ walked_size files (map (λ (bytes : List ℕ). length bytes) contents))
 
-two-lengths : (world : List ℕ → Option (List ℕ)) (a b x y : List ℕ) → world a ≡ Some x → world b ≡ Some y → contents_length world (plain_file a ∷ (plain_file b ∷ [])) ≡ sum_by (λ (bytes : List ℕ). length bytes) (x ∷ (y ∷ []))
+-- The contents of inputs that are visible to the proof have their lengths.
+one-length : (world : List ℕ → Option (List ℕ)) (a x : List ℕ) → world a ≡ Some x → HaveLengths world (plain_file a ∷ []) (x ∷ [])
+one-length world a x is =
+    same-lengths (λ (w : FileWords). length (unwrap_or (world w.name) [])) (λ (bytes : List ℕ). length bytes) (plain_file a ∷ []) (plain_file a ∷ []) (x ∷ [])
+    (ap (λ (o : Option (List ℕ)). length (unwrap_or o []) ∷ []) is)
+
+two-lengths : (world : List ℕ → Option (List ℕ)) (a b x y : List ℕ) → world a ≡ Some x → world b ≡ Some y → HaveLengths world (plain_file a ∷ (plain_file b ∷ [])) (x ∷ (y ∷ []))
 two-lengths world a b x y first second =
-    let here : length (unwrap_or (world a) []) ≡ length x = ap (λ (o : Option (List ℕ)). length (unwrap_or o [])) first in
-    sum_by-cons (λ (w : FileWords). length (unwrap_or (world w.name) [])) (plain_file a) (plain_file b ∷ [])
-    ∙ ap₂ (λ (m n : ℕ). m + n) here (one-length world b y second)
-    ∙ sym (sum_by-cons (λ (bytes : List ℕ). length bytes) x (y ∷ []))
+    same-lengths (λ (w : FileWords). length (unwrap_or (world w.name) [])) (λ (bytes : List ℕ). length bytes) (plain_file a ∷ (plain_file b ∷ [])) (plain_file a ∷ (plain_file b ∷ [])) (x ∷ (y ∷ []))
+    (ap₂ (λ (o p : Option (List ℕ)). length (unwrap_or o []) ∷ (length (unwrap_or p []) ∷ [])) first second)
 
 -- ---- the merge of the two files
 
 module _ (mid : Names) (names : own.Names) (words : MergeWords) (same : words ≡ both_words names) (old now : ℕ)
-    (reads : (world : List ℕ → Option (List ℕ)) → mid ≡ Some world → now ≤ old + most_of (sources_alone world words) (contents_length world words.files)) where
+    (reads : (world : List ℕ → Option (List ℕ)) → mid ≡ Some world → now ≤ old + most_of (sources_alone world words) (contents_length world words.files) (contents_walked world words.files)) where
   both-most : (n : ℕ) (before : Names) (world : List ℕ → Option (List ℕ)) → before ≡ Some world → names.pictures ≢ names.sounds → WritesAll before mid (two_files n names) → now ≤ old + most_merged (both_words names) (layouts (two_files n names))
   both-most n before world told apart writes =
       let files = two_files n names in
       let all = map laid_out files in
       let world' = world_with world all in
-      let P : MergeWords → Type 0 = λ w. now ≤ old + most_of (sources_alone world' w) (contents_length world' w.files) in
+      let P : MergeWords → Type 0 = λ w. now ≤ old + most_of (sources_alone world' w) (contents_length world' w.files) (contents_walked world' w.files) in
       let long = two-lengths world' names.pictures names.sounds (layout (file_of Pictures n)) (layout (file_of Sounds n))
       (first-told world (laid_out (made_file Pictures n names.pictures)) (laid_out (made_file Sounds n names.sounds)) apart)
       (last-told world (laid_out (made_file Pictures n names.pictures) ∷ []) (laid_out (made_file Sounds n names.sounds))) in
-      let Q : Result (List Source) Refusal → ℕ → Type 0 = λ found size. now ≤ old + most_of found size in
-      subst (Q (sources_apart (both_words names) (layouts files))) long
-      (subst (λ (found : Result (List Source) Refusal). Q found (contents_length world' (both_words names).files)) (both-found world n names apart)
-      (subst P same (reads world' (told-then before mid world files told writes))))
+      let Q : Result (List Source) Refusal → ℕ → ℕ → Type 0 = λ found size walked. now ≤ old + most_of found size walked in
+      let found = sources_apart (both_words names) (layouts files) in
+      subst (Q found (sum_by (λ (bytes : List ℕ). length bytes) (layouts files))) long.1
+      (subst (λ (size : ℕ). Q found size (contents_walked world' (both_words names).files)) long.0
+      (subst (λ (r : Result (List Source) Refusal). Q r (contents_length world' (both_words names).files) (contents_walked world' (both_words names).files)) (both-found world n names apart)
+      (subst P same (reads world' (told-then before mid world files told writes)))))
 
   -- The merge is refused or stopped.
   pub both-alone : ReadsBoth mid names old now
@@ -83,15 +86,17 @@ module _ (mid : Names) (names : own.Names) (words : MergeWords) (same : words �
 -- ---- the split of the merged file
 
 pub parts-alone : (mid : Names) (names : own.Names) (words : MergeWords) (old now : ℕ) → words ≡ parts_words names
-    → ((world : List ℕ → Option (List ℕ)) → mid ≡ Some world → now ≤ old + most_of (sources_alone world words) (contents_length world words.files)) → ReadsMerged mid names old now
+    → ((world : List ℕ → Option (List ℕ)) → mid ≡ Some world → now ≤ old + most_of (sources_alone world words) (contents_length world words.files) (contents_walked world words.files)) → ReadsMerged mid names old now
 parts-alone mid names words old now same reads = λ n before world made told is one writes.
     let files = two_files n names in
     let world' = world_with world (map laid_out (files ++ made.outputs)) in
-    let P : MergeWords → Type 0 = λ w. now ≤ old + most_of (sources_alone world' w) (contents_length world' w.files) in
-    let L : List PlannedOutput → Type 0 = λ os. contents_length (world_with world (map laid_out (files ++ os))) (plain_file names.both ∷ []) ≡ sum_by (λ (bytes : List ℕ). length bytes) (layouts os) in
+    let P : MergeWords → Type 0 = λ w. now ≤ old + most_of (sources_alone world' w) (contents_length world' w.files) (contents_walked world' w.files) in
+    let L : List PlannedOutput → Type 0 = λ os. HaveLengths (world_with world (map laid_out (files ++ os))) (plain_file names.both ∷ []) (layouts os) in
     let alone : L (one.file ∷ []) = one-length (world_with world (map laid_out (files ++ one.file ∷ []))) names.both (layout one.file.document) (both-there world n names one.file one.named) in
     let long : L made.outputs = subst L (sym one.alone) alone in
-    let Q : Result (List Source) Refusal → ℕ → Type 0 = λ found size. now ≤ old + most_of found size in
-    subst (Q (sources_apart (parts_words names) (layouts made.outputs))) long
-    (subst (λ (found : Result (List Source) Refusal). Q found (contents_length world' (parts_words names).files)) (parts-found world n names made.outputs one.file one.alone one.named)
-    (subst P same (reads world' (told-then before mid world (files ++ made.outputs) told writes))))
+    let Q : Result (List Source) Refusal → ℕ → ℕ → Type 0 = λ found size walked. now ≤ old + most_of found size walked in
+    let found = sources_apart (parts_words names) (layouts made.outputs) in
+    subst (Q found (sum_by (λ (bytes : List ℕ). length bytes) (layouts made.outputs))) long.1
+    (subst (λ (size : ℕ). Q found size (contents_walked world' (parts_words names).files)) long.0
+    (subst (λ (r : Result (List Source) Refusal). Q r (contents_length world' (parts_words names).files) (contents_walked world' (parts_words names).files)) (parts-found world n names made.outputs one.file one.alone one.named)
+    (subst P same (reads world' (told-then before mid world (files ++ made.outputs) told writes)))))

@@ -5,7 +5,7 @@ use Rattle.output_model.specs.Document.{layout}
 use Rattle.requests.specs.declared.merge.MergeWords.{MergeWords}
 use Rattle.remux_plan.specs.Parts.{PlannedOutput}
 use Rattle.remuxer.specs.Output.{WritesAll}
-use Rattle.mkv_merge.specs.Bound.{most_of}
+use Rattle.mkv_merge.specs.Bound.{most_of, walked_size}
 use Rattle.mkv_merge.specs.Joined.{sources_apart}
 use Rattle.mkv_merge.specs.declared.refusal.Refusal.{Refusal}
 use Rattle.mkv_generate.specs.declared.names.Names as own
@@ -18,7 +18,8 @@ layouts files = map (λ (o : PlannedOutput). layout o.document) files
 
 -- the limit in bytes for the merge with the command line `words` of inputs with the contents `contents`
 abbrev pub most_merged : MergeWords → List (List ℕ) → ℕ
-most_merged words contents = most_of (sources_apart words contents) (sum_by (λ (bytes : List ℕ). length bytes) contents)
+most_merged words contents =
+    most_of (sources_apart words contents) (sum_by (λ (bytes : List ℕ). length bytes) contents) (walked_size words.files (map (λ (bytes : List ℕ). length bytes) contents))
 
 -- the limit in bytes for the split of the merged file of `names`, if its merge made it; 0 if the merge is refused
 abbrev pub most_behind : own.Names → Result MergeMade Refusal → ℕ

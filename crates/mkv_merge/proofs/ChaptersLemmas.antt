@@ -82,6 +82,10 @@ first-files : (chapters : Option Node) (inputs : List Input) → map (λ (i : In
 first-files chapters [] = refl
 first-files chapters (i ∷ is) = ap (λ (rest : List FileId). i.file ∷ rest) (others-files is)
 
+others-shifts : (inputs : List Input) → map (λ (i : Input). i.shift) (map (with_tree None) inputs) ≡ map (λ (i : Input). i.shift) inputs
+others-shifts [] = refl
+others-shifts (i ∷ is) = ap (λ (rest : List (Option ℕ)). i.shift ∷ rest) (others-shifts is)
+
 others-places : (inputs : List Input) → All HasPlace inputs → All HasPlace (map (with_tree None) inputs)
 others-places [] all = All-nil HasPlace
 others-places (i ∷ is) all = All-cons HasPlace (with_tree None i) (map (with_tree None) is) (All-head HasPlace i is all) (others-places is (All-tail HasPlace i is all))
@@ -105,6 +109,14 @@ chaptered-inputs f list webm (file.Read chapters) inputs written are =
       of = first-files kept inputs ∙ are.of;
       places = first-places kept inputs are.places;
     }
+
+-- Chapters change no append offset.
+pub chaptered-shifts : (webm : Bool) (c : ChapterFile) (inputs : List Input) → map (λ (i : Input). i.shift) (chaptered with_tree webm c inputs) ≡ map (λ (i : Input). i.shift) inputs
+chaptered-shifts webm file.Absent inputs = refl
+chaptered-shifts webm file.Missing inputs = refl
+chaptered-shifts webm (file.Refused why) inputs = refl
+chaptered-shifts webm (file.Read chapters) [] = refl
+chaptered-shifts webm (file.Read chapters) (i ∷ is) = ap (λ (rest : List (Option ℕ)). i.shift ∷ rest) (others-shifts is)
 
 -- ---- results with and without a refusal
 

@@ -1,9 +1,9 @@
 -- Inputs that all exist: their contents, the bytes read of them, and the end of a merge of them.
 use Rattle.std.proofs.Common.{◌≡◌, ℕ, suc, ◌+◌, ◌*◌, ◌≤◌, cond, true, List, [], ◌∷◌, length, map, Option, Some, None, Result, Ok, Err, IfOk, inl, inr, refl, sym, ◌∙◌, ap, ap₂, subst, arith}
-use Rattle.std.specs.Prelude.{Bool, is_none, option_map, unwrap_or}
+use Rattle.std.specs.Prelude.{Bool, is_none, option_map, sum, sum_by, unwrap_or}
 use Rattle.std.specs.List.{position_from}
 use Rattle.std.specs.Option.{option_or}
-use Rattle.std.proofs.lemmas.List.Sums.{sum_by-cons}
+use Rattle.std.proofs.lemmas.List.Sums.{sum-map}
 use Rattle.mkv_io.specs.declared.outside.FileId.{FileId}
 use Rattle.mkv_io.specs.declared.outside.ReadEnd.{ReadEnd}
 use Rattle.mkv_io.specs.declared.outside.ReadEnd.TheVariants as read_end
@@ -45,7 +45,7 @@ use Rattle.mkv_lines.specs.declared.status.Status.TheVariants as status
 use Rattle.mkv_lines.specs.declared.status.CommandEnd.{CommandEnd}
 use Rattle.mkv_lines.specs.declared.status.CommandEnd.TheVariants as stop
 use Rattle.mkv_lines.proofs.VerdictLemmas.{IsStopped-before, Reaches-lines}
-use Rattle.mkv_merge.specs.Bound.{contents_length, files_size, most_of}
+use Rattle.mkv_merge.specs.Bound.{contents_length, contents_walked, files_size, files_walked, most_of, walked_size}
 use Rattle.mkv_merge.specs.Ends.{HasReadCause, as_remuxed, as_written, end_as, unopened}
 use Rattle.mkv_merge.specs.Joined.{as_merged}
 use Rattle.mkv_merge.specs.Merge.{merged_verdict, refusals_read, sources_in, sources_unless, verdict_of}
@@ -136,34 +136,46 @@ opened-told f world words files list ids same of there told =
 
 -- ---- bytes read
 
+-- Files of the same lengths are read as often.
+pub same-lengths : {A B : Type 0} (f : A → ℕ) (g : B → ℕ) (files : List FileWords) (xs : List A) (ys : List B) → map f xs ≡ map g ys → (sum_by f xs ≡ sum_by g ys) × (walked_size files (map f xs) ≡ walked_size files (map g ys))
+same-lengths f g files xs ys same = (sym (sum-map f xs) ∙ ap sum same ∙ sum-map g ys, ap (walked_size files) same)
+
+-- the length of a live file
+abbrev size_in : LiveFiles → FileId → ℕ
+size_in f file = f.size file.n
+
+-- the length of the content of a file that is named
+abbrev length_in : (List ℕ → Option (List ℕ)) → FileWords → ℕ
+length_in world w = length (unwrap_or (world w.name) [])
+
 -- Live files that are visible to the proof have the lengths of their contents.
-pub size-told : (f : LiveFiles) → ((file : ℕ) → IfVisible (f.content file) (λ bytes. length bytes ≡ f.size file)) → (world : List ℕ → Option (List ℕ)) (files : List FileWords) (ids : List FileId) → AreTold f ids (map (λ name. unwrap_or (world name) []) (file_names files)) → files_size f ids ≡ contents_length world files
-size-told f sized world [] [] told = refl
-size-told f sized world [] (id ∷ ids) told = absurd (cc)
-size-told f sized world (w ∷ files) [] told = absurd (cc)
-size-told f sized world (w ∷ files) (id ∷ ids) told =
+sizes-told : (f : LiveFiles) → ((file : ℕ) → IfVisible (f.content file) (λ bytes. length bytes ≡ f.size file)) → (world : List ℕ → Option (List ℕ)) (files : List FileWords) (ids : List FileId) → AreTold f ids (map (λ name. unwrap_or (world name) []) (file_names files)) → map (size_in f) ids ≡ map (length_in world) files
+sizes-told f sized world [] [] told = refl
+sizes-told f sized world [] (id ∷ ids) told = absurd (cc)
+sizes-told f sized world (w ∷ files) [] told = absurd (cc)
+sizes-told f sized world (w ∷ files) (id ∷ ids) told =
     let here : f.content id.n ≡ Some (unwrap_or (world w.name) []) = cc in
     let behind : AreTold f ids (map (λ name. unwrap_or (world name) []) (file_names files)) = cc in
-    let one : length (unwrap_or (world w.name) []) ≡ f.size id.n = sized id.n (unwrap_or (world w.name) []) here in
-    let rest : files_size f ids ≡ contents_length world files = size-told f sized world files ids behind in
-    let left = sum_by-cons (λ (file : FileId). f.size file.n) id ids in
-    let right = sum_by-cons (λ (each : FileWords). length (unwrap_or (world each.name) [])) w files in
-    omega (arith, one, rest, left, right)
+    ap₂ (λ (size : ℕ) (sizes : List ℕ). size ∷ sizes) (sym (sized id.n (unwrap_or (world w.name) []) here)) (sizes-told f sized world files ids behind)
+
+pub lengths-told : (f : LiveFiles) → ((file : ℕ) → IfVisible (f.content file) (λ bytes. length bytes ≡ f.size file)) → (world : List ℕ → Option (List ℕ)) (files : List FileWords) (ids : List FileId) → AreTold f ids (map (λ name. unwrap_or (world name) []) (file_names files))
+    → (files_size f ids ≡ contents_length world files) × (files_walked f files ids ≡ contents_walked world files)
+lengths-told f sized world files ids told = same-lengths (size_in f) (length_in world) files ids files (sizes-told f sized world files ids told)
 
 -- The bytes read before the blocks, by each output track and for attached files are at most the bound.
-pub reads-both : (found : Result (List Source) Refusal) (sources : List Source) (lanes old mid new size now copied : ℕ) → found ≡ Ok sources → lanes ≡ length (lanes_given sources) → now ≡ size → copied ≡ attached_length (reads_of sources) → mid ≤ old + 27 * size → new ≤ mid + (2 * (lanes * now) + copied) → new ≤ old + most_of found size
-reads-both found sources lanes old mid new size now copied is count same copied_is first second =
-    subst (λ (r : Result (List Source) Refusal). new ≤ old + most_of r size) (sym is)
+pub reads-both : (found : Result (List Source) Refusal) (sources : List Source) (lanes old mid new size walked now copied : ℕ) → found ≡ Ok sources → lanes ≡ length (lanes_given sources) → now ≡ size → copied ≡ attached_length (reads_of sources) → mid ≤ old + (25 * size + 2 * walked) → new ≤ mid + (2 * (lanes * now) + copied) → new ≤ old + most_of found size walked
+reads-both found sources lanes old mid new size walked now copied is count same copied_is first second =
+    subst (λ (r : Result (List Source) Refusal). new ≤ old + most_of r size walked) (sym is)
     (fits (length (lanes_given sources)) (attached_length (reads_of sources))
     (subst (λ (d : ℕ). new ≤ mid + (2 * (length (lanes_given sources) * size) + d)) copied_is (subst (λ (n : ℕ). new ≤ mid + (2 * (n * size) + copied)) count (subst (λ (s : ℕ). new ≤ mid + (2 * (lanes * s) + copied)) same second))))
   where
-    fits : (n d : ℕ) → new ≤ mid + (2 * (n * size) + d) → new ≤ old + (27 * size + (2 * (n * size) + d))
+    fits : (n d : ℕ) → new ≤ mid + (2 * (n * size) + d) → new ≤ old + (25 * size + 2 * walked + (2 * (n * size) + d))
     fits n d more = omega arith
 
 -- The bound holds if text files are read, and inputs are opened, merged and closed.
-pub reads-closed : (found there : Result (List Source) Refusal) (most size text look old read opened merged closed : ℕ) → found ≡ there → size ≡ most → read ≤ old + text → opened ≡ read → merged ≤ opened + (most_of there size + look) → closed ≡ merged → closed ≤ old + (text + (most_of found most + look))
-reads-closed found there most size text look old read opened merged closed is length first begun paid ended =
-    within (most_of there size) (most_of found most) (ap (most_of there) length ∙ ap (λ (r : Result (List Source) Refusal). most_of r most) (sym is)) paid
+pub reads-closed : (found there : Result (List Source) Refusal) (most size whole walked text look old read opened merged closed : ℕ) → found ≡ there → size ≡ most → walked ≡ whole → read ≤ old + text → opened ≡ read → merged ≤ opened + (most_of there size walked + look) → closed ≡ merged → closed ≤ old + (text + (most_of found most whole + look))
+reads-closed found there most size whole walked text look old read opened merged closed is length walks first begun paid ended =
+    within (most_of there size walked) (most_of found most whole) (ap₂ (most_of there) length walks ∙ ap (λ (r : Result (List Source) Refusal). most_of r most whole) (sym is)) paid
   where
     within : (n m : ℕ) → n ≡ m → merged ≤ opened + (n + look) → closed ≤ old + (text + (m + look))
     within n m same paid = omega arith
@@ -194,14 +206,13 @@ contents-kept live old new (f ∷ fs) same are =
     ∙ ap (λ (cs : List (Option (List ℕ))). old f.n ∷ cs) (contents-kept live old new fs same (λ k d below. are (suc k) d (omega arith)))
 
 -- They have the same lengths.
-pub sizes-kept : (old new : LiveFiles) (ids : List FileId) → ((file : ℕ) → IsSameFile old new file) → AreLive old.live ids → files_size new ids ≡ files_size old ids
+sizes-kept : (old new : LiveFiles) (ids : List FileId) → ((file : ℕ) → IsSameFile old new file) → AreLive old.live ids → map (size_in new) ids ≡ map (size_in old) ids
 sizes-kept old new [] same are = refl
 sizes-kept old new (f ∷ fs) same are =
-    let here : new.size f.n ≡ old.size f.n = (same f.n).size (are 0 f (omega arith)) in
-    let rest : files_size new fs ≡ files_size old fs = sizes-kept old new fs same (λ k d below. are (suc k) d (omega arith)) in
-    let left = sum_by-cons (λ (file : FileId). new.size file.n) f fs in
-    let right = sum_by-cons (λ (file : FileId). old.size file.n) f fs in
-    omega (arith, here, rest, left, right)
+    ap₂ (λ (size : ℕ) (sizes : List ℕ). size ∷ sizes) ((same f.n).size (are 0 f (omega arith))) (sizes-kept old new fs same (λ k d below. are (suc k) d (omega arith)))
+
+pub lengths-kept : (old new : LiveFiles) (files : List FileWords) (ids : List FileId) → ((file : ℕ) → IsSameFile old new file) → AreLive old.live ids → (files_size new ids ≡ files_size old ids) × (files_walked new files ids ≡ files_walked old files ids)
+lengths-kept old new files ids same are = same-lengths (size_in new) (size_in old) files ids ids (sizes-kept old new ids same are)
 
 -- ---- end of the merge
 

@@ -1,5 +1,5 @@
 -- Inputs are read in sequence; the results make the sources or the refusal of a merge.
-use Rattle.std.proofs.Common.{◌≡◌, ℕ, zero, suc, ◌+◌, ◌*◌, ◌<◌, ◌≤◌, Bool, true, false, if◌then◌else◌, List, [], ◌∷◌, ◌++◌, length, take, drop, get_or, map, Option, Some, None, Result, Ok, Err, refl, sym, ◌∙◌, ap, subst, arith, append_assoc}
+use Rattle.std.proofs.Common.{◌≡◌, ℕ, zero, suc, ◌+◌, ◌*◌, ◌<◌, ◌≤◌, Bool, true, false, if◌then◌else◌, List, [], ◌∷◌, ◌++◌, length, take, drop, get_or, map, Option, Some, None, Result, Ok, Err, refl, sym, ◌∙◌, ap, ap₂, subst, arith, append_assoc}
 use Rattle.std.specs.List.{All, AllByRecursion, sum_by, zip}
 use Rattle.std.specs.Option.{option_map, unwrap_or}
 use Rattle.std.specs.Result.{result_err}
@@ -19,6 +19,7 @@ use Rattle.input_files.specs.declared.text_files.TextFiles.{TextFiles}
 use Rattle.requests.specs.declared.merge.FileWords.{FileWords}
 use Rattle.requests.specs.declared.merge.MergeWords.{MergeWords}
 use Rattle.merge_inputs.specs.Input.{InputRead, IsReadOf, input_of, read_in}
+use Rattle.merge_inputs.specs.Select.{unmoved}
 use Rattle.merge_inputs.specs.declared.input.Input.{Input}
 use Rattle.merge_plan.specs.Appending.{append_refusal}
 use Rattle.merge_plan.specs.Front.{reads_of}
@@ -32,13 +33,14 @@ use Rattle.merge_plan.specs.declared.refusal.PlanEnd.{PlanEnd}
 use Rattle.merge_plan.specs.declared.refusal.PlanEnd.TheVariants as plan_end
 use Rattle.merge_plan.specs.declared.refusal.PlanRefusal.{PlanRefusal}
 use Rattle.merge_plan.proofs.FileLemmas.{reads-in}
-use Rattle.merge_plan.specs.Placed.{StandInPlace, walked_length}
+use Rattle.merge_plan.specs.Behind.{walked_for, walked_of}
+use Rattle.merge_plan.specs.Placed.{StandInPlace, walked_behind, walked_length}
 use Rattle.merge_plan.proofs.PlaceLemmas.{walked-within}
-use Rattle.mkv_merge.specs.Bound.{files_size}
+use Rattle.mkv_merge.specs.Bound.{files_size, files_walked, walked_before}
 use Rattle.mkv_merge.specs.Chapters.{chaptered, chapters_refusal, with_chapters, with_file, with_tree}
 use Rattle.mkv_merge.specs.Ends.{unplanned}
 use Rattle.mkv_merge.specs.Merge.{refusals_read, sources_in, sources_unless}
-use Rattle.mkv_merge.specs.Prepared.{AreInputsOf, AreTold, Prepares, ReadsAs, ReadsEach, reads_in, sources_from}
+use Rattle.mkv_merge.specs.Prepared.{AreInputsOf, AreTold, AreUnmoved, Prepares, ReadsAs, ReadsEach, reads_in, sources_from}
 use Rattle.mkv_merge.specs.Read.{found_in, inputs_from, inputs_of, numbered, reads_with}
 use Rattle.mkv_merge.specs.Refused.{first_cause}
 use Rattle.mkv_merge.specs.Texts.{timed_from, times_refusal, with_times}
@@ -49,7 +51,7 @@ use Rattle.mkv_merge.specs.declared.refusal.MergeEnd.TheVariants.{Refused, Stopp
 use Rattle.mkv_merge.specs.declared.refusal.Refusal.{Refusal}
 use Rattle.mkv_merge.specs.declared.refusal.Refusal.TheVariants.{Differs, Plan}
 use Rattle.mkv_merge.proofs.ChaptersLemmas.{chaptered-read, stood, unrefused}
-use Rattle.mkv_merge.proofs.TextsLemmas.{inputs-timed}
+use Rattle.mkv_merge.proofs.TextsLemmas.{inputs-timed, shifts-timed}
 
 -- ---- a file and its content
 
@@ -138,6 +140,17 @@ files-more inputs input list k file below is of =
     ∙ ap (λ (before : List FileId). before ++ input.file ∷ []) of
     ∙ ap (λ (last : FileId). take k list ++ last ∷ []) is
     ∙ sym (ap (λ (n : ℕ). take n list) (one_more k) ∙ take-suc list k file below)
+  where
+    one_more : (n : ℕ) → n + 1 ≡ suc n
+    one_more n = omega arith
+
+-- The inputs read up to now have the append offsets of the first files.
+pub shifts-more : (inputs : List Input) (input : Input) (files : List FileWords) (k : ℕ) (w : FileWords) → k < length files → w ≡ get_or files k w → input.shift ≡ unmoved w → AreUnmoved (take k files) inputs → AreUnmoved (take (k + 1) files) (inputs ++ input ∷ [])
+shifts-more inputs input files k w below is shift of =
+    map-append (λ (i : Input). i.shift) inputs (input ∷ [])
+    ∙ ap₂ (λ (before : List (Option ℕ)) (last : Option ℕ). before ++ last ∷ []) of (shift ∙ ap unmoved is)
+    ∙ sym (map-append unmoved (take k files) (get_or files k w ∷ []))
+    ∙ sym (ap (λ (n : ℕ). map unmoved (take n files)) (one_more k) ∙ ap (map unmoved) (take-suc files k w below))
   where
     one_more : (n : ℕ) → n + 1 ≡ suc n
     one_more n = omega arith
@@ -312,9 +325,27 @@ module _ (words : MergeWords) (texts : TextFiles) (contents : List (List ℕ)) w
 
 -- ---- bytes read before the blocks
 
--- Inputs are read, and then walked to their ends.
-pub pays-both : (f now : LiveFiles) (ids : List FileId) (webm : Bool) (c : ChapterFile) (read headed timed : List Input) (start mid end : ℕ) → now ≡ f → CanBeWritten c → AreInputsOf now ids read → with_file with_tree webm c read ≡ Ok headed → IsSameBut headed timed
-    → mid ≤ start + 25 * files_size f ids → end ≤ mid + 2 * walked_length now timed → end ≤ start + 27 * files_size f ids
-pays-both f now ids webm c read headed timed start mid end standing written are made same paid walked =
-    let long : sum_by (λ (i : Input). f.size i.file.n) timed ≡ files_size f ids = inputs-size f timed ∙ ap (files_size f) (inputs-timed now ids webm c read headed timed written are made same).of in
-    omega (arith, long, ap (λ (each : LiveFiles). walked_length each timed) standing, walked-within f 0 timed)
+-- Only inputs that another one is appended to are walked over.
+walked-most : (f : LiveFiles) (files : List FileWords) (inputs : List Input) (walked before : ℕ) → AreUnmoved files inputs → walked ≤ before
+    → walked_behind f walked inputs ≤ sum_by walked_before (zip files (before ∷ map (λ (file : FileId). f.size file.n) (map (λ (i : Input). i.file) inputs)))
+walked-most f files [] walked before are within = omega arith
+walked-most f [] (i ∷ is) walked before are within = absurd (cc)
+walked-most f (w ∷ ws) (i ∷ is) walked before are within =
+    let here : i.shift ≡ unmoved w = cc in
+    let behind : AreUnmoved ws is = cc in
+    let sizes : List ℕ = map (λ (file : FileId). f.size file.n) (map (λ (each : Input). each.file) is) in
+    let rest = walked-most f ws is (walked_of f i) (f.size i.file.n) behind (walked-within f i) in
+    rw (sum_by-cons walked_before (w, before) (zip ws (f.size i.file.n ∷ sizes))) (omega (arith, subst (λ (shift : Option ℕ). walked_for shift walked ≤ walked_before (w, before)) (sym here) (at w.appended)))
+  where
+    at : (b : Bool) → walked_for (if b then Some 0 else None) walked ≤ (if b then before else 0)
+    at true = within
+    at false = omega arith
+
+-- Inputs are read, and those that another one is appended to are walked to their ends.
+pub pays-both : (f now : LiveFiles) (files : List FileWords) (ids : List FileId) (webm : Bool) (c : ChapterFile) (read headed timed : List Input) (start mid end : ℕ) → now ≡ f → CanBeWritten c → AreInputsOf now ids read → AreUnmoved files read → with_file with_tree webm c read ≡ Ok headed → IsSameBut headed timed
+    → mid ≤ start + 25 * files_size f ids → end ≤ mid + 2 * walked_length now timed → end ≤ start + (25 * files_size f ids + 2 * files_walked f files ids)
+pays-both f now files ids webm c read headed timed start mid end standing written are shifts made same paid walked =
+    let of : map (λ (i : Input). i.file) timed ≡ ids = (inputs-timed now ids webm c read headed timed written are made same).of in
+    let most : walked_length f timed ≤ files_walked f files ids =
+    subst (λ (list : List FileId). walked_length f timed ≤ files_walked f files list) of (walked-most f files timed 0 0 (shifts-timed files webm c read headed timed shifts made same) (omega arith)) in
+    omega (arith, most, ap (λ (each : LiveFiles). walked_length each timed) standing)

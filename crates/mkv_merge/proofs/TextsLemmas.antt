@@ -12,17 +12,18 @@ use Rattle.input_files.specs.declared.chapter_file.ChapterFile.{ChapterFile}
 use Rattle.input_files.specs.declared.times_file.TimesFile.{TimesFile}
 use Rattle.input_files.specs.declared.times_file.TimesGiven.{TimesGiven}
 use Rattle.input_files.specs.declared.times_file.TimesGiven.TheVariants as given
+use Rattle.requests.specs.declared.merge.FileWords.{FileWords}
 use Rattle.merge_inputs.specs.Input.{InputRead, IsInput, read_in}
 use Rattle.merge_inputs.specs.declared.input.Input.{Input}
 use Rattle.merge_plan.specs.TakenTracks.{HasPlace}
 use Rattle.mkv_merge.specs.Chapters.{chaptered, chapters_refusal, with_file, with_tree}
-use Rattle.mkv_merge.specs.Prepared.{AreInputsOf, reads_in}
+use Rattle.mkv_merge.specs.Prepared.{AreInputsOf, AreUnmoved, reads_in}
 use Rattle.mkv_io.specs.Results.{unless}
 use Rattle.mkv_merge.specs.Texts.{given_listing, listings_at, timed_from, times_refusal, with_listings, with_times}
 use Rattle.mkv_merge.specs.Timed.{IsSameBut, Listed, at_input, given_listed, listed_by, listed_in, listed_of, shared_at, shared_from, untimed}
 use Rattle.mkv_merge.specs.declared.refusal.Refusal.{Refusal}
 use Rattle.mkv_merge.specs.declared.texts.SharedTimes.{SharedTimes}
-use Rattle.mkv_merge.proofs.ChaptersLemmas.{chaptered-inputs, unrefused}
+use Rattle.mkv_merge.proofs.ChaptersLemmas.{chaptered-inputs, chaptered-shifts, unrefused}
 
 -- ---- inputs of the same files
 
@@ -82,6 +83,22 @@ inputs-timed f list webm c read headed timed written are made same =
       of = same-files headed timed same ∙ head.of;
       places = same-places headed timed same head.places;
     }
+
+same-shifts : (inputs new : List Input) → IsSameBut inputs new → map (λ (i : Input). i.shift) new ≡ map (λ (i : Input). i.shift) inputs
+same-shifts [] [] same = refl
+same-shifts (i ∷ is) [] same = absurd (cc)
+same-shifts [] (n ∷ ns) same = absurd (cc)
+same-shifts (i ∷ is) (n ∷ ns) same =
+    let here : untimed n ≡ untimed i = cc in
+    let rest : IsSameBut is ns = cc in
+    ap₂ (λ (shift : Option ℕ) (shifts : List (Option ℕ)). shift ∷ shifts) (ap (λ (each : Input). each.shift) here) (same-shifts is ns rest)
+
+-- Text files change no append offset.
+pub shifts-timed : (files : List FileWords) (webm : Bool) (c : ChapterFile) (read headed timed : List Input) → AreUnmoved files read → with_file with_tree webm c read ≡ Ok headed → IsSameBut headed timed → AreUnmoved files timed
+shifts-timed files webm c read headed timed are made same =
+    same-shifts headed timed same
+    ∙ sym (ap (map (λ (i : Input). i.shift)) (unrefused (chapters_refusal c) (chaptered with_tree webm c read) headed made).1)
+    ∙ chaptered-shifts webm c read ∙ are
 
 -- ---- timestamps of files
 

@@ -1,5 +1,6 @@
 -- The number of bytes that a merge may read. The bounds are this project's.
-use Rattle.std.specs.Prelude.{ℕ, ◌+◌, ◌*◌, if◌then◌else◌, List, [], length, sum_by, Option, is_none, unwrap_or, Result, Ok, Err}
+use Rattle.std.specs.Prelude.{ℕ, ◌+◌, ◌*◌, if◌then◌else◌, List, [], ◌∷◌, length, map, sum_by, Option, is_none, unwrap_or, Result, Ok, Err}
+use Rattle.std.specs.List.{zip}
 use Rattle.mkv_io.specs.declared.outside.FileId.{FileId}
 use Rattle.mkv_io.specs.LiveFiles.{LiveFiles}
 use Rattle.mkv_io.specs.Sources.{live_files}
@@ -23,6 +24,23 @@ files_size f list = sum_by (λ (file : FileId). f.size file.n) list
 abbrev pub live_size : {S : Type 0} → Ghosts S → S → List FileId → ℕ
 live_size r files list = files_size (live_files r files) list
 
+-- the number of bytes that are walked over for the file `pair.0`: the length `pair.1` of the file before it, or 0 if it isn't appended
+abbrev pub walked_before : FileWords × ℕ → ℕ
+walked_before pair = if pair.0.appended then pair.1 else 0
+
+-- the sum of the lengths of the files that the next one on the command line is appended to. `sizes` has the length of each file in `files`. The first
+-- one is paired with 0, since no file is before it.
+abbrev pub walked_size : List FileWords → List ℕ → ℕ
+walked_size files sizes = sum_by walked_before (zip files (0 ∷ sizes))
+
+-- the sum of the lengths of the live files in `list` that another one is appended to; `files` has the options of each
+abbrev pub files_walked : LiveFiles → List FileWords → List FileId → ℕ
+files_walked f files list = walked_size files (map (λ (file : FileId). f.size file.n) list)
+
+-- the sum of the lengths of the live files in `list` among `src` that another one is appended to; `files` has the options of each
+abbrev pub live_walked : {S : Type 0} → Ghosts S → S → List FileWords → List FileId → ℕ
+live_walked r src files list = files_walked (live_files r src) files list
+
 -- the bytes that a merge with the plan `p` may read of inputs with `octets` bytes. Each input is read twice for each output track, and the data
 -- of attached files once.
 abbrev pub most_planned : MergePlan → ℕ → ℕ
@@ -31,6 +49,10 @@ most_planned p octets = 2 * (length p.lanes * octets) + data_length p
 -- the sum of the lengths in bytes of the inputs `files` whose contents are in `world`. A file counts as often as the command line names it.
 abbrev pub contents_length : (List ℕ → Option (List ℕ)) → List FileWords → ℕ
 contents_length world files = sum_by (λ (w : FileWords). length (unwrap_or (world w.name) [])) files
+
+-- the sum of the lengths of the contents of inputs that another one is appended to
+abbrev pub contents_walked : (List ℕ → Option (List ℕ)) → List FileWords → ℕ
+contents_walked world files = walked_size files (map (λ (w : FileWords). length (unwrap_or (world w.name) [])) files)
 
 -- the number of output tracks, or 0 if the merge is refused
 abbrev pub lane_count : Result (List Source) Refusal → ℕ
@@ -42,10 +64,10 @@ abbrev pub data_count : Result (List Source) Refusal → ℕ
 data_count (Ok sources) = attached_length (reads_of sources)
 data_count (Err why) = 0
 
--- the bytes that may be read of inputs with `octets` bytes. All inputs are read 25 times before the blocks, twice to find their ends, and twice
--- for each output track. The data of attached files is added.
-abbrev pub most_of : Result (List Source) Refusal → ℕ → ℕ
-most_of sources octets = 27 * octets + (2 * (lane_count sources * octets) + data_count sources)
+-- the bytes that may be read of inputs with `octets` bytes. All inputs are read 25 times before the blocks, and twice for each output track. Those
+-- that another one is appended to have `walked` bytes, and are read twice to find their ends. The data of attached files is added.
+abbrev pub most_of : Result (List Source) Refusal → ℕ → ℕ → ℕ
+most_of sources octets walked = 25 * octets + 2 * walked + (2 * (lane_count sources * octets) + data_count sources)
 
 -- the number of journals that the merge `words` looks into for a pending edit: one for each input, and unless it is split the output's
 abbrev pub looked_into : MergeWords → ℕ
@@ -58,4 +80,5 @@ most_looked words = HEAD * looked_into words
 -- the bytes that the merge `words` may read if the files are `world`. It reads inputs and journals, and its chapter file and timestamp files once.
 abbrev pub most_read : (List ℕ → Option (List ℕ)) → MergeWords → ℕ
 most_read world words =
-    text_octets world words.chapters words.files + (most_of (sources_of world words) (contents_length world words.files) + most_looked words)
+    text_octets world words.chapters words.files
+    + (most_of (sources_of world words) (contents_length world words.files) (contents_walked world words.files) + most_looked words)

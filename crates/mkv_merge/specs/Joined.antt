@@ -19,7 +19,7 @@ use Rattle.remux_plan.specs.declared.summary.Summary.{Summary}
 use Rattle.remuxer.specs.Output.{WritesAll, drafts_of}
 use Rattle.mkv_lines.specs.declared.status.CommandEnd.{CommandEnd}
 use Rattle.mkv_io.specs.Bounds.{ReadsUpTo}
-use Rattle.mkv_merge.specs.Bound.{contents_length, live_size, most_of}
+use Rattle.mkv_merge.specs.Bound.{contents_length, contents_walked, live_size, live_walked, most_of}
 use Rattle.mkv_merge.specs.Ends.{end_as}
 use Rattle.mkv_io.specs.Lists.{is_some_of}
 use Rattle.mkv_merge.specs.Merge.{has_damage, outputs_of, sources_unless, warnings}
@@ -50,7 +50,7 @@ sources_alone world words =
 
 -- the bytes that the merge `words` without text files may read if the files are `world`
 abbrev pub most_lone : (List ℕ → Option (List ℕ)) → MergeWords → ℕ
-most_lone world words = most_of (sources_alone world words) (contents_length world words.files)
+most_lone world words = most_of (sources_alone world words) (contents_length world words.files) (contents_walked world words.files)
 
 -- ---- merged files
 
@@ -96,4 +96,5 @@ MergesAlone f old new words result = IfVisible (f.names old) (λ world. Merges (
 
 -- From `old` to `new` the merge `words` without text files reads no more bytes of the live files `list` than `most_of` gives.
 abbrev pub ReadsLive : {S : Type 0} → Ghosts S → S → S → MergeWords → List FileId → Type 0
-ReadsLive r old new words list = IfAllTold r old list (λ contents. ReadsUpTo r old new (most_of (sources_unless [] words no_texts contents) (live_size r old list)))
+ReadsLive r old new words list = IfAllTold r old list (λ contents.
+    ReadsUpTo r old new (most_of (sources_unless [] words no_texts contents) (live_size r old list) (live_walked r old words.files list)))

@@ -1,7 +1,8 @@
 -- Facts about a merge whose inputs were read and planned.
-use Rattle.std.specs.Prelude.{◌≡◌, ⊤, ℕ, Bool, List, [], length, map, Some, Result, Ok, Err}
+use Rattle.std.specs.Prelude.{◌≡◌, ⊤, ℕ, ◌+◌, ◌*◌, Bool, List, [], length, map, Some, Result, Ok, Err}
 use Rattle.std.specs.List.{All, zip}
 use Rattle.mkv_io.specs.declared.outside.FileId.{FileId}
+use Rattle.mkv_io.specs.Bounds.{ReadsUpTo}
 use Rattle.mkv_io.specs.LiveFiles.{LiveFiles}
 use Rattle.mkv_io.specs.Sources.{live_files}
 use Rattle.mkv_io.specs.declared.reads.Reads.{Ghosts}
@@ -12,10 +13,12 @@ use Rattle.requests.specs.declared.merge.MergeWords.{MergeWords}
 use Rattle.requests.specs.Sound.{IsSoundMerge}
 use Rattle.requests.specs.declared.merge.FileWords.{FileWords}
 use Rattle.merge_inputs.specs.Input.{InputRead, IsInput, input_of, read_in}
+use Rattle.merge_inputs.specs.Select.{unmoved}
 use Rattle.merge_inputs.specs.declared.input.Input.{Input}
 use Rattle.merge_plan.specs.Plan.{Source}
 use Rattle.merge_plan.specs.Planned.{CanBeWritten, IsPlanOf}
 use Rattle.merge_plan.specs.TakenTracks.{HasPlace}
+use Rattle.mkv_merge.specs.Bound.{live_size, live_walked}
 use Rattle.mkv_merge.specs.Ends.{HasReadCause}
 use Rattle.mkv_merge.specs.Merge.{sources_unless}
 use Rattle.mkv_merge.specs.Read.{inputs_of, numbered}
@@ -72,6 +75,15 @@ pub record AreInputsOf (f : LiveFiles) (list : List FileId) (inputs : List Input
   pub good : All (IsInput f) inputs
   pub of : map (λ (i : Input). i.file) inputs ≡ list
   pub places : All HasPlace inputs
+
+-- Each input has an append offset exactly if its file, the one of `files` at its index, is appended. It is 0: no end is known yet.
+abbrev pub AreUnmoved : List FileWords → List Input → Type 0
+AreUnmoved files inputs = map (λ (i : Input). i.shift) inputs ≡ map unmoved files
+
+-- Up to the state `new` the live files `list`, the inputs of `words`, are read at most 25 times. Those that another one is appended to are read twice
+-- more.
+abbrev pub ReadsToPrepare : {S : Type 0} → Ghosts S → S → S → MergeWords → List FileId → Type 0
+ReadsToPrepare r old new words list = ReadsUpTo r old new (25 * live_size r old list + 2 * live_walked r old words.files list)
 
 -- The inputs are read from the files `list`, and the plan is made from them.
 pub record IsPrepared (f : LiveFiles) (words : MergeWords) (list : List FileId) (p : Prepared) : Type 0 where

@@ -6,8 +6,8 @@ ghost use Rattle.input_files.specs.ChapterFile.{CanBeWritten};
 ghost use Rattle.requests.specs.Sound.{IsSoundFile};
 ghost use Rattle.merge_inputs.specs.Input.{IsInput, IsReadOf, held_in};
 ghost use Rattle.mkv_merge.specs.Bound.{live_size};
-ghost use Rattle.mkv_merge.specs.Prepared.{AreInputsOf, CanPrepare, EndsReading, IfAllTold, IsPrepared, Prepares};
-ghost use Rattle.mkv_merge.specs.Prepared.{ReadsEach, ReadsOne};
+ghost use Rattle.mkv_merge.specs.Prepared.{AreInputsOf, AreUnmoved, CanPrepare, EndsReading, IfAllTold, IsPrepared};
+ghost use Rattle.mkv_merge.specs.Prepared.{Prepares, ReadsEach, ReadsOne, ReadsToPrepare};
 ghost use Rattle.mkv_io.specs.Bounds.{ReadsUpTo};
 
 use crate::chapters::with_file;
@@ -79,6 +79,7 @@ fn read_inputs<R: Reads>(
     requires ready { CanPrepare R.Reads src.old words.now files.now }
     ensures exact { IfAllTold R.Reads src.old files.now (λ contents. ReadsEach words.now contents result) }
     ensures inputs { IfOk result (AreInputsOf (live_files R.Reads src.new) files.now) }
+    ensures unmoved { IfOk result (AreUnmoved words.now.files) }
     ensures reading { EndsReading R.Reads src.old src.new result }
     ensures octets { ReadsUpTo R.Reads src.old src.new (25 * live_size R.Reads src.old files.now) }
 {
@@ -93,7 +94,8 @@ fn read_inputs<R: Reads>(
     Ok(inputs)
 }
 
-/// Reads the live files, applies the text files and plans the merge. Fails if one of them is refused.
+/// Reads the live files, applies the text files and plans the merge. Only a file that the next one is appended to is
+/// walked to its end. Fails if one of them is refused.
 pub fn prepare<R: Reads>(
     alloc: Global,
     words: &MergeWords,
@@ -106,7 +108,7 @@ pub fn prepare<R: Reads>(
     ensures exact { IfAllTold R.Reads src.old files.now (λ contents. Prepares words.now texts contents result) }
     ensures prepared { IfOk result (IsPrepared (live_files R.Reads src.new) words.now files.now) }
     ensures reading { EndsReading R.Reads src.old src.new result }
-    ensures octets { ReadsUpTo R.Reads src.old src.new (27 * live_size R.Reads src.old files.now) }
+    ensures octets { ReadsToPrepare R.Reads src.old src.new words.now files.now }
 {
     let TextFiles { chapters, times } = texts;
     let read = read_inputs(alloc, words, src, files)?;

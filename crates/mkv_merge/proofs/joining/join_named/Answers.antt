@@ -5,7 +5,7 @@ use Rattle.mkv_io.specs.Sources.{live_files}
 use Rattle.input_files.specs.Inputs.{file_names}
 use Rattle.merge_plan.specs.Plan.{Source}
 use Rattle.mkv_lines.specs.declared.status.CommandEnd.TheVariants as stop
-use Rattle.mkv_merge.specs.Bound.{contents_length, files_size}
+use Rattle.mkv_merge.specs.Bound.{contents_length, contents_walked, files_size, files_walked}
 use Rattle.mkv_merge.specs.Ends.{unopened}
 use Rattle.mkv_merge.specs.Joined.{Merges, as_merged, no_texts, sources_alone}
 use Rattle.mkv_merge.specs.Merge.{sources_unless}
@@ -14,7 +14,7 @@ use Rattle.mkv_merge.specs.Read.{contents_held}
 use Rattle.mkv_merge.specs.declared.refusal.MergeEnd.TheVariants.{Stopped}
 use Rattle.mkv_merge.specs.declared.refusal.Refusal.{Refusal}
 use Rattle.mkv_merge.proofs.JoinedLemmas.{merges-ended}
-use Rattle.mkv_merge.proofs.MergingLemmas.{inputs-cause, join-ended, missing-found, opened-told, reads-closed, size-told, there-found, written-found}
+use Rattle.mkv_merge.proofs.MergingLemmas.{inputs-cause, join-ended, lengths-told, missing-found, opened-told, reads-closed, there-found, written-found}
 use Rattle.mkv_merge.proofs.AskedLemmas.{merge-asks-both, merge-asks-inputs, merge-asks-more, merge-asks-none}
 use Rattle.mkv_merge.proofs.joining.join_named.Goals as goal
 
@@ -77,10 +77,11 @@ returns-clause-octets g c = λ world told.
     let contents-told : AreTold f ids contents =
     opened-told f world words c.as_slice.result.now c.in_ok-ids.ids ids c.as_slice.ensures c.as_slice-2.ensures there (c.in_ok-ids.ensures.contents world told) in
     let paid = c.join_opened-ended.ensures.octets contents contents-told in
-    let closed = reads-closed (sources_alone world words) (sources_unless [] words no_texts contents) (contents_length world words.files) (files_size f ids) 0 0
+    let lengths = lengths-told f (g.met.F.Reads.told_size (g.F.Reads.standing opened)) world words.files ids contents-told in
+    let closed = reads-closed (sources_alone world words) (sources_unless [] words no_texts contents) (contents_length world words.files) (files_size f ids) (contents_walked world words.files) (files_walked f words.files ids) 0 0
     (g.F.Reads.octets_read c.args.files.now) (g.F.Reads.octets_read c.args.files.now) (g.F.Reads.octets_read opened) (g.F.Reads.octets_read c.join_opened-ended.new.files) (g.F.Reads.octets_read c.close_all.new.files)
     (there-found world words [] no_texts contents (sym c.in_ok-name.ensures ∙ c.in_default.is) c.as_slice.result.now c.as_slice.ensures there)
-    (size-told f (g.met.F.Reads.told_size (g.F.Reads.standing opened)) world words.files ids contents-told) (omega arith) c.in_ok-ids.ensures.same.octets (omega (arith, paid)) c.close_all.ensures.octets in
+    lengths.0 lengths.1 (omega arith) c.in_ok-ids.ensures.same.octets (omega (arith, paid)) c.close_all.ensures.octets in
     omega (arith, closed)
 
 -- ---- calls for files

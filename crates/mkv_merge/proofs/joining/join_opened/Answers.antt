@@ -11,7 +11,7 @@ use Rattle.input_files.specs.declared.chapter_file.ChapterFile.TheVariants.{Abse
 use Rattle.merge_plan.specs.Plan.{Source}
 use Rattle.remuxer.specs.Plan.{data_length}
 use Rattle.mkv_merge.specs.Asked.{AsksToMerge}
-use Rattle.mkv_merge.specs.Bound.{files_size}
+use Rattle.mkv_merge.specs.Bound.{files_size, files_walked}
 use Rattle.mkv_merge.specs.Ends.{as_remuxed}
 use Rattle.mkv_merge.specs.Joined.{Merges, as_merged, no_texts}
 use Rattle.mkv_merge.specs.Merge.{sources_unless}
@@ -85,7 +85,7 @@ returns-clause-octets g c = λ contents told.
     let sources = sources_from contents prepared.inputs in
     let many = many-inputs g.F.Reads g.F.Files c.args.files.now words ids prepared.inputs c.requires.inputs c.in_ok-prepared.ensures.prepared.inputs.of in
     let is = merge-is now words ids contents prepared c.in_ok-prepared.ensures.prepared (subst (λ (f : LiveFiles). AreTold f ids contents) (sym same) told) many in
-    reads-both (sources_unless [] words no_texts contents) sources (length prepared.plan.lanes) (g.F.Reads.octets_read c.args.files.now) (g.F.Reads.octets_read c.prepare.new.src) (g.F.Reads.octets_read c.remux.new.files) (files_size (live_files g.F.Reads c.args.files.now) ids) (files_size now ids) (data_length prepared.plan)
+    reads-both (sources_unless [] words no_texts contents) sources (length prepared.plan.lanes) (g.F.Reads.octets_read c.args.files.now) (g.F.Reads.octets_read c.prepare.new.src) (g.F.Reads.octets_read c.remux.new.files) (files_size (live_files g.F.Reads c.args.files.now) ids) (files_walked (live_files g.F.Reads c.args.files.now) words.files ids) (files_size now ids) (data_length prepared.plan)
     (sym plain ∙ c.in_ok-prepared.ensures.exact contents told) (lanes-count now words prepared.inputs prepared.plan sources is) (ap (λ (f : LiveFiles). files_size f ids) same) (data-counted now words prepared.inputs prepared.plan sources is) c.prepare.ensures.octets
     (plan-reads now words ids prepared (g.F.Reads.octets_read c.prepare.new.src) (g.F.Reads.octets_read c.remux.new.files) c.in_ok-prepared.ensures.prepared c.remux.ensures.octets)
 

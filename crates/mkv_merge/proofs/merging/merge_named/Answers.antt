@@ -8,7 +8,7 @@ use Rattle.mkv_lines.specs.Code.{read_stop}
 use Rattle.mkv_lines.specs.declared.status.Status.{Status}
 use Rattle.mkv_lines.specs.declared.status.CommandEnd.TheVariants as stop
 use Rattle.mkv_merge.specs.Asked.{opened_by}
-use Rattle.mkv_merge.specs.Bound.{contents_length, files_size, most_looked, most_read}
+use Rattle.mkv_merge.specs.Bound.{contents_length, contents_walked, files_size, files_walked, most_looked, most_read}
 use Rattle.mkv_merge.specs.Ends.{HasReadCause, unopened}
 use Rattle.mkv_merge.specs.Merge.{sources_of, sources_unless}
 use Rattle.mkv_merge.specs.Prepared.{AreTold}
@@ -16,7 +16,7 @@ use Rattle.mkv_merge.specs.Read.{contents_held, first_written, texts_held}
 use Rattle.mkv_merge.specs.Stages.{refusals_begun}
 use Rattle.mkv_merge.specs.declared.refusal.MergeEnd.TheVariants.{Refused, Stopped}
 use Rattle.mkv_merge.specs.declared.refusal.Refusal.TheVariants.{OutputIsInput}
-use Rattle.mkv_merge.proofs.MergingLemmas.{ended-early, inputs-cause, merges-early, merges-within, missing-found, opened-told, reads-closed, seen-kept, size-told, texts-cause, there-found, written-found}
+use Rattle.mkv_merge.proofs.MergingLemmas.{ended-early, inputs-cause, lengths-told, merges-early, merges-within, missing-found, opened-told, reads-closed, seen-kept, texts-cause, there-found, written-found}
 use Rattle.mkv_merge.proofs.AskedLemmas.{merge-asks-both, merge-asks-files, merge-asks-inputs, merge-asks-none, merge-asks-sidecars, merge-asks-texts}
 use Rattle.mkv_merge.proofs.merging.merge_named.Goals as goal
 
@@ -82,12 +82,13 @@ returns-clause-merges g c = λ world told.
     ∙ ap (λ (t : TextFiles). sources_unless (refusals_begun world words t) words t contents) (sym texts) in
     let merged = c.merge_opened-ended.ensures.merges world (names ∙ told) contents contents-told in
     let paid = subst (λ (files : List FileWords). g.F.Reads.octets_read c.read_text_files.new.files ≤ g.F.Reads.octets_read c.args.files.now + text_octets world words.chapters files) c.as_slice.ensures (c.read_text_files.ensures.octets world told) in
+    let lengths = lengths-told f (g.met.F.Reads.told_size (g.F.Reads.standing opened)) world words.files ids contents-told in
     merges-within g.F.Reads g.F.Files g.P.Report c.args.files.now opened c.merge_opened-ended.new.files c.close_all.new.files c.args.report.now said words (sources_of world words) (sources_unless (refusals_begun world words c.in_ok-texts.texts) words c.in_ok-texts.texts contents) (most_read world words) _ c.merge_opened-ended.result
     (seen-kept g.F.Reads g.F.Files g.P.Report c.args.files.now opened c.args.report.now (c.in_ok-ids.ensures.cause ∙ c.in_ok-texts.ensures.cause) (same.writing ∙ looks.writing) names)
     (seen-kept g.F.Reads g.F.Files g.P.Report c.merge_opened-ended.new.files c.close_all.new.files said ends.reading ends.writing ends.names)
-    found (reads-closed (sources_of world words) (sources_unless (refusals_begun world words c.in_ok-texts.texts) words c.in_ok-texts.texts contents) (contents_length world words.files) (files_size f ids) (text_octets world words.chapters words.files) (most_looked words)
+    found (reads-closed (sources_of world words) (sources_unless (refusals_begun world words c.in_ok-texts.texts) words c.in_ok-texts.texts contents) (contents_length world words.files) (files_size f ids) (contents_walked world words.files) (files_walked f words.files ids) (text_octets world words.chapters words.files) (most_looked words)
     (g.F.Reads.octets_read c.args.files.now) (g.F.Reads.octets_read c.read_text_files.new.files) (g.F.Reads.octets_read opened) (g.F.Reads.octets_read c.merge_opened-ended.new.files) (g.F.Reads.octets_read c.close_all.new.files)
-    found (size-told f (g.met.F.Reads.told_size (g.F.Reads.standing opened)) world words.files ids contents-told) paid same.octets merged.octets ends.octets) merged
+    found lengths.0 lengths.1 paid same.octets merged.octets ends.octets) merged
 
 -- ---- end of the merge
 

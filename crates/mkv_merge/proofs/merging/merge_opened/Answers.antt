@@ -10,14 +10,14 @@ use Rattle.remuxer.specs.Plan.{data_length}
 use Rattle.mkv_lines.specs.Code.{read_stop}
 use Rattle.mkv_lines.specs.declared.status.Status.{Status}
 use Rattle.mkv_merge.specs.Asked.{AsksToMerge, sidecars_of}
-use Rattle.mkv_merge.specs.Bound.{files_size, most_looked, most_of}
+use Rattle.mkv_merge.specs.Bound.{files_size, files_walked, most_looked, most_of}
 use Rattle.mkv_merge.specs.Ends.{HasReadCause}
 use Rattle.mkv_merge.specs.Prepared.{AreTold, ReadsAs, sources_from}
 use Rattle.mkv_merge.specs.Merge.{sources_unless}
 use Rattle.mkv_merge.specs.Stages.{refusals_begun}
 use Rattle.mkv_merge.specs.declared.refusal.MergeEnd.TheVariants.{Refused, Stopped}
 use Rattle.mkv_merge.specs.declared.refusal.Refusal.{Refusal}
-use Rattle.mkv_merge.proofs.MergingLemmas.{begun-past, begun-refused, contents-kept, ended-early, ended-written, inputs-kept, inputs-stand, merges-early, merges-written, reads-both, seen-kept, sizes-kept, texts-cause}
+use Rattle.mkv_merge.proofs.MergingLemmas.{begun-past, begun-refused, contents-kept, ended-early, ended-written, inputs-kept, inputs-stand, lengths-kept, merges-early, merges-written, reads-both, seen-kept, texts-cause}
 use Rattle.mkv_merge.proofs.WritingLemmas.{data-counted, lanes-count, many-inputs, merge-is, records-are}
 use Rattle.mkv_merge.proofs.AskedLemmas.{merge-asks-both, merge-asks-looks, merge-asks-more}
 use Rattle.mkv_merge.proofs.merging.merge_opened.Goals as goal
@@ -38,7 +38,8 @@ returns-in_err-why-clause-merges g c = λ world told contents held.
     let p = err_from_is_err_and c.from_residual.result c.from_residual.ensures.1 in
     let words = c.args.words.now in
     let found = sources_unless (refusals_begun world words c.args.texts) words c.args.texts contents in
-    let most = most_of found (files_size (live_files g.F.Reads c.args.files.now) c.args.ids.now) + most_looked words in
+    let old = live_files g.F.Reads c.args.files.now in
+    let most = most_of found (files_size old c.args.ids.now) (files_walked old words.files c.args.ids.now) + most_looked words in
     rw (p.1, p.2) (merges-early g.F.Reads g.F.Files g.P.Report c.args.files.now c.begun_refusal.new.files c.args.report.now words found most (Stopped (read_stop c.in_err-why.field-0.0)) tt
     c.begun_refusal.ensures.looks.names (omega (arith, c.begun_refusal.ensures.octets)))
 
@@ -47,7 +48,8 @@ pub returns-in-Some-clause-merges : goal.returns-in-Some-clause-merges
 returns-in-Some-clause-merges g c = λ world told contents held.
     let words = c.args.words.now in
     let found = sources_unless (refusals_begun world words c.args.texts) words c.args.texts contents in
-    let most = most_of found (files_size (live_files g.F.Reads c.args.files.now) c.args.ids.now) + most_looked words in
+    let old = live_files g.F.Reads c.args.files.now in
+    let most = most_of found (files_size old c.args.ids.now) (files_walked old words.files c.args.ids.now) + most_looked words in
     merges-early g.F.Reads g.F.Files g.P.Report c.args.files.now c.begun_refusal.new.files c.args.report.now words found most (Refused c.in-Some.why)
     (begun-refused world words c.args.texts contents c.in-Some.why (sym (c.in_ok-why.ensures.exact world told) ∙ c.in-Some.is))
     c.begun_refusal.ensures.looks.names (omega (arith, c.begun_refusal.ensures.octets))
@@ -62,13 +64,13 @@ returns-in_err-prepared-clause-merges g c = λ world told contents held.
     let mid = live_files g.F.Reads c.begun_refusal.new.files in
     let kept = c.begun_refusal.ensures.looks.kept in
     let found = sources_unless (refusals_begun world words c.args.texts) words c.args.texts contents in
-    let size : files_size mid ids ≡ files_size old ids = sizes-kept old mid ids (λ file. kept.others file tt) c.requires.inputs.live in
+    let lengths = lengths-kept old mid words.files ids (λ file. kept.others file tt) c.requires.inputs.live in
     let mid-told : AreTold mid ids contents = contents-kept old.live old.content mid.content ids (λ file live. (kept.others file tt).content live) c.requires.inputs.live ∙ held in
     let past = begun-past world words c.args.texts contents (sym (c.in_ok-why.ensures.exact world told) ∙ c.in_default.is) in
-    rw (p.1, p.2) (merges-early g.F.Reads g.F.Files g.P.Report c.args.files.now c.prepare.new.src c.args.report.now words found (most_of found (files_size old ids) + most_looked words) c.in_err-prepared.field-0.0
+    rw (p.1, p.2) (merges-early g.F.Reads g.F.Files g.P.Report c.args.files.now c.prepare.new.src c.args.report.now words found (most_of found (files_size old ids) (files_walked old words.files ids) + most_looked words) c.in_err-prepared.field-0.0
     (subst (λ (o : Result (List Source) Refusal). ReadsAs {B = List Source} (λ (s : List Source). s) o (Err c.in_err-prepared.field-0.0)) (sym past) (c.in_err-prepared.ensures.exact contents mid-told))
     (g.met.F.Files.names_stand c.prepare.new.src c.begun_refusal.new.files c.in_err-prepared.ensures.reading.standing ∙ c.begun_refusal.ensures.looks.names)
-    (omega (arith, c.begun_refusal.ensures.octets, c.prepare.ensures.octets, size)))
+    (omega (arith, c.begun_refusal.ensures.octets, c.prepare.ensures.octets, lengths.0, lengths.1)))
 
 -- The prepared outputs are written, or their writing was stopped.
 pub returns-clause-merges : goal.returns-clause-merges
@@ -82,7 +84,7 @@ returns-clause-merges g c = λ world told contents held.
     let looks = c.begun_refusal.ensures.looks in
     let standing = c.in_ok-prepared.ensures.reading.standing in
     let found = sources_unless (refusals_begun world words c.args.texts) words c.args.texts contents in
-    let size : files_size mid ids ≡ files_size old ids = sizes-kept old mid ids (λ file. looks.kept.others file tt) c.requires.inputs.live in
+    let lengths = lengths-kept old mid words.files ids (λ file. looks.kept.others file tt) c.requires.inputs.live in
     let same : now ≡ mid = ap g.F.Reads.files standing in
     let mid-told : AreTold mid ids contents = contents-kept old.live old.content mid.content ids (λ file live. (looks.kept.others file tt).content live) c.requires.inputs.live ∙ held in
     let now-told : AreTold now ids contents = subst (λ (f : LiveFiles). AreTold f ids contents) (sym same) mid-told in
@@ -92,10 +94,10 @@ returns-clause-merges g c = λ world told contents held.
     let names = g.met.F.Files.names_stand c.prepare.new.src c.begun_refusal.new.files standing ∙ looks.names in
     let seen = seen-kept g.F.Reads g.F.Files g.P.Report c.args.files.now c.prepare.new.src c.args.report.now (c.in_ok-prepared.ensures.reading.cause ∙ c.in_ok-why.ensures.cause)
     (g.met.F.Files.writing_stands c.prepare.new.src c.begun_refusal.new.files standing ∙ looks.writing) names in
-    let paid = reads-both found (sources_from contents prepared.inputs) (length prepared.plan.lanes) (g.F.Reads.octets_read c.begun_refusal.new.files) (g.F.Reads.octets_read c.prepare.new.src) (g.F.Reads.octets_read c.write.new.files) (files_size old ids) (files_size now ids) (data_length prepared.plan)
-    is (lanes-count now words prepared.inputs prepared.plan (sources_from contents prepared.inputs) merge) (ap (λ (f : LiveFiles). files_size f ids) same ∙ size)
-    (data-counted now words prepared.inputs prepared.plan (sources_from contents prepared.inputs) merge) (omega (arith, c.prepare.ensures.octets, size)) c.write.ensures.octets in
-    rw c.written.ensures (merges-written g.F.Reads g.F.Files g.P.Report c.args.files.now c.prepare.new.src c.write.new.files c.args.report.now c.write.new.report words found (sources_from contents prepared.inputs) (most_of found (files_size old ids) + most_looked words) c.write.result
+    let paid = reads-both found (sources_from contents prepared.inputs) (length prepared.plan.lanes) (g.F.Reads.octets_read c.begun_refusal.new.files) (g.F.Reads.octets_read c.prepare.new.src) (g.F.Reads.octets_read c.write.new.files) (files_size old ids) (files_walked old words.files ids) (files_size now ids) (data_length prepared.plan)
+    is (lanes-count now words prepared.inputs prepared.plan (sources_from contents prepared.inputs) merge) (ap (λ (f : LiveFiles). files_size f ids) same ∙ lengths.0)
+    (data-counted now words prepared.inputs prepared.plan (sources_from contents prepared.inputs) merge) (omega (arith, c.prepare.ensures.octets, lengths.0, lengths.1)) c.write.ensures.octets in
+    rw c.written.ensures (merges-written g.F.Reads g.F.Files g.P.Report c.args.files.now c.prepare.new.src c.write.new.files c.args.report.now c.write.new.report words found (sources_from contents prepared.inputs) (most_of found (files_size old ids) (files_walked old words.files ids) + most_looked words) c.write.result
     seen is (records-are now words prepared.inputs prepared.plan (sources_from contents prepared.inputs) merge c.in_ok-prepared.ensures.prepared.written) (c.write.ensures.short world (names ∙ told) contents now-told)
     (c.write.ensures.verdict contents now-told) (omega (arith, c.begun_refusal.ensures.octets, paid)))
 

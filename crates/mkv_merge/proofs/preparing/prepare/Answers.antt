@@ -90,18 +90,18 @@ returns-clause-prepared g c =
 
 pub returns-in_err-inputs-clause-octets : goal.returns-in_err-inputs-clause-octets
 returns-in_err-inputs-clause-octets g c =
-    pays-both (live_files g.R.Reads c.args.src.now) (live_files g.R.Reads c.read_inputs.new.src) c.args.files.now c.args.words.now.webm c.args.texts.chapters c.in_ok-read.read c.in_ok-chaptered.chaptered c.in_ok-timed.timed
+    pays-both (live_files g.R.Reads c.args.src.now) (live_files g.R.Reads c.read_inputs.new.src) c.args.words.now.files c.args.files.now c.args.words.now.webm c.args.texts.chapters c.in_ok-read.read c.in_ok-chaptered.chaptered c.in_ok-timed.timed
     (g.R.Reads.octets_read c.args.src.now) (g.R.Reads.octets_read c.read_inputs.new.src) (g.R.Reads.octets_read c.assign_append_offsets.new.src) (ap g.R.Reads.files c.in_ok-read.ensures.reading.standing)
-    c.requires.chapters c.in_ok-read.ensures.inputs c.in_ok-chaptered.ensures.exact c.in_ok-timed.ensures.same c.read_inputs.ensures.octets c.assign_append_offsets.ensures.octets
+    c.requires.chapters c.in_ok-read.ensures.inputs c.in_ok-read.ensures.unmoved c.in_ok-chaptered.ensures.exact c.in_ok-timed.ensures.same c.read_inputs.ensures.octets c.assign_append_offsets.ensures.octets
 
 pub returns-in_err-plan-clause-octets : goal.returns-in_err-plan-clause-octets
 returns-in_err-plan-clause-octets g c =
-    pays-both (live_files g.R.Reads c.args.src.now) (live_files g.R.Reads c.read_inputs.new.src) c.args.files.now c.args.words.now.webm c.args.texts.chapters c.in_ok-read.read c.in_ok-chaptered.chaptered c.in_ok-timed.timed
+    pays-both (live_files g.R.Reads c.args.src.now) (live_files g.R.Reads c.read_inputs.new.src) c.args.words.now.files c.args.files.now c.args.words.now.webm c.args.texts.chapters c.in_ok-read.read c.in_ok-chaptered.chaptered c.in_ok-timed.timed
     (g.R.Reads.octets_read c.args.src.now) (g.R.Reads.octets_read c.read_inputs.new.src) (g.R.Reads.octets_read c.assign_append_offsets.new.src) (ap g.R.Reads.files c.in_ok-read.ensures.reading.standing)
-    c.requires.chapters c.in_ok-read.ensures.inputs c.in_ok-chaptered.ensures.exact c.in_ok-timed.ensures.same c.read_inputs.ensures.octets c.assign_append_offsets.ensures.octets
+    c.requires.chapters c.in_ok-read.ensures.inputs c.in_ok-read.ensures.unmoved c.in_ok-chaptered.ensures.exact c.in_ok-timed.ensures.same c.read_inputs.ensures.octets c.assign_append_offsets.ensures.octets
 
 pub returns-clause-octets : goal.returns-clause-octets
 returns-clause-octets g c =
-    pays-both (live_files g.R.Reads c.args.src.now) (live_files g.R.Reads c.read_inputs.new.src) c.args.files.now c.args.words.now.webm c.args.texts.chapters c.in_ok-read.read c.in_ok-chaptered.chaptered c.in_ok-timed.timed
+    pays-both (live_files g.R.Reads c.args.src.now) (live_files g.R.Reads c.read_inputs.new.src) c.args.words.now.files c.args.files.now c.args.words.now.webm c.args.texts.chapters c.in_ok-read.read c.in_ok-chaptered.chaptered c.in_ok-timed.timed
     (g.R.Reads.octets_read c.args.src.now) (g.R.Reads.octets_read c.read_inputs.new.src) (g.R.Reads.octets_read c.assign_append_offsets.new.src) (ap g.R.Reads.files c.in_ok-read.ensures.reading.standing)
-    c.requires.chapters c.in_ok-read.ensures.inputs c.in_ok-chaptered.ensures.exact c.in_ok-timed.ensures.same c.read_inputs.ensures.octets c.assign_append_offsets.ensures.octets
+    c.requires.chapters c.in_ok-read.ensures.inputs c.in_ok-read.ensures.unmoved c.in_ok-chaptered.ensures.exact c.in_ok-timed.ensures.same c.read_inputs.ensures.octets c.assign_append_offsets.ensures.octets

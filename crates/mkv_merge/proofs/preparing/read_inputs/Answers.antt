@@ -1,6 +1,6 @@
-use Rattle.std.proofs.Common.{◌≡◌, ℕ, ◌+◌, List, [], ◌∷◌, ◌++◌, get_or, sym, ◌∙◌, ap, subst, arith, map}
+use Rattle.std.proofs.Common.{◌≡◌, ℕ, ◌+◌, List, [], ◌∷◌, ◌++◌, get_or, sym, ◌∙◌, ap, subst, arith, map, take}
 use Rattle.std.specs.List.{All}
-use Rattle.std.proofs.lemmas.List.{map-append}
+use Rattle.std.proofs.lemmas.List.{map-append, take_all}
 use Rattle.std.proofs.lemmas.List.Elements.{All-push}
 use Rattle.std.proofs.lemmas.Result.{err_from_is_err_and}
 use Rattle.mkv_io.specs.Faults.{counted}
@@ -10,8 +10,8 @@ use Rattle.requests.specs.Sound.{IsSoundFile}
 use Rattle.merge_inputs.specs.Input.{IsInput, read_in}
 use Rattle.merge_inputs.specs.declared.input.Input.{Input}
 use Rattle.merge_plan.specs.TakenTracks.{HasPlace}
-use Rattle.mkv_merge.specs.Prepared.{reads_in}
-use Rattle.mkv_merge.proofs.PreparingLemmas.{GoesOn, files-more, pays-all, pays-more, read-at, read-end, read-place, refused-at}
+use Rattle.mkv_merge.specs.Prepared.{AreUnmoved, reads_in}
+use Rattle.mkv_merge.proofs.PreparingLemmas.{GoesOn, files-more, pays-all, pays-more, read-at, read-end, read-place, refused-at, shifts-more}
 use Rattle.mkv_merge.proofs.preparing.read_inputs.Goals as goal
 
 -- The file's part of the command line is valid.
@@ -64,6 +64,12 @@ loop-input-preserved g c = record {
       (subst (λ standing. IsInput (g.R.Reads.files standing) c.in_ok-read.read) (c.read_one.ensures.reading.standing ∙ c.loop-input.invariant.standing) c.in_ok-read.ensures.input));
   of = ap (map (λ (i : Input). i.file)) c.in_ok-push.ensures.ok
       ∙ files-more c.loop-input.inputs c.in_ok-read.read c.args.files.now c.loop-input.input (record { n = 0 }) c.loop-input-test.true c.in_ok-read.ensures.file.file c.loop-input.invariant.of;
+  unmoved =
+      let w = c.index-as_slice-input.result in
+      subst (AreUnmoved (take (c.loop-input.input + 1) c.args.words.now.files)) (sym c.in_ok-push.ensures.ok)
+      (shifts-more c.loop-input.inputs c.in_ok-read.read c.args.words.now.files c.loop-input.input w (omega (arith, c.requires.ready.each, c.loop-input-test.true))
+      (c.index-as_slice-input.is ∙ ap (λ (files : List FileWords). get_or files c.loop-input.input w) c.as_slice.ensures)
+      c.in_ok-read.ensures.file.unmoved c.loop-input.invariant.unmoved);
   places = subst (All HasPlace) (sym c.in_ok-push.ensures.ok) (All-push HasPlace c.loop-input.inputs c.in_ok-read.read c.loop-input.invariant.places (read-place _ _ c.in_ok-read.read c.in_ok-read.ensures.file));
   goes_on = λ contents told.
       let w = c.index-as_slice-input.result in
@@ -89,6 +95,11 @@ loop-input-preserved g c = record {
 pub returns-clause-exact : goal.returns-clause-exact
 returns-clause-exact g c = λ contents told.
     read-end c.args.words.now contents c.loop-input.input c.loop-input.held (reads_in c.loop-input.inputs) (omega arith) (c.loop-input.invariant.goes_on contents told)
+
+-- All inputs have the append offsets of their files.
+pub returns-clause-unmoved : goal.returns-clause-unmoved
+returns-clause-unmoved g c =
+    subst (λ (files : List FileWords). AreUnmoved files c.loop-input.inputs) (take_all c.loop-input.input c.args.words.now.files (omega (arith, c.requires.ready.each))) c.loop-input.invariant.unmoved
 
 pub returns-clause-octets : goal.returns-clause-octets
 returns-clause-octets g c =
