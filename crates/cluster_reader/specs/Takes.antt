@@ -30,7 +30,8 @@ pub record IsKnownByHead (b : Block) (lent : Buffered) : Type 0 where
   pub head : head_of b ≡ lent.head
   pub frames : length b.frames ≡ lent.frames
 
--- The buffer `lent` has the part of the block `b` that the filter wants.
+-- The buffer `lent` has the part of the block `b` that the filter, the first argument, wants. `All` wants the whole block, and `Track` its track and,
+-- if that is the given one, the whole block. `Heads` wants its head and frame count.
 abbrev pub IsKnown : BlockFilter → Block → Buffered → Type 0
 IsKnown All b lent = b ≡ block_of lent
 IsKnown (Track track) b lent = IsKnownFor track b lent

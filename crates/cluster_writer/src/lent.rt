@@ -50,7 +50,8 @@ impl BlockRef<'_> {
         )
     }
 
-    /// Returns the length in bytes of the block's SimpleBlock or BlockGroup, which is the same in each Cluster.
+    /// Returns the length in bytes of the block's SimpleBlock or BlockGroup, its header included, which is the same in
+    /// each Cluster.
     pub fn element_len(&self) -> u64
         requires { IsLent (lent_of self.now) }
         ensures exact { result ≡ octets_taken (block_of self.now) }

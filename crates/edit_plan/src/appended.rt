@@ -94,7 +94,8 @@ pub fn duplicates(outline: &Outline, parts: &[Part]) -> Option<Refusal>
     None
 }
 
-/// Returns the greatest number of Elements in one of `parts`, which the limit of Elements is checked with.
+/// Returns the greatest number of Elements that one of `parts`, the Elements at level 1 that an edit rewrites or
+/// removes, writes with itself included; 0 without parts. An edit is refused if it exceeds `MAX_NODES`.
 pub fn most_nodes(parts: &[Part]) -> u64
     ensures { result ≡ spec.most_nodes (map shown parts.now) }
 {

@@ -35,7 +35,8 @@ bad_for b (Some o) = map (λ octets. bad_frame b) (filter (is_bad o) b.frames)
 abbrev pub bad_in : List TrackOutput → Block → List Damage
 bad_in list b = bad_for b (find (λ (o : TrackOutput). o.track == b.track) list)
 
--- the reports of the bad frames of `blocks`, in the order of the file, if the outputs are `list`
+-- the reports of the bad frames of `blocks`, in the order of the file: those that the outputs `list` leave out, since they aren't in the format of
+-- their track's codec. There is one report for each frame, and none for a track without an output.
 abbrev pub bad_frames : List TrackOutput → List Block → List Damage
 bad_frames list blocks = flat_map (bad_in list) blocks
 

@@ -48,7 +48,7 @@ as_text prefix f = put_srt f.number f.time f.duration (prefix ++ f.octets.now)
 abbrev pub count_in : TrackOutput → Block → ℕ
 count_in o b = length (frames_for o.step o.track b)
 
--- the bytes that block `b` adds to the output `o`, whose next frame has number `n`; none if it is a block of another track
+-- the bytes that block `b` adds to the output `o`, whose next frame has number `n` in its track, counted from 1; none for a block of another track
 abbrev pub piece : TrackOutput → ℕ → Block → List ℕ
 piece o n b = entries_from o n (frames_for o.step o.track b)
 

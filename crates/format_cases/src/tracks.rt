@@ -95,7 +95,8 @@ pub fn tell_usable(alloc: Global, case: &Case, text: &mut String) -> Result<(), 
     }
 }
 
-/// Appends to `text` the result for the first of `tracks`, or `none`.
+/// Appends to `text` the bytes that header stripping removed from each frame of the first of `tracks`, the reason why
+/// its frames can't be used, or `none` without a track. It is the result of a case `usable`.
 fn tell_first(tracks: &List<Track>, text: &mut String) -> Result<(), AllocError>
     requires { All (λ track. IsEntry track.entry) tracks.now }
 {

@@ -14,8 +14,8 @@ use mkv_schema::ids::TITLE;
 use serde_json::{Map, Value, json, put};
 use std::alloc::{AllocError, Global};
 
-/// Makes the value of the key `container` for a file with the first Info `info`: its properties, and that it is
-/// Matroska.
+/// Makes the value of the key `container` in the JSON of `merge -J`, for a file with the first Info `info`, if any: its
+/// TimestampScale and Title as `properties`, and that it is Matroska.
 pub(crate) fn container_value(alloc: Global, info: &Option<Tree>) -> Result<Value, AllocError>
     requires { IfSome info.now IsGoodInfo }
     ensures { IfOk result (λ value. view value ≡ container_value info.now) }

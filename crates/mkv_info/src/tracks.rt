@@ -43,8 +43,8 @@ pub fn tracks_of<R: Reads>(
     }
 }
 
-// Reads the tracks in `tracks`, the file's first Tracks; there are none without a Tracks. The inner error is the damage
-// for which they are refused.
+// Reads the tracks in `tracks`, the file's first Tracks, for the lines that `info` prints; there are none without a
+// Tracks. The inner error is the damage for which they are refused.
 fn tracks_in(alloc: Global, tracks: &Option<Tree>) -> Result<Result<List<Track>, Damage>, ReadEnd>
     requires { IfSome tracks.now (IsSoundOf TRACKS_ID) }
     ensures ok { IfOk result (λ found. found ≡ tracks_in tracks.now) }

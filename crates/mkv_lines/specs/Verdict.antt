@@ -70,8 +70,8 @@ abbrev pub Leaves : Names → Names → WrittenOutputs → Type 0
 Leaves old new (at_once all) = ArePrefixes old new all
 Leaves old new (in_turn all) = AreWrittenInOrder old new all
 
--- A command with the outcome `v` ended early, and took the names `old` to `new`. If its outputs weren't complete, `says` holds of the lines before
--- them. If they were, it holds of all lines.
+-- A command with the outcome `v` ended early, and took the names `old` to `new`. `says` states of a list of lines what was printed of it. If the
+-- outputs weren't complete, it holds of the lines before them. If they were, it holds of all lines.
 abbrev pub StopsSaying : (List (List ℕ) → Type 0) → Names → Names → Verdict → Type 0
 StopsSaying says old new v = (says v.before × Leaves old new v.outputs) ⊎ (says v.lines × (new ≡ with_outputs old (list_of v.outputs)))
 

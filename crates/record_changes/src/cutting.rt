@@ -120,7 +120,9 @@ fn cut_child(
     Ok(Some(atom))
 }
 
-// Returns `parent`, an edition or atom, with its children cut to the period `stretch`.
+// Returns `parent`, an edition or atom, with its children cut to the period `stretch`, which is in nanoseconds: atoms
+// outside are left out, the times of the others are limited to it and relative to its start, and other children are
+// copied.
 #[cycle(cutting)]
 fn cut_inside(alloc: Global, parent: &Tree, stretch: Stretch) -> Result<Tree, AllocError>
     requires holds { HoldsAtoms parent.now }
@@ -150,8 +152,8 @@ fn has_atom(edition: &Tree) -> bool
         .any(|child| child.id() == CHAPTER_ATOM)
 }
 
-// Returns `child`, a child of Chapters, cut to the period `stretch`, or None if it isn't an edition with a chapter in
-// the period.
+// Returns `child`, a child of Chapters, cut to the period `stretch`, which is in nanoseconds, or None if it isn't an
+// edition with a chapter in the period. It is one step of `cut`, which makes the Chapters of a part.
 fn cut_edition(alloc: Global, child: &Tree, stretch: Stretch) -> Result<Option<Tree>, AllocError>
     requires edition { IsReadIf ids.EDITION_ENTRY child.now }
     requires stretch { IfSome stretch.to (λ to. stretch.from ≤ to) }

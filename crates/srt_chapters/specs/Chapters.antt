@@ -22,7 +22,7 @@ edition cs = master EDITION_ENTRY 0 (nodes_of (uint_leaf EDITION_UID 0 ∷ map a
 abbrev pub chapters_of : List Chapter → Node
 chapters_of cs = master CHAPTERS 0 (nodes_of (edition cs ∷ []))
 
--- the Chapters Element for the chapters that were read, or the number of the first bad line, from 1
+-- the Chapters Element for the result of reading a file of OGM simple chapters: its chapters, or the number of its first bad line, from 1
 abbrev pub as_tree : Result (List Chapter) ℕ → Result Node ℕ
 as_tree (Ok cs) = Ok (chapters_of cs)
 as_tree (Err n) = Err n

@@ -64,7 +64,8 @@ with_input number new words = record words { files = set_input number new words.
 abbrev pub times_job : ℕ → List ℕ → Job
 times_job id out = Tracks Times (record { id = id; name = out } ∷ [])
 
--- `extract FILE timestamps_v2 ID:OUT`, for the file `file` in `world` and the track `id`, writes `content` to some output.
+-- `extract FILE timestamps_v2 ID:OUT`, for the file `file` in `world` and the track with the index `id` in Tracks, from 0, writes `content` to some
+-- output.
 abbrev pub WritesTimes : World → List ℕ → ℕ → List ℕ → Type 0
 WritesTimes world file id content = (out : List ℕ) × ((extract_verdict world file (times_job id out)).outputs ≡ at_once (output out content ∷ []))
 
