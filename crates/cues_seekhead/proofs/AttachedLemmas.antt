@@ -1,5 +1,6 @@
 -- An AttachedFile with its data, and the bytes before and after them.
 use Rattle.std.proofs.Common.{◌≡◌, ◌<◌, ◌≤◌, ℕ, suc, ◌+◌, List, [], ◌∷◌, ◌++◌, length, map, flat_map, sum_by, take, drop, get_or, Bool, true, false, not, cond, ◌==◌, nat_lt, position, Some, None, All, refl, sym, ap, append_assoc, ◌∙◌, arith, add-one, length-append}
+use Rattle.std.specs.List.{position_or_len}
 use Rattle.std.proofs.lemmas.Bool.Decides.{nat_tests}
 use Rattle.std.proofs.lemmas.List.{take_all, drop_all}
 use Rattle.std.proofs.lemmas.List.Concat.{flat_map-append}
@@ -18,24 +19,32 @@ use Rattle.output_model.specs.declared.attachment.Attachment.{Attachment}
 use Rattle.output_model.specs.Attached.{with_data, attached_file, data_of}
 use Rattle.cues_seekhead.specs.Attached.{data_place, attached_body, attached_total, before_data, behind_data, HaveData}
 
+-- ---- index of the first child that passes a test
+
+pub found-at : (passes : Node → Bool) (ns : List Node) (k : ℕ) → position passes ns ≡ Some k → position_or_len passes ns ≡ k
+found-at passes ns k is = split (nat_lt (position_or_len passes ns) (length ns)) is
+  where
+    split : (inside : Bool) → cond inside (Some (position_or_len passes ns)) None ≡ Some k → position_or_len passes ns ≡ k
+    split true same = cc
+    split false same = absurd (cc)
+
+pub found-none : (passes : Node → Bool) (ns : List Node) → position passes ns ≡ None → length ns ≤ position_or_len passes ns
+found-none passes ns is = split (nat_lt (position_or_len passes ns) (length ns)) refl is
+  where
+    split : (inside : Bool) → nat_lt (position_or_len passes ns) (length ns) ≡ inside → cond inside (Some (position_or_len passes ns)) None ≡ None → length ns ≤ position_or_len passes ns
+    split true test same = absurd (cc)
+    split false test same = grind (arith, nat_tests)
+
 -- ---- index of the first FileData
 
 abbrev is_data : Node → Bool
 is_data n = id_of n == FILE_DATA
 
 pub place-found : (ns : List Node) (k : ℕ) → position (λ n. id_of n == FILE_DATA) ns ≡ Some k → data_place ns ≡ k
-place-found ns k is = split (nat_lt (data_place ns) (length ns)) is
-  where
-    split : (inside : Bool) → cond inside (Some (data_place ns)) None ≡ Some k → data_place ns ≡ k
-    split true same = cc
-    split false same = absurd (cc)
+place-found ns k is = found-at is_data ns k is
 
 pub place-none : (ns : List Node) → position (λ n. id_of n == FILE_DATA) ns ≡ None → length ns ≤ data_place ns
-place-none ns is = split (nat_lt (data_place ns) (length ns)) refl is
-  where
-    split : (inside : Bool) → nat_lt (data_place ns) (length ns) ≡ inside → cond inside (Some (data_place ns)) None ≡ None → length ns ≤ data_place ns
-    split true test same = absurd (cc)
-    split false test same = grind (arith, nat_tests)
+place-none ns is = found-none is_data ns is
 
 -- Without FileData, the first FileData doesn't matter.
 without-first : (ns : List Node) (d : Node) → data_place ns < length ns → without FILE_DATA (drop (data_place ns) ns) ≡ without FILE_DATA (drop (data_place ns + 1) ns)

@@ -120,10 +120,11 @@ begun-octets files front o opening masters own have = ap (λ w. w ++ attached_oc
 
 -- The open output agrees with its file.
 pub begun-known : (files : LiveFiles) (front : Front) (o : Opening) (out : OpenOutput) → IsOpening front o → All (λ (a : Attachment). IsMaster a.entry) front.attachments → All (λ (a : Attachment). id_of a.entry ≡ ATTACHED_FILE) front.attachments → HaveData files front.attachments
-    → out.webm ≡ front.webm → out.len ≡ o.len → out.seeks ≡ o.seeks.items → Knows (front_with files front) [] out
-begun-known files front o out opening masters own have webm len seeks = record {
+    → out.webm ≡ front.webm → out.len ≡ o.len → out.place ≡ o.place → out.seeks ≡ o.seeks.items → Knows (front_with files front) [] out
+begun-known files front o out opening masters own have webm len place seeks = record {
   webm = webm;
   len = omega (arith, len, opening.len, opening-long files front masters own have);
+  place = place ∙ opening.place;
   seeks = seeks ∙ opening.seeks ∙ opening-seeks files front;
 }
 

@@ -1,13 +1,18 @@
 -- An output whose last writes fail.
-use Rattle.std.proofs.Common.{◌≡◌, ◌≤◌, ◌<◌, ℕ, ◌+◌, ◌-◌, Bool, true, false, nat_lt, List, ◌++◌, length, take, drop, get_or, ◌⊎◌, inl, inr, refl, sym, ap, append_assoc, ◌∙◌, arith}
+use Rattle.std.proofs.Common.{◌≡◌, ◌≤◌, ◌<◌, ℕ, zero, suc, ◌+◌, ◌-◌, Bool, true, false, nat_lt, List, [], ◌∷◌, ◌++◌, Option, None, Some, IfSome, append-nil, subst, length, take, drop, get_or, ◌⊎◌, inl, inr, refl, sym, ap, append_assoc, ◌∙◌, arith}
 use Rattle.std.proofs.lemmas.Bool.Decides.{nat_tests}
 use Rattle.std.proofs.lemmas.List.{length-append, length-take-le, length-drop, get_or_append_left, get_or-append_right, get_or-take, get_or-drop}
 use Rattle.mkv_io.specs.Contents.{overwritten, with_appended, with_overwritten}
 use Rattle.mkv_io.specs.Names.{Names, with_change, with_content}
 use Rattle.mkv_io.proofs.NamesLemmas.{with_content-appended, with_content-overwritten}
-use Rattle.mkv_outputs.specs.Drafts.{Draft, Patch, IsPatched, IsPatchedAt}
+use Rattle.mkv_outputs.specs.Drafts.{Draft, Patch, IsPatched, IsPatchedAt, patched}
+use Rattle.mkv_outputs.specs.Outputs.{Output}
+use Rattle.mkv_outputs.specs.Starts.{IsStart}
 use Rattle.mkv_outputs.specs.Written.{PassesSome}
-use Rattle.cues_seekhead.specs.Draft.{StandsDrafted, patches_at}
+use Rattle.output_model.specs.Duration.{duration_element}
+use Rattle.output_model.specs.Element.{octets_of}
+use Rattle.cues_seekhead.specs.Draft.{StandsDrafted, duration_patches, patches_at, patches_with}
+use Rattle.cues_seekhead.proofs.DurationLemmas.{length-duration}
 
 -- ---- names
 
@@ -86,9 +91,71 @@ StandsDrafted-patched before now d content is patched = record {
   names = is;
 }
 
--- The two patches have their places.
-pub in-area : (start k : ℕ) (area size : List ℕ) (n : ℕ) → n ≡ length area → start ≤ k → k < start + n → IsPatchedAt k (patches_at start area size)
-in-area start k area size n is low high = inl (low, omega arith)
+-- ---- the patches and their places
 
-pub in-size : (start k : ℕ) (area size : List ℕ) (n : ℕ) → n ≡ length size → start - 8 ≤ k → k < start - 8 + n → IsPatchedAt k (patches_at start area size)
-in-size start k area size n is low high = inr (inl (low, omega arith))
+patched-left : (k : ℕ) (ps qs : List Patch) → IsPatchedAt k ps → IsPatchedAt k (ps ++ qs)
+patched-left k [] qs is = absurd is
+patched-left k (p ∷ ps) qs (inl here) = inl here
+patched-left k (p ∷ ps) qs (inr later) = inr (patched-left k ps qs later)
+
+patched-right : (k : ℕ) (ps qs : List Patch) → IsPatchedAt k qs → IsPatchedAt k (ps ++ qs)
+patched-right k [] qs is = is
+patched-right k (p ∷ ps) qs is = inr (patched-right k ps qs is)
+
+pub in-area : (start k : ℕ) (place : Option ℕ) (end : ℕ) (area size : List ℕ) (n : ℕ) → n ≡ length area → start ≤ k → k < start + n → IsPatchedAt k (patches_with start place end area size)
+in-area start k place end area size n is low high = patched-right k (duration_patches start place end) (patches_at start area size) (inl (low, omega arith))
+
+pub in-size : (start k : ℕ) (place : Option ℕ) (end : ℕ) (area size : List ℕ) (n : ℕ) → n ≡ length size → start - 8 ≤ k → k < start - 8 + n → IsPatchedAt k (patches_with start place end area size)
+in-size start k place end area size n is low high = patched-right k (duration_patches start place end) (patches_at start area size) (inr (inl (low, omega arith)))
+
+-- ---- the Duration
+
+-- A Duration above 0 is written at its place.
+pub duration-some : (start : ℕ) (place : Option ℕ) (end at : ℕ) → place ≡ Some at → 1 ≤ end → duration_patches start place end ≡ record { at = start + at; octets = octets_of (duration_element end) } ∷ []
+duration-some start None end at is some = absurd (cc)
+duration-some start (Some k) zero at is some = absurd (omega arith)
+duration-some start (Some k) (suc n) at is some = ap (λ place. duration_patches start place (suc n)) is
+
+-- All bytes are there after the write of the Duration, and differ only in its place.
+pub duration-patched : (bytes name : List ℕ) (start : ℕ) (place : Option ℕ) (end : ℕ) (qs : List Patch) → IfSome place (λ at. start + at + 11 ≤ length bytes)
+    → IsPatched (patched bytes (duration_patches start place end)) (record { name = name; appended = bytes; patches = duration_patches start place end ++ qs })
+duration-patched bytes name start None end qs inside = record { count = refl; each = λ k. inl refl }
+duration-patched bytes name start (Some at) zero qs inside = record { count = refl; each = λ k. inl refl }
+duration-patched bytes name start (Some at) (suc n) qs inside =
+    let d : Draft = record { name = name; appended = bytes; patches = duration_patches start (Some at) (suc n) ++ qs } in
+    IsPatched-over bytes (octets_of (duration_element (suc n))) d (start + at) (record { count = refl; each = λ k. inl refl })
+    (omega (arith, length-duration (suc n), inside))
+    (λ k low high. inl (low, high))
+
+-- The Duration's place is inside a longer file, too.
+pub inside-later : (start : ℕ) (place : Option ℕ) (few many : ℕ) → few ≤ many → IfSome place (λ at. start + at + 11 ≤ few) → IfSome place (λ at. start + at + 11 ≤ many)
+inside-later start None few many more inside = inside
+inside-later start (Some at) few many more inside = omega (arith, more, inside)
+
+-- A draft may have more patches.
+pub StandsDrafted-more : (before now : Names) (name appended : List ℕ) (ps qs : List Patch) → StandsDrafted before now (record { name = name; appended = appended ++ []; patches = ps })
+    → StandsDrafted before now (record { name = name; appended = appended; patches = ps ++ qs })
+StandsDrafted-more before now name appended ps qs stands =
+    let P : List ℕ → Type 0 = λ w. StandsDrafted before now (record { name = name; appended = w; patches = ps }) in
+    let same = subst P (append-nil appended) stands in
+    record { output = same.output; drafted = record { name = same.drafted.name; content = more same.output same.drafted.content }; names = same.names }
+  where
+    more : (o : Output) → IsStart o.content appended ⊎ IsPatched o.content (record { name = name; appended = appended; patches = ps })
+        → IsStart o.content appended ⊎ IsPatched o.content (record { name = name; appended = appended; patches = ps ++ qs })
+    more o (inl start) = inl start
+    more o (inr is) = inr (record { count = is.count; each = λ k. at k (is.each k) })
+      where
+        at : (k : ℕ) → (get_or o.content k 0 ≡ get_or appended k 0) ⊎ IsPatchedAt k ps → (get_or o.content k 0 ≡ get_or appended k 0) ⊎ IsPatchedAt k (ps ++ qs)
+        at k (inl equal) = inl equal
+        at k (inr patch) = inr (patched-left k ps qs patch)
+
+-- The bytes `back` were appended, and then the Duration was written. The file is named `h`, which doesn't change.
+pub after-duration : (before n0 n1 n2 : Names) (h h1 content back : List ℕ) (dp : List Patch) (size : ℕ) → h1 ≡ h → n0 ≡ with_content before h content → n1 ≡ with_change n0 h (with_appended back)
+    → size ≤ length (content ++ back) → ((b : Names) (w : List ℕ) → size ≤ length w → n1 ≡ with_content b h1 w → n2 ≡ with_content b h1 (patched (w ++ []) dp))
+    → n2 ≡ with_content before h (patched (content ++ back) dp)
+after-duration before n0 n1 n2 h h1 content back dp size same had added long puts =
+    let all = content ++ back in
+    let grown = appended-to before n0 n1 h content back had added in
+    puts before all long (grown ∙ ap (λ name. with_content before name all) (sym same))
+    ∙ ap (λ w. with_content before h1 (patched w dp)) (append-nil all)
+    ∙ ap (λ name. with_content before name (patched all dp)) same

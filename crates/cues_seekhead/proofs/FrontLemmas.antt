@@ -1,5 +1,5 @@
 -- The elements before the Clusters.
-use Rattle.std.proofs.Common.{◌≡◌, ◌≤◌, List, ℕ, ◌+◌, [], ◌∷◌, ◌++◌, length, map, sum_by, All, true, refl, sym, ap, append_assoc, append-nil, ◌∙◌, arith, Bool}
+use Rattle.std.proofs.Common.{◌≡◌, ◌≤◌, Option, List, ℕ, ◌+◌, [], ◌∷◌, ◌++◌, length, map, sum_by, All, true, refl, sym, ap, append_assoc, append-nil, ◌∙◌, arith, Bool}
 use Rattle.std.proofs.lemmas.List.{length-append}
 use Rattle.std.proofs.lemmas.List.Concat.{flat_map-append}
 use Rattle.std.proofs.lemmas.List.Elements.{All-from_recursion, All-append}
@@ -7,12 +7,12 @@ use Rattle.std.specs.List.{AllByRecursion}
 use Rattle.ebml_numbers.specs.Number.{is_id, id_octets}
 use Rattle.mkv_io.specs.LiveFiles.{LiveFiles}
 use Rattle.mkv_schema.specs.declared.ids.TheConstants.{SEGMENT, INFO, TRACKS, ATTACHMENTS, ATTACHED_FILE}
-use Rattle.tree_format.specs.Node.{id_of, IsMaster}
+use Rattle.tree_format.specs.Node.{Node, id_of, IsMaster}
 use Rattle.tree_format.specs.NormalForm.{header_octets}
 use Rattle.output_model.specs.Element.{Element, octets_of, joined}
 use Rattle.output_model.specs.declared.places.Seek.{Seek}
 use Rattle.output_model.specs.SeekHead.{open_area, seeks_from}
-use Rattle.output_model.specs.Document.{ebml_element, tree_element, attachments_elements, front_elements, clusters_at, file_with, unknown_size, opened_with}
+use Rattle.output_model.specs.Document.{ebml_element, info_element, lasting_if, tree_element, attachments_elements, front_elements, clusters_at, file_with, unknown_size, opened_with}
 use Rattle.output_model.specs.declared.attachment.Attachment.{Attachment}
 use Rattle.output_model.specs.Attached.{attached_file}
 use Rattle.output_model.specs.declared.front.Front.{Front}
@@ -21,6 +21,7 @@ use Rattle.cues_seekhead.specs.Front.{front_head, front_seeks, records_of}
 use Rattle.output_model.specs.Front.{front_with}
 use Rattle.cues_seekhead.specs.Places.{Adds, AreIds}
 use Rattle.cues_seekhead.proofs.AttachedLemmas.{attachments-long}
+use Rattle.cues_seekhead.proofs.DurationLemmas.{ending-begun, info-id}
 use Rattle.cues_seekhead.proofs.PlacesLemmas.{Adds-then, seeks_from-append}
 
 -- The parts of an open output are appended in sequence.
@@ -67,6 +68,7 @@ opening-octets files f masters own have =
     ∙ ap (λ w. joined (records_of f) ++ w) (attachments-octets files f.attachments masters own have)
     ∙ sym (flat_map-append octets_of (records_of f) elements)
     ∙ sym (append-nil (joined (records_of f ++ elements))))
+    ∙ ap (λ g. file_with f.webm unknown_size open_area (joined (front_elements g) ++ [])) (sym (ending-begun files f))
 
 pub opening-seeks : (files : LiveFiles) (f : Front) → front_seeks f ≡ seeks_from 256 (front_elements (front_with files f))
 opening-seeks files f =
@@ -114,7 +116,7 @@ more-few position (a ∷ attachments) = omega arith
 -- The IDs of the Seeks are valid, and there are at most three.
 pub front-ids : (f : Front) → id_of f.info ≡ INFO → id_of f.tracks ≡ TRACKS → AreIds (front_seeks f)
 front-ids f is_info is_tracks =
-    let two : AllByRecursion (λ (s : Seek). is_id s.id ≡ true) (seeks_from 256 (records_of f)) = (ap is_id is_info ∙ info-valid, (ap is_id is_tracks ∙ tracks-valid, tt)) in
+    let two : AllByRecursion (λ (s : Seek). is_id s.id ≡ true) (seeks_from 256 (records_of f)) = (ap is_id (info-id f.info (lasting_if f.duration) ∙ is_info) ∙ info-valid, (ap is_id is_tracks ∙ tracks-valid, tt)) in
     let place = 256 + length (joined (records_of f)) in
     All-append (λ (s : Seek). is_id s.id ≡ true) (seeks_from 256 (records_of f)) (attachments_seeks place f.attachments)
     (All-from_recursion (λ (s : Seek). is_id s.id ≡ true) (seeks_from 256 (records_of f)) two)
@@ -127,11 +129,21 @@ front-few f =
 
 -- ---- elements in sequence
 
+-- The Info is appended after its Seek.
+pub info-added : (info : Node) (lasting : Option ℕ) (r r' : List ℕ) (s s' : List Seek) → id_of info ≡ INFO → r ≡ [] → s ≡ []
+    → s' ≡ s ++ record { id = INFO; position = 256 + length r } ∷ [] → r' ≡ r ++ octets_of (info_element info lasting) → Adds 256 (info_element info lasting ∷ []) [] r' [] s'
+info-added info lasting r r' s s' is none empty place octets = record {
+  octets = octets ∙ ap (λ w. w ++ octets_of (info_element info lasting)) none ∙ sym (append-nil (octets_of (info_element info lasting)));
+  places = place ∙ ap (λ w. w ++ record { id = INFO; position = 256 + length r } ∷ []) empty
+      ∙ ap (λ w. record { id = INFO; position = 256 + length w } ∷ []) none
+      ∙ ap (λ id. record { id = id; position = 256 } ∷ []) (sym is ∙ sym (info-id info lasting));
+}
+
 -- Two records are appended, then the header of Attachments.
-pub front-added : (f : Front) (r1 r2 r3 : List ℕ) (s1 s2 s3 : List Seek) → Adds 256 (tree_element f.info ∷ []) [] r1 [] s1 → Adds 256 (tree_element f.tracks ∷ []) r1 r2 s1 s2
+pub front-added : (f : Front) (r1 r2 r3 : List ℕ) (s1 s2 s3 : List Seek) → Adds 256 (info_element f.info (lasting_if f.duration) ∷ []) [] r1 [] s1 → Adds 256 (tree_element f.tracks ∷ []) r1 r2 s1 s2
     → r3 ≡ r2 ++ attachments_header f.attachments → s3 ≡ s2 ++ attachments_seeks (256 + length r2) f.attachments → (r3 ≡ front_head f) × (s3 ≡ front_seeks f)
 front-added f r1 r2 r3 s1 s2 s3 info tracks octets places =
-    let both = Adds-then 256 (tree_element f.info ∷ []) (tree_element f.tracks ∷ []) [] r1 r2 [] s1 s2 info tracks in (
+    let both = Adds-then 256 (info_element f.info (lasting_if f.duration) ∷ []) (tree_element f.tracks ∷ []) [] r1 r2 [] s1 s2 info tracks in (
       octets ∙ ap (λ w. w ++ attachments_header f.attachments) both.octets,
       places ∙ ap (λ ss. ss ++ attachments_seeks (256 + length r2) f.attachments) both.places
           ∙ ap (λ w. seeks_from 256 (records_of f) ++ attachments_seeks (256 + length w) f.attachments) both.octets,

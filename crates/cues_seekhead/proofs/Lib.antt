@@ -4,6 +4,7 @@ pub mod BeginLemmas
 pub mod DraftLemmas
 pub mod EndingLemmas
 pub mod FinishLemmas
+pub mod DurationLemmas
 pub mod LayoutLemmas
 pub mod MadeLemmas
 pub mod OpenLemmas

@@ -1,16 +1,16 @@
 -- An output whose last writes may fail.
-use Rattle.std.specs.Prelude.{◌≡◌, ◌≤◌, ℕ, ◌+◌, ◌-◌, List, [], ◌∷◌, ◌++◌, length, Result, Ok, Err}
+use Rattle.std.specs.Prelude.{◌≡◌, ◌≤◌, ℕ, zero, suc, ◌+◌, ◌-◌, List, [], ◌∷◌, ◌++◌, length, Option, None, Some, unwrap_or, Result, Ok, Err}
 use Rattle.mkv_io.specs.declared.outside.FileId.{FileId}
 use Rattle.mkv_io.specs.Names.{Names, with_content}
 use Rattle.mkv_io.specs.declared.files.Files.{Ghosts}
 use Rattle.mkv_outputs.specs.Outputs.{Output}
 use Rattle.mkv_outputs.specs.Drafts.{Draft, Patch, IsDrafted, patched}
-use Rattle.output_model.specs.Element.{joined}
+use Rattle.output_model.specs.Duration.{duration_element}
+use Rattle.output_model.specs.Element.{joined, octets_of}
 use Rattle.output_model.specs.SeekHead.{area_elements}
 use Rattle.output_model.specs.Document.{Document, seeks_of, elements_behind_area, segment_size, opened}
-use Rattle.cues_seekhead.specs.Front.{body_start}
+use Rattle.cues_seekhead.specs.Front.{body_start, place_of}
 use Rattle.cues_seekhead.specs.declared.ending.Ending.{Ending}
-use Rattle.output_model.specs.declared.TheConstants.{AREA}
 use Rattle.ebml_numbers.specs.Number.{size_octets}
 
 -- In `now` the file of the draft `d` has a content that is possible while it is written. Other names have the content that they have in `before`.
@@ -24,12 +24,24 @@ pub record StandsDrafted (before now : Names) (d : Draft) : Type 0 where
 abbrev pub patches_at : ℕ → List ℕ → List ℕ → List Patch
 patches_at start area size = record { at = start; octets = area } ∷ record { at = start - 8; octets = size } ∷ []
 
--- an output before its size and its area are known, and the two writes of them
+-- the Duration of an output that ends at the tick `end`, at the offset `place` in the Segment's body, which begins at byte `start`. There is none
+-- without a place, nor at the end 0, for which the Void stays.
+abbrev pub duration_patches : ℕ → Option ℕ → ℕ → List Patch
+duration_patches start None end = []
+duration_patches start (Some place) zero = []
+duration_patches start (Some place) (suc n) = record { at = start + place; octets = octets_of (duration_element (suc n)) } ∷ []
+
+-- the last writes of an output over what was appended: its Duration, if it has one, the area, and the Segment's size
+abbrev pub patches_with : ℕ → Option ℕ → ℕ → List ℕ → List ℕ → List Patch
+patches_with start place end area size = duration_patches start place end ++ patches_at start area size
+
+-- an output before its Duration, its area and its size are known, and the writes of them
 abbrev pub draft_of : List ℕ → Document → Draft
 draft_of name d = record {
   name = name;
   appended = opened d;
-  patches = patches_at (body_start d.front.webm) (joined (area_elements (seeks_of d))) (segment_size (length (joined (elements_behind_area d))));
+  patches = patches_with (body_start d.front.webm) (place_of d.front.info d.front.lasting) (unwrap_or d.front.lasting 0)
+      (joined (area_elements (seeks_of d))) (segment_size (length (joined (elements_behind_area d))));
 }
 
 -- From `old` to `new` the bytes `back` were appended to the live file `file`, and then the patches were written. After an error the content is one
@@ -42,6 +54,8 @@ Drafts f file least back patches old new (Err _) =
     (before : Names) (content : List ℕ) → least ≤ length content → f.names old ≡ with_content before (f.holder old file.n) content
     → StandsDrafted before (f.names new) (record { name = f.holder old file.n; appended = content ++ back; patches = patches })
 
--- The last writes of an output were done, whose Segment's body begins at byte `start`.
-abbrev pub DraftsEnd : {S T E : Type 0} → Ghosts S → FileId → ℕ → Ending → S → S → Result T E → Type 0
-DraftsEnd f file start e old new result = Drafts f file (start + AREA) e.back (patches_at start e.area (size_octets e.total 8)) old new result
+-- The last writes `e` of an output were done, whose Segment's body begins at byte `start`. It ends at the tick `end`, and its Duration is at the
+-- offset `place` in that body, if it has one. All of its first `least` bytes were there before.
+abbrev pub DraftsEnd : {S T E : Type 0} → Ghosts S → FileId → ℕ → ℕ → Option ℕ → ℕ → Ending → S → S → Result T E → Type 0
+DraftsEnd f file least start place end e old new result =
+    Drafts f file least e.back (patches_with start place end e.area (size_octets e.total 8)) old new result

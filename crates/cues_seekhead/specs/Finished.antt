@@ -1,5 +1,5 @@
 -- An output with all its Clusters, and its finished file.
-use Rattle.std.specs.Prelude.{◌≡◌, ℕ, List, length, Option, Result, Ok, Err}
+use Rattle.std.specs.Prelude.{◌≡◌, ℕ, List, length, Option, IfSome, Result, Ok, Err}
 use Rattle.mkv_io.specs.Names.{Names, with_content}
 use Rattle.mkv_io.specs.declared.reads.Reads.{Ghosts}
 use Rattle.mkv_io.specs.declared.files.Files as writing
@@ -11,10 +11,12 @@ use Rattle.output_model.specs.Document.{Document, clusters_elements, layout}
 use Rattle.cues_seekhead.specs.OpenOutput.{OpenOutput, StandsOpen}
 use Rattle.cues_seekhead.specs.Draft.{StandsDrafted, draft_of}
 
--- All Clusters of the document `d` are in the output's file, and `d` has its cue points and the given Chapters and Tags.
-pub record IsReady {S : Type 0} (r : Ghosts S) (f : writing.Ghosts S) (before : Names) (d : Document) (files : S) (o : OpenOutput) (its_chapters its_tags : Option Node) : Type 0 where
+-- All Clusters of the document `d` are in the output's file. `d` has its cue points, and the given Chapters and Tags, and ends at the tick `end`, if
+-- it has a Duration.
+pub record IsReady {S : Type 0} (r : Ghosts S) (f : writing.Ghosts S) (before : Names) (d : Document) (files : S) (o : OpenOutput) (end : ℕ) (its_chapters its_tags : Option Node) : Type 0 where
   pub stands : StandsOpen r f before (f.holder files o.file.n) d.front (joined (clusters_elements d.clusters)) files o
   pub cues : d.cues ≡ o.cues
+  pub lasting : IfSome d.front.lasting (λ known. known ≡ end)
   pub chapters : d.chapters ≡ its_chapters
   pub tags : d.tags ≡ its_tags
 
@@ -25,8 +27,8 @@ pub record HoldsLayout (before now : Names) (name : List ℕ) (d : Document) (le
   pub becomes : output_of (draft_of name d) ≡ record { name = name; content = layout d }
 
 -- For each document that is ready, the name has its layout, of the returned length. After an error the content is one of its draft.
-abbrev pub Finishes : {S : Type 0} → Ghosts S → writing.Ghosts S → OpenOutput → Option Node → Option Node → S → S → Result ℕ RemuxEnd → Type 0
-Finishes r f o chapters tags old new (Ok len) =
-    (before : Names) (d : Document) → IsReady r f before d old o chapters tags → HoldsLayout before (f.names new) (f.holder old o.file.n) d len
-Finishes r f o chapters tags old new (Err _) =
-    (before : Names) (d : Document) → IsReady r f before d old o chapters tags → StandsDrafted before (f.names new) (draft_of (f.holder old o.file.n) d)
+abbrev pub Finishes : {S : Type 0} → Ghosts S → writing.Ghosts S → OpenOutput → ℕ → Option Node → Option Node → S → S → Result ℕ RemuxEnd → Type 0
+Finishes r f o end chapters tags old new (Ok len) =
+    (before : Names) (d : Document) → IsReady r f before d old o end chapters tags → HoldsLayout before (f.names new) (f.holder old o.file.n) d len
+Finishes r f o end chapters tags old new (Err _) =
+    (before : Names) (d : Document) → IsReady r f before d old o end chapters tags → StandsDrafted before (f.names new) (draft_of (f.holder old o.file.n) d)

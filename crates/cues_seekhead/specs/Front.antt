@@ -1,11 +1,15 @@
 -- The elements before the Clusters: an EBML header (RFC 8794, section 8.1, EBML Header), and the start of a Segment (RFC 9559, section 4.5, Data
 -- Layout).
-use Rattle.std.specs.Prelude.{◌≡◌, ℕ, ◌+◌, if◌then◌else◌, Bool, List, [], ◌∷◌, ◌++◌, length, sum_by}
-use Rattle.output_model.specs.Element.{Element, joined}
+use Rattle.std.specs.Prelude.{◌≡◌, ℕ, ◌+◌, if◌then◌else◌, Bool, List, [], ◌∷◌, ◌++◌, length, flat_map, take, sum_by, Option}
+use Rattle.std.specs.Option.{option_map}
+use Rattle.tree_format.specs.Node.{Node, children, id_of}
+use Rattle.tree_format.specs.NormalForm.{header_octets, octets}
+use Rattle.output_model.specs.Duration.{duration_element}
+use Rattle.output_model.specs.Element.{Element, joined, octets_of}
 use Rattle.output_model.specs.declared.TheConstants.{AREA}
 use Rattle.output_model.specs.declared.places.Seek.{Seek}
 use Rattle.output_model.specs.SeekHead.{open_area, seeks_from}
-use Rattle.output_model.specs.Document.{tree_element, file_with, unknown_size}
+use Rattle.output_model.specs.Document.{duration_place, info_element, info_with, lasting_if, tree_element, file_with, unknown_size}
 use Rattle.cues_seekhead.specs.Attached.{attached_total, attachments_header, attachments_seeks}
 use Rattle.output_model.specs.declared.front.Front as given
 use Rattle.cues_seekhead.specs.declared.front.Opening.{Opening}
@@ -14,9 +18,20 @@ use Rattle.cues_seekhead.specs.declared.front.Opening.{Opening}
 abbrev pub body_start : Bool → ℕ
 body_start webm = if webm then 48 else 52
 
--- the Info and the Tracks of an output as Elements
+-- the bytes of the Info `info` before the place of its Duration: its header, which counts the Duration, and the children before it
+abbrev pub before_duration : Node → List ℕ
+before_duration info =
+    header_octets (id_of info) (length (info_with info (octets_of (duration_element 0))))
+    ++ flat_map octets (take (duration_place (children info)) (children info))
+
+-- the offset of the Duration from the start of the Segment's body. `info` is the Info, the first Element after the area, and `lasting` is the tick
+-- at which the output ends, if Info has a Duration.
+abbrev pub place_of : Node → Option ℕ → Option ℕ
+place_of info lasting = option_map (λ end. AREA + length (before_duration info)) lasting
+
+-- the Info and the Tracks of an output as Elements, with a Void in the place of a Duration
 abbrev pub records_of : given.Front → List Element
-records_of f = tree_element f.info ∷ tree_element f.tracks ∷ []
+records_of f = info_element f.info (lasting_if f.duration) ∷ tree_element f.tracks ∷ []
 
 -- the bytes of Info and Tracks, and the header of Attachments, if there are attached files
 abbrev pub front_head : given.Front → List ℕ
@@ -26,8 +41,10 @@ front_head f = joined (records_of f) ++ attachments_header f.attachments
 abbrev pub front_seeks : given.Front → List Seek
 front_seeks f = seeks_from AREA (records_of f) ++ attachments_seeks (AREA + length (joined (records_of f))) f.attachments
 
--- `o` has the first bytes of an open output up to its first AttachedFile, the Seeks of the elements before the Clusters, and their length.
+-- `o` has the first bytes of an open output up to its first AttachedFile, the Seeks of the elements before the Clusters, their length, and the place
+-- of the Duration, if there is one.
 pub record IsOpening (f : given.Front) (o : Opening) : Type 0 where
   pub octets : o.octets ≡ file_with f.webm unknown_size open_area (front_head f)
   pub seeks : o.seeks.items ≡ front_seeks f
   pub len : o.len ≡ AREA + length (front_head f) + sum_by attached_total f.attachments
+  pub place : o.place ≡ place_of f.info (lasting_if f.duration)

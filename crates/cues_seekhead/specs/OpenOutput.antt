@@ -1,5 +1,5 @@
 -- An output that is being written.
-use Rattle.std.specs.Prelude.{◌≡◌, ◌≢◌, ◌<◌, ◌≤◌, ℕ, ◌+◌, Bool, List, [], ◌∷◌, ◌++◌, length}
+use Rattle.std.specs.Prelude.{◌≡◌, ◌≢◌, ◌<◌, ◌≤◌, ℕ, ◌+◌, Bool, List, [], ◌∷◌, ◌++◌, length, Option, IfSome}
 use Rattle.mkv_io.specs.declared.outside.FileId.{FileId}
 use Rattle.mkv_io.specs.Names.{Names, with_content}
 use Rattle.mkv_io.specs.Sources.{IsLive, file_size, live_files}
@@ -8,22 +8,24 @@ use Rattle.mkv_io.specs.declared.files.Files as writing
 use Rattle.mkv_schema.specs.declared.ids.TheConstants.{ATTACHED_FILE}
 use Rattle.tree_format.specs.Node.{id_of, IsMaster}
 use Rattle.output_model.specs.declared.attachment.Attachment.{Attachment}
-use Rattle.output_model.specs.declared.TheConstants.{AREA, MAX_CUES}
+use Rattle.output_model.specs.declared.TheConstants.{AREA, DURATION_LEN, MAX_CUES}
 use Rattle.output_model.specs.declared.places.CuePoint.{CuePoint}
 use Rattle.output_model.specs.declared.places.Seek.{Seek}
 use Rattle.output_model.specs.SeekHead.{seeks_from}
 use Rattle.output_model.specs.Document.{Front, front_elements, clusters_at, opened_with}
-use Rattle.cues_seekhead.specs.Front.{body_start}
+use Rattle.cues_seekhead.specs.Front.{body_start, place_of}
 use Rattle.cues_seekhead.specs.Places.{AreIds}
 use Rattle.mkv_outputs.specs.Starts.{ArePrefixes}
 use Rattle.output_model.specs.Front.{front_with}
 use Rattle.output_model.specs.declared.front.Front.{Front as GivenFront}
 
--- the file, whether it is WebM, the length of the Segment's body, the places of the elements before the Clusters, and the cue points
+-- the file, whether it is WebM, the length of the Segment's body, the offset of the Duration in that body, if Info has one, the places of the elements
+-- before the Clusters, and the cue points
 pub record OpenOutput : Type 0 where
   pub file : FileId
   pub webm : Bool
   pub len : ℕ
+  pub place : Option ℕ
   pub seeks : List Seek
   pub cues : List CuePoint
 
@@ -33,6 +35,7 @@ pub record HasBegun (o : OpenOutput) : Type 0 where
   pub seeks : length o.seeks ≤ 3
   pub ids : AreIds o.seeks
   pub area : AREA ≤ o.len
+  pub place : IfSome o.place (λ at. at + DURATION_LEN ≤ o.len)
 
 -- the open output `o` with the cue point `point` after its own
 abbrev pub with_cue : OpenOutput → CuePoint → OpenOutput
@@ -47,10 +50,11 @@ pub record IsOpen {S : Type 0} (r : Ghosts S) (files : S) (o : OpenOutput) : Typ
   pub live : IsLive r files o.file
   pub size : file_size r files o.file ≡ body_start o.webm + o.len
 
--- `o` agrees with an output that has `front` before the Clusters, and the bytes `behind` after that.
+-- `o` agrees with an output that has `front` before the Clusters, and the bytes `behind` after that. No end of the output changes it.
 pub record Knows (front : Front) (behind : List ℕ) (o : OpenOutput) : Type 0 where
   pub webm : o.webm ≡ front.webm
   pub len : o.len ≡ clusters_at front + length behind
+  pub place : o.place ≡ place_of front.info front.lasting
   pub seeks : o.seeks ≡ seeks_from AREA (front_elements front)
 
 -- The output `o` is open, and its file `name` has the Elements `front` and then the bytes `behind`. Other names have the content that they have in

@@ -50,8 +50,8 @@ fn others_len(children: &[Tree]) -> Result<u64, AllocError>
     Ok(total)
 }
 
-// Appends trees in their normal form.
-fn put_children(out: &mut Bytes, children: &[Tree]) -> Result<(), AllocError>
+/// Appends trees in their normal form.
+pub(crate) fn put_children(out: &mut Bytes, children: &[Tree]) -> Result<(), AllocError>
     ensures { OnOk result (out.new ≡ out.old ++ flat_map octets children.now) }
 {
     for child in children {

@@ -9,21 +9,47 @@ ghost use Rattle.mkv_schema.specs.declared.ids.TheConstants.{CHAPTERS, TAGS};
 ghost use Rattle.tree_format.specs.Node.{id_of};
 ghost use Rattle.tree_format.specs.NormalForm.{longest};
 ghost use Rattle.output_model.specs.Element.{joined};
-ghost use Rattle.output_model.specs.declared.TheConstants.{AREA, MAX_CUES};
+ghost use Rattle.output_model.specs.declared.TheConstants.{AREA, DURATION_LEN, MAX_CUES};
 ghost use Rattle.output_model.specs.SeekHead.{area_elements, seeks_from};
 ghost use Rattle.output_model.specs.Document.{back_with};
 ghost use Rattle.cues_seekhead.specs.Places.{AreIds};
-ghost use Rattle.cues_seekhead.specs.Draft.{Drafts, DraftsEnd, patches_at};
+ghost use Rattle.cues_seekhead.specs.Draft.{Drafts, DraftsEnd, duration_patches};
 ghost use Rattle.cues_seekhead.specs.Ending.{IsEnding};
 
 use crate::area::area_octets;
 use crate::back::back_octets;
+use crate::info::duration_octets;
 use crate::places::sized;
 use ebml_numbers::put_size;
 use ebml_tree::Tree;
 use mkv_io::{Bytes, FileId, Files, Reads, RemuxEnd as OutEnd};
 use output_model::{CuePoint, Seek};
 use std::alloc::{AllocError, Global};
+
+// Writes the Duration of an output that ends at the tick `end` over the Void in its place, which is `place` bytes after
+// the offset `start` of the file. Nothing is written without a place, nor if `end` is 0.
+fn put_duration<F: Files>(
+    files: &mut F,
+    file: FileId,
+    start: u64,
+    place: Option<u64>,
+    end: u64,
+) -> Result<(), OutEnd>
+    requires live { IsLive F.Reads files.old file }
+    requires inside { IfSome place (λ at. start + at + DURATION_LEN ≤ file_size F.Reads files.old file) }
+    ensures drafts { Drafts F.Files.own file (file_size F.Reads files.old file) [] (duration_patches start place end) files.old files.new result }
+    ensures only { WritesOnly F.Reads F.Files.own (F.holder files.old file.n ∷ []) files.old files.new }
+    ensures size { file_size F.Reads files.new file ≡ file_size F.Reads files.old file }
+    ensures cause { HasRemuxCause F.Reads F.Files.own files.old files.new result }
+{
+    let Some(place) = place else {
+        return Ok(());
+    };
+    if end > 0 {
+        files.overwrite(file, start + place, &duration_octets(end))?;
+    }
+    Ok(())
+}
 
 /// Bytes of an output's last writes
 #[derive(Drop)]
@@ -60,25 +86,30 @@ impl Ending {
         Ok(Ending { back, area, total })
     }
 
-    /// Appends the elements after the Clusters, and then writes the area and the size. The Segment's body begins at
-    /// byte `start` of the file.
+    /// Appends the elements after the Clusters, and then writes the Duration, the area and the size. The Segment's body
+    /// begins at byte `start` of the file. The Duration is at the offset `place` from there, if there is one, and the
+    /// output ends at the tick `end`.
     pub(crate) fn write<F: Files>(
         &self,
         files: &mut F,
         file: FileId,
         start: u64,
+        place: Option<u64>,
+        end: u64,
     ) -> Result<(), OutEnd>
         requires live { IsLive F.Reads files.old file }
         requires long { start + AREA ≤ file_size F.Reads files.old file }
+        requires inside { IfSome place (λ at. start + at + DURATION_LEN ≤ file_size F.Reads files.old file) }
         requires start { 8 ≤ start }
         requires area { length self.now.area ≡ AREA }
         requires total { self.now.total ≤ longest }
-        ensures drafts { DraftsEnd F.Files.own file start self.now files.old files.new result }
+        ensures drafts { DraftsEnd F.Files.own file (file_size F.Reads files.old file) start place end self.now files.old files.new result }
         ensures only { WritesOnly F.Reads F.Files.own (F.holder files.old file.n ∷ []) files.old files.new }
         ensures cause { HasRemuxCause F.Reads F.Files.own files.old files.new result }
     {
         let size = put_size(self.total, 8);
         files.append(file, self.back.as_slice())?;
+        put_duration(files, file, start, place, end)?;
         files.overwrite(file, start, self.area.as_slice())?;
         files.overwrite(file, start - 8, size.as_slice())?;
         Ok(())

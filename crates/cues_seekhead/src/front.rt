@@ -1,6 +1,6 @@
 //! Elements before the Clusters
 
-ghost use Rattle.std.specs.Prelude.{◌≡◌, ◌+◌, ◌≤◌, ◌++◌, length, sum_by, OnOk, IfOk};
+ghost use Rattle.std.specs.Prelude.{◌≡◌, ◌+◌, ◌≤◌, ◌++◌, length, sum_by, OnOk, IfOk, IfSome};
 ghost use Rattle.ebml_numbers.specs.Number.{id_octets};
 ghost use Rattle.mkv_schema.specs.declared.ids.TheConstants.{SEGMENT, INFO as INFO_ID, TRACKS as TRACKS_ID};
 ghost use Rattle.tree_format.specs.Node.{id_of};
@@ -14,11 +14,12 @@ ghost use Rattle.cues_seekhead.specs.Places.{AreIds};
 
 use crate::area::put_void;
 use crate::attached::attached_len;
+use crate::info::put_info;
 use crate::places::{add_seek, add_tree, sized};
 use crate::written::put_header;
 use mkv_io::Bytes;
 use mkv_schema::ids::{ATTACHMENTS, INFO, TRACKS};
-use output_model::{AREA, Attachment, Front, Seek};
+use output_model::{AREA, Attachment, DURATION_LEN, Front, Seek};
 use std::alloc::{AllocError, Global};
 
 /// Start of an output, which is written first
@@ -30,6 +31,8 @@ pub struct Opening {
     pub seeks: Vec<Seek>,
     /// Length in bytes of the Segment's content before the first Cluster, AttachedFiles included
     pub len: u64,
+    /// Offset in bytes of the Void in the Duration's place from the start of the Segment's body, if there is one
+    pub place: Option<u64>,
 }
 
 const MATROSKA: [u8; 40] = [
@@ -137,13 +140,20 @@ pub fn open_octets(alloc: Global, front: &Front) -> Result<Opening, AllocError>
     ensures ids { IfOk result (λ o. AreIds o.seeks.items) }
     ensures few { IfOk result (λ o. length o.seeks.items ≤ 3) }
     ensures area { IfOk result (λ o. AREA ≤ o.len) }
+    ensures place { IfOk result (λ o. IfSome o.place (λ at. at + DURATION_LEN ≤ o.len)) }
 {
     let mut seeks = Vec::new(alloc);
     let mut rest = Bytes::new(alloc);
-    add_tree(&mut rest, &mut seeks, AREA, &front.info, INFO)?;
+    add_seek(&mut seeks, INFO, AREA, &rest)?;
+    let place = put_info(&mut rest, &front.info, front.duration)?;
     add_tree(&mut rest, &mut seeks, AREA, &front.tracks, TRACKS)?;
     let attached = add_attachments(&mut rest, &mut seeks, AREA, front.attachments.as_slice())?;
     let octets = head_octets(alloc, front.webm, &rest)?;
     let len = AREA + rest.len() as u64 + attached;
-    Ok(Opening { octets, seeks, len })
+    Ok(Opening {
+        octets,
+        seeks,
+        len,
+        place,
+    })
 }

@@ -12,6 +12,7 @@ mod copying;
 mod cues;
 mod ending;
 mod front;
+mod info;
 mod out;
 mod places;
 mod written;

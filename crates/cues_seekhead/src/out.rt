@@ -38,6 +38,8 @@ pub struct OutFile {
     webm: bool,
     // length of the Segment's body up to now
     len: u64,
+    // offset of the Duration's place from the start of the Segment's body, if there is one
+    place: Option<u64>,
     seeks: Vec<Seek>,
     cues: Vec<CuePoint>,
 }
@@ -49,9 +51,9 @@ impl Model for OutFile {
 
     ghost use Rattle.cues_seekhead.specs.OpenOutput.{HasBegun};
 
-    ghost view = { λ o. record { file = o.file; webm = o.webm; len = o.len; seeks = o.seeks.items; cues = o.cues.items } };
+    ghost view = { λ o. record { file = o.file; webm = o.webm; len = o.len; place = o.place; seeks = o.seeks.items; cues = o.cues.items } };
 
-    ghost invariant = { λ o. HasBegun (record { file = o.file; webm = o.webm; len = o.len; seeks = o.seeks.items; cues = o.cues.items }) };
+    ghost invariant = { λ o. HasBegun (record { file = o.file; webm = o.webm; len = o.len; place = o.place; seeks = o.seeks.items; cues = o.cues.items }) };
 }
 
 impl OutFile {
@@ -74,7 +76,12 @@ impl OutFile {
         ensures reads { ReadsUpTo F.Reads files.old files.new (data_octets front.now.attachments) }
     {
         let opening = open_octets(alloc, front)?;
-        let Opening { octets, seeks, len } = opening;
+        let Opening {
+            octets,
+            seeks,
+            len,
+            place,
+        } = opening;
         let file = files.create(name)?;
         match write_front(alloc, files, file, octets.as_slice(), front) {
             Ok(()) => Ok(OutFile {
@@ -82,6 +89,7 @@ impl OutFile {
                 file,
                 webm: front.webm,
                 len,
+                place,
                 seeks,
                 cues: Vec::new(alloc),
             }),
@@ -127,40 +135,43 @@ impl OutFile {
         Ok(())
     }
 
-    /// Appends Cues, Chapters and Tags, writes the SeekHead and the Segment's size into their room, and closes the
-    /// file. Returns the file's length. The file is closed also if it fails.
+    /// Appends Cues, Chapters and Tags, writes the Duration, the SeekHead and the Segment's size into their room, and
+    /// closes the file. The last block ends at the tick `end`, which is the Duration, if the output has one. Returns the
+    /// file's length. The file is closed also if it fails.
     pub fn finish<F: Files>(
         self,
         files: &mut F,
+        end: u64,
         chapters: Option<Tree>,
         tags: Option<Tree>,
     ) -> Result<u64, OutEnd>
         requires open { IsOpen F.Reads files.old self }
         requires chapters { IfSome chapters (λ n. id_of n ≡ CHAPTERS) }
         requires tags { IfSome tags (λ n. id_of n ≡ TAGS) }
-        ensures finishes { Finishes F.Reads F.Files.own self chapters tags files.old files.new result }
+        ensures finishes { Finishes F.Reads F.Files.own self end chapters tags files.old files.new result }
         ensures ended { WritesAndEnds F.Reads F.Files.own self.file files.old files.new }
         ensures cause { HasRemuxCause F.Reads F.Files.own files.old files.new result }
     {
-        self.finish_with(files, &chapters, &tags)
+        self.finish_with(files, end, &chapters, &tags)
     }
 
     /// Finishes the output, like `finish`, with borrowed Chapters and Tags, which several outputs can share.
     pub fn finish_with<F: Files>(
         self,
         files: &mut F,
+        end: u64,
         chapters: &Option<Tree>,
         tags: &Option<Tree>,
     ) -> Result<u64, OutEnd>
         requires open { IsOpen F.Reads files.old self }
         requires chapters { IfSome chapters.now (λ n. id_of n ≡ CHAPTERS) }
         requires tags { IfSome tags.now (λ n. id_of n ≡ TAGS) }
-        ensures finishes { Finishes F.Reads F.Files.own self chapters.now tags.now files.old files.new result }
+        ensures finishes { Finishes F.Reads F.Files.own self end chapters.now tags.now files.old files.new result }
         ensures ended { WritesAndEnds F.Reads F.Files.own self.file files.old files.new }
         ensures cause { HasRemuxCause F.Reads F.Files.own files.old files.new result }
     {
         let id = self.file;
-        let done = self.write_end(files, chapters, tags);
+        let done = self.write_end(files, end, chapters, tags);
         files.close(id);
         done
     }
@@ -169,13 +180,14 @@ impl OutFile {
     fn write_end<F: Files>(
         self,
         files: &mut F,
+        end: u64,
         chapters: &Option<Tree>,
         tags: &Option<Tree>,
     ) -> Result<u64, OutEnd>
         requires open { IsOpen F.Reads files.old self }
         requires chapters { IfSome chapters.now (λ n. id_of n ≡ CHAPTERS) }
         requires tags { IfSome tags.now (λ n. id_of n ≡ TAGS) }
-        ensures finishes { Finishes F.Reads F.Files.own self chapters.now tags.now files.old files.new result }
+        ensures finishes { Finishes F.Reads F.Files.own self end chapters.now tags.now files.old files.new result }
         ensures only { WritesOnly F.Reads F.Files.own (F.holder files.old self.file.n ∷ []) files.old files.new }
         ensures cause { HasRemuxCause F.Reads F.Files.own files.old files.new result }
     {
@@ -184,12 +196,13 @@ impl OutFile {
             file,
             webm,
             len,
+            place,
             seeks,
             cues,
         } = self;
         let ending = Ending::new(alloc, len, seeks, cues.as_slice(), chapters, tags)?;
         let start = body_start(webm);
-        ending.write(files, file, start)?;
+        ending.write(files, file, start, place, end)?;
         Ok(start + ending.total)
     }
 

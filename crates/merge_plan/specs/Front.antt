@@ -7,7 +7,7 @@ use Rattle.output_model.specs.Attached.{with_data}
 use Rattle.meta_records.specs.Attached.{AttachedFile}
 use Rattle.record_changes.specs.Identifiers.{renumbered}
 use Rattle.tree_format.specs.Children.{uint_leaf, set_in}
-use Rattle.output_model.specs.Document.{Front}
+use Rattle.output_model.specs.Document.{Front, lasting_if}
 use Rattle.requests.specs.declared.merge.MergeWords.{MergeWords}
 use Rattle.merge_inputs.specs.Input.{InputRead}
 use Rattle.merge_plan.specs.Plan.{Source}
@@ -47,10 +47,12 @@ attached_length reads = sum_by (λ (i : InputRead). sum_by (λ (a : AttachedFile
 
 -- ---- Elements before the first Cluster
 
--- the Elements before the first Cluster of an unsplit output of the merge `words`, without SegmentUUIDs
+-- the Elements before the first Cluster of an unsplit output of the merge `words`, without SegmentUUIDs. With `--duration`, Info has a Duration, of
+-- an end that isn't known yet.
 abbrev pub front_of : MergeWords → List Source → Front
 front_of words sources = record {
   webm = words.webm;
+  lasting = lasting_if words.duration;
   info = info_of words (reads_of sources);
   tracks = tracks_of_output (reads_of sources);
   attachments = attachments_of sources;

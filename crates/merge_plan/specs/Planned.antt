@@ -76,8 +76,8 @@ GivesRecords words inputs (Err Memory) = ⊤
 -- ---- the plan
 
 -- The plan `p` is the one for the options `words` and the inputs `inputs`. It has the output's name, the rule for cuts, the limits of Clusters, and
--- the segment identifiers. It has the records before and after the Clusters, with the attached files. It has the output tracks, each with its links,
--- the numbers of their inputs, and its rules for cue points and cuts.
+-- the segment identifiers. It has the records before and after the Clusters, with the attached files, and its Info gets a Duration exactly with
+-- `--duration`. It has the output tracks, each with its links, the numbers of their inputs, and its rules for cue points and cuts.
 pub record IsPlanOf (words : MergeWords) (inputs : List Input) (p : MergePlan) : Type 0 where
   pub output : p.output ≡ words.output
   pub split : p.split ≡ split_given words (map read_in inputs)
@@ -86,6 +86,7 @@ pub record IsPlanOf (words : MergeWords) (inputs : List Input) (p : MergePlan) :
   pub link : p.link ≡ words.link
   pub limits : p.limits ≡ limits_of words
   pub front : (f : LiveFiles) → All (IsToldInput f) inputs → front_with f p.front ≡ front_of words (map (source_in f) inputs)
+  pub duration : p.front.duration ≡ words.duration
   pub octets : sum_by (λ (a : Attachment). a.len) p.front.attachments ≡ attached_length (map read_in inputs)
   pub chapters : p.chapters ≡ chapters_of (map read_in inputs)
   pub tags : p.tags ≡ tags_of (map read_in inputs)

@@ -121,6 +121,7 @@ pub fn plan_of(alloc: Global, words: &MergeWords, inputs: &[Input]) -> Result<Me
         lanes: lanes_of(alloc, inputs, words.append_damaged, videos.as_slice())?,
         front: Front {
             webm: words.webm,
+            duration: words.duration,
             info,
             tracks,
             attachments,

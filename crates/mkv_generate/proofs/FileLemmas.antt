@@ -17,7 +17,7 @@ use Rattle.output_model.specs.declared.attachment.Attachment.{Attachment}
 use Rattle.output_model.specs.declared.front.Front as given
 use Rattle.output_model.specs.Front.{front_with}
 use Rattle.output_model.specs.OutputBlock.{OutputBlock}
-use Rattle.output_model.specs.Document.{Document, Front, opened_with}
+use Rattle.output_model.specs.Document.{Document, Front, lasting_if, opened_with}
 use Rattle.output_model.specs.Cued.{is_cue, is_cue_by}
 use Rattle.merge_model.specs.Merged.{in_lane}
 use Rattle.cluster_writer.specs.Gathered.{Gathered, Holds}
@@ -98,7 +98,7 @@ rest-added r f medium n a b c o p o' g h (Err end) ends way = λ before name d b
 
 -- The Elements before the Clusters are the Elements that the code has made.
 pub front-is : (f : LiveFiles) (medium : MediaKind) (front : given.Front) → IsFrontOf medium front → front_with f front ≡ front_of medium
-front-is f medium front is = λ i. record { webm = is.webm i; info = is.info i; tracks = is.tracks i; attachments = map (attached_file f) (is.attachments i) }
+front-is f medium front is = λ i. record { webm = is.webm i; lasting = lasting_if (is.duration i); info = is.info i; tracks = is.tracks i; attachments = map (attached_file f) (is.attachments i) }
 
 -- No byte is read for it.
 pub none-read : (list : List Attachment) (old new : ℕ) → list ≡ [] → new ≤ old + sum_by (λ (a : Attachment). a.len) list → new ≤ old
@@ -110,7 +110,7 @@ none-read list old new none reads =
 pub file-refused : (files : LiveFiles) (medium : MediaKind) (n : ℕ) (name : List ℕ) (front : given.Front) (old new : Names) → IsFrontOf medium front
     → ArePrefixes old new (record { name = name; content = opened_with (front_with files front) [] } ∷ []) → AreWrittenInOrder old new (draft_of name (file_of medium n) ∷ [])
 file-refused files medium n name front old new is part =
-    begun-in_turn old new name (file_of medium n)
+    begun-in_turn old new name (file_of medium n) (front_of medium) 0 refl
     (subst (λ (each : Front). ArePrefixes old new (record { name = name; content = opened_with each [] } ∷ [])) (front-is files medium front is) part)
 
 module _ {S : Type 0} (r : Ghosts S) (f : writing.Ghosts S) (medium : MediaKind) (n : ℕ) (name : List ℕ) (front : given.Front) (a b : S) (o : OpenOutput) (g : Gathered) (is : IsFrontOf medium front) where
@@ -124,7 +124,7 @@ module _ {S : Type 0} (r : Ghosts S) (f : writing.Ghosts S) (medium : MediaKind)
 
   -- All blocks were added, and the file is finished.
   pub file-finished : (c e : S) (o' : OpenOutput) (result : Result ℕ RemuxEnd) → IsOnTheWay r f (f.names a) name medium (file_of medium n) b o g (lane_blocks medium n) → AddsAll {T = Unit {0}} r f medium n b c o o' g (Ok tt)
-      → HoldsOfFiles r f → Finishes r f o' None None c e result → WritesAndEnds r f o'.file c e → Writes (f.names a) (f.names e) name (file_of medium n) result
+      → HoldsOfFiles r f → Finishes r f o' 0 None None c e result → WritesAndEnds r f o'.file c e → Writes (f.names a) (f.names e) name (file_of medium n) result
   file-finished c e o' result begun adds of_files finishes ended =
       let whole = adds (f.names a) name (file_of medium n) refl begun in
-      finishes-all r f (f.names a) name (file_of medium n) c e o' None None result refl refl of_files finishes ended whole.counts whole.has
+      finishes-all r f (f.names a) name (file_of medium n) c e o' 0 None None result tt refl refl of_files finishes ended whole.counts whole.has

@@ -32,13 +32,14 @@ abbrev pub track_of : MediaKind → Node
 track_of medium = master TRACK_ENTRY 0 (nodes_of (
     uint_leaf TRACK_NUMBER 1 ∷ uint_leaf TRACK_UID 1 ∷ uint_leaf TRACK_TYPE (type_of medium) ∷ leaf CODEC_ID 0 (codec_of medium) ∷ []))
 
--- the Elements before the Clusters of the file of the kind `medium`, with 1,000,000 ns per tick
+-- the Elements before the Clusters of the file of the kind `medium`, with 1,000,000 ns per tick and without a Duration
 abbrev pub front_of : MediaKind → Front
-front_of medium = record { webm = false; info = output_info 1000000 []; tracks = output_tracks (track_of medium ∷ []); attachments = [] }
+front_of medium = record { webm = false; lasting = None; info = output_info 1000000 []; tracks = output_tracks (track_of medium ∷ []); attachments = [] }
 
 -- The code's `f` has the Elements before the Clusters of the file of the kind `medium`.
 pub record IsFrontOf (medium : MediaKind) (f : given.Front) : Type 0 where
   pub webm : f.webm ≡ false
+  pub duration : f.duration ≡ false
   pub info : f.info ≡ output_info 1000000 []
   pub tracks : f.tracks ≡ output_tracks (track_of medium ∷ [])
   pub attachments : f.attachments ≡ []

@@ -104,7 +104,7 @@ pub(crate) fn write_file<F: Files>(
     let mut out = OutFile::begin(alloc, files, name, &front)?;
     match add_all(files, &mut out, &mut buffer, medium, n) {
         Ok(()) => {
-            out.finish_with(files, &None, &None)?;
+            out.finish_with(files, 0, &None, &None)?;
             Ok(())
         }
         Err(end) => {

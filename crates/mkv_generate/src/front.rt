@@ -57,6 +57,7 @@ pub(crate) fn front_of(alloc: Global, medium: MediaKind) -> Result<Front, AllocE
     entries.push(track_of(alloc, medium)?)?;
     Ok(Front {
         webm: false,
+        duration: false,
         info: info_of(alloc, SCALE, "")?,
         tracks: tracks_of(alloc, entries)?,
         attachments: List::new(alloc),

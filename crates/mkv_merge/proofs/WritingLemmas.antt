@@ -187,7 +187,7 @@ plan-good {S = S} r f files words ids p is opened prepared =
       records = record {
         info = written.info.id;
         info_master = written.info.master;
-        tracks = written.tracks.id;
+        tracks = record { id = written.tracks.id; sound = written.tracks.sound };
         attached = λ k d below. file-good r f files split p.plan.output p.inputs (get_or p.plan.front.attachments k d) prepared.inputs.good others (written.attachments k d below) (written.files k d below);
         chapters = read-record CHAPTERS p.plan.chapters written.chapters;
         tags = record-id TAGS p.plan.tags written.tags;

@@ -1,10 +1,12 @@
 -- Computed outputs, whose bytes were written down by hand. A wrong definition fails here.
-use Rattle.std.proofs.Common.{◌≡◌, ℕ, pos, negsuc, Bool, ◌&&◌, true, false, List, [], ◌∷◌, ◌++◌, length, map, replicate, codes, None, Some, refl}
+use Rattle.std.proofs.Common.{◌≡◌, ℕ, pos, negsuc, Bool, ◌&&◌, true, false, List, [], ◌∷◌, ◌++◌, ◌+◌, ◌^◌, length, map, replicate, codes, None, Some, refl}
+use Rattle.std.specs.Float.Ieee.{of_int, round, to_bits}
 use Rattle.ebml_numbers.specs.Number.{uint_octets, uint_width, int_width, least_size_width}
 use Rattle.mkv_schema.specs.declared.ids.TheConstants.{INFO, TIMESTAMP_SCALE, MUXING_APP, WRITING_APP, TRACKS, TRACK_ENTRY, TRACK_NUMBER, TRACK_UID, TRACK_TYPE, FLAG_LACING, LANGUAGE, CODEC_ID, ATTACHMENTS, CUES, CHAPTERS, TAGS}
 use Rattle.lacing.specs.declared.kind.Lace.TheVariants as lace
 use Rattle.lacing.specs.Writing.{octets_of_sizes}
 use Rattle.tree_format.specs.Node.{Node, leaf, master, nodes_of}
+use Rattle.output_model.specs.Duration.{duration_element, float_octets}
 use Rattle.output_model.specs.Element.{octets_of, joined, void_element}
 use Rattle.output_model.specs.declared.heads.ClusterLimits.{ClusterLimits}
 use Rattle.output_model.specs.declared.places.Seek.{Seek}
@@ -110,7 +112,7 @@ track uid kind codec = tracks (
 -- an output with one Cluster, and a cue point for each keyframe if `cued` is true
 abbrev output : Node → Bool → List OutputBlock → Document
 output entries cued bs =
-    let front : Front = record { webm = false; info = info; tracks = entries; attachments = [] } in
+    let front : Front = record { webm = false; lasting = None; info = info; tracks = entries; attachments = [] } in
     let cs : List OutputCluster = clusters millis bs in
     record { front = front; clusters = cs; cues = cues_for (λ b. cued && b.key) front cs; chapters = None; tags = None }
 
@@ -166,3 +168,18 @@ void-short = refl
 pub void-long : octets_of (void_element 129) ≡ (0xEC ∷ 0x01 ∷ 0x00 ∷ 0x00 ∷ 0x00 ∷ 0x00 ∷ 0x00 ∷ 0x00 ∷ 0x78 ∷ []) ++ replicate 120 0
 unfolding uint_width least_size_width
 void-long = refl
+
+-- ---- Durations: IEEE 754-2019, section 3.4 (Binary Interchange Format Encodings)
+
+-- 20, and the first whole number that a binary64 can't express, which becomes the even one of its neighbours
+pub duration-20 : octets_of (duration_element 20) ≡ (0x44 ∷ 0x89 ∷ 0x88 ∷ 0x40 ∷ 0x34 ∷ 0x00 ∷ 0x00 ∷ 0x00 ∷ 0x00 ∷ 0x00 ∷ 0x00 ∷ [])
+unfolding uint_width least_size_width of_int round to_bits
+duration-20 = refl
+
+pub duration-even : float_octets (2 ^ 53 + 1) ≡ (0x43 ∷ 0x40 ∷ 0x00 ∷ 0x00 ∷ 0x00 ∷ 0x00 ∷ 0x00 ∷ 0x00 ∷ [])
+unfolding of_int round to_bits
+duration-even = refl
+
+pub duration-up : float_octets (2 ^ 53 + 3) ≡ (0x43 ∷ 0x40 ∷ 0x00 ∷ 0x00 ∷ 0x00 ∷ 0x00 ∷ 0x00 ∷ 0x02 ∷ [])
+unfolding of_int round to_bits
+duration-up = refl

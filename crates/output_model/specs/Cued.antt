@@ -7,7 +7,8 @@ use Rattle.tree_format.specs.Node.{Node}
 use Rattle.output_model.specs.declared.heads.ClusterLimits.{ClusterLimits}
 use Rattle.output_model.specs.OutputBlock.{OutputBlock}
 use Rattle.output_model.specs.Cluster.{clusters}
-use Rattle.output_model.specs.Document.{Front, Document, cues_for}
+use Rattle.output_model.specs.Duration.{durations_of, end_of_blocks}
+use Rattle.output_model.specs.Document.{Front, Document, cues_for, ending_at}
 use Rattle.output_model.specs.declared.rule.CueRule.{CueRule}
 use Rattle.output_model.specs.declared.rule.CueRule.TheVariants.{Never, Key, All}
 
@@ -21,12 +22,13 @@ is_cue_by All key = true
 abbrev pub is_cue : List CueRule → OutputBlock → Bool
 is_cue rules b = is_cue_by (unwrap_or (slice_get rules (b.lane - 1)) Never) b.key
 
--- the output with the given part before its Clusters, the blocks, cue points by the rules, Chapters and Tags
+-- the output with the given part before its Clusters, the blocks, cue points by the rules, Chapters and Tags. Its Duration, if it has one, is the
+-- greatest tick at which one of its blocks ends.
 abbrev pub document_of : ClusterLimits → List CueRule → Front → Option Node → Option Node → List OutputBlock → Document
 document_of limits rules front chapters tags blocks = record {
-  front = front;
+  front = ending_at (end_of_blocks (durations_of limits.scale front.tracks) blocks) front;
   clusters = clusters limits blocks;
-  cues = cues_for (is_cue rules) front (clusters limits blocks);
+  cues = cues_for (is_cue rules) (ending_at (end_of_blocks (durations_of limits.scale front.tracks) blocks) front) (clusters limits blocks);
   chapters = chapters;
   tags = tags;
 }

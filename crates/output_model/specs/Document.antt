@@ -1,22 +1,27 @@
 -- An output and its bytes: RFC 8794, section 8 (EBML Document), and RFC 9559, sections 4.5 (Data Layout), 5.1 (Segment Element) and 6 (Matroska
 -- Element Ordering). The order of the Elements is this project's.
-use Rattle.std.specs.Prelude.{ℕ, ◌+◌, Bool, if◌then◌else◌, List, [], ◌∷◌, ◌++◌, length, map, take, codes, Option, Some, None}
+use Rattle.std.specs.Prelude.{ℕ, zero, suc, ◌+◌, ◌==◌, Bool, not, ◌||◌, if◌then◌else◌, List, [], ◌∷◌, ◌++◌, length, map, flat_map, take, drop, codes, Option, Some, None}
+use Rattle.std.specs.List.{position_or_len}
+use Rattle.std.specs.Option.{option_map}
 use Rattle.ebml_numbers.specs.Number.{all_ones, id_octets, size_octets}
-use Rattle.mkv_schema.specs.declared.ids.TheConstants.{EBML, EBML_VERSION, EBML_READ_VERSION, EBML_MAX_ID_LENGTH, EBML_MAX_SIZE_LENGTH, DOC_TYPE, DOC_TYPE_VERSION, DOC_TYPE_READ_VERSION, SEGMENT, ATTACHMENTS}
-use Rattle.tree_format.specs.Node.{Node, id_of}
-use Rattle.tree_format.specs.NormalForm.{content}
+use Rattle.mkv_schema.specs.declared.ids.TheConstants.{EBML, EBML_VERSION, EBML_READ_VERSION, EBML_MAX_ID_LENGTH, EBML_MAX_SIZE_LENGTH, DOC_TYPE, DOC_TYPE_VERSION, DOC_TYPE_READ_VERSION, SEGMENT, ATTACHMENTS, DURATION, TIMESTAMP_SCALE, SEGMENT_UUID, PREV_UUID, NEXT_UUID}
+use Rattle.tree_format.specs.Node.{Node, leaf, id_of, children, with_children}
+use Rattle.tree_format.specs.NormalForm.{content, octets}
 use Rattle.output_model.specs.Element.{Element, element, uint_element, master_element, octets_of, joined}
 use Rattle.output_model.specs.declared.TheConstants.{AREA, MAX_CUES}
 use Rattle.output_model.specs.declared.places.CuePoint.{CuePoint}
 use Rattle.output_model.specs.declared.places.Seek.{Seek}
 use Rattle.output_model.specs.OutputBlock.{OutputBlock}
+use Rattle.output_model.specs.Duration.{duration_element, float_octets}
 use Rattle.output_model.specs.Cluster.{OutputCluster, cluster_element}
 use Rattle.output_model.specs.Cues.{points_from, cues_elements}
 use Rattle.output_model.specs.SeekHead.{area_elements, open_area, seeks_from}
 
--- the part before the Clusters: whether it is WebM, the Info, the Tracks, and the AttachedFiles, each with its FileData
+-- the part before the Clusters: whether it is WebM; the tick at which the output ends, if its Info has a Duration; the Info without a Duration; the
+-- Tracks; and the AttachedFiles, each with its FileData
 pub record Front : Type 0 where
   pub webm : Bool
+  pub lasting : Option ℕ
   pub info : Node
   pub tracks : Node
   pub attachments : List Node
@@ -42,11 +47,50 @@ ebml_element webm = master_element EBML (
     ∷ uint_element EBML_MAX_ID_LENGTH 4 ∷ uint_element EBML_MAX_SIZE_LENGTH 8
     ∷ element DOC_TYPE (doc_type webm) ∷ uint_element DOC_TYPE_VERSION 4 ∷ uint_element DOC_TYPE_READ_VERSION 2 ∷ [])
 
--- ---- the Elements in the Segment after the area
+-- ---- the Info
 
 -- the tree `n` as an Element in its normal form
 abbrev pub tree_element : Node → Element
 tree_element n = element (id_of n) (content n)
+
+-- The child `n` of Info comes before the Duration: it is the TimestampScale, or an identifier of the Segment or of one beside it.
+abbrev pub is_before_duration : Node → Bool
+is_before_duration n = id_of n == TIMESTAMP_SCALE || id_of n == SEGMENT_UUID || id_of n == PREV_UUID || id_of n == NEXT_UUID
+
+-- the index of the Duration among the children `ns` of an Info, counted from 0: it comes after all first children that come before a Duration
+abbrev pub duration_place : List Node → ℕ
+duration_place ns = position_or_len (λ n. not (is_before_duration n)) ns
+
+-- the body of the Info `info` with the bytes `inside` at the place of its Duration
+abbrev pub info_with : Node → List ℕ → List ℕ
+info_with info inside =
+    flat_map octets (take (duration_place (children info)) (children info))
+    ++ (inside ++ flat_map octets (drop (duration_place (children info)) (children info)))
+
+-- the Info of an output as an Element; `lasting` is the tick at which the output ends, if the Info has a Duration
+abbrev pub info_element : Node → Option ℕ → Element
+info_element info None = tree_element info
+info_element info (Some end) = element (id_of info) (info_with info (octets_of (duration_element end)))
+
+-- the children of an Info with a Duration of the tick `end`, or without one if `end` is 0
+abbrev pub children_lasting : ℕ → List Node → List Node
+children_lasting zero ns = ns
+children_lasting (suc n) ns = take (duration_place ns) ns ++ leaf DURATION 0 (float_octets (suc n)) ∷ drop (duration_place ns) ns
+
+-- the Info of an output as a reader finds it, with the Duration and without the Void in its place; `lasting` is as in `info_element`
+abbrev pub info_told : Node → Option ℕ → Node
+info_told info None = info
+info_told info (Some end) = with_children info (children_lasting end (children info))
+
+-- 0, for an end of the output that isn't known yet, if the Info has a Duration
+abbrev pub lasting_if : Bool → Option ℕ
+lasting_if duration = if duration then Some 0 else None
+
+-- the part before the Clusters of an output that ends at the tick `end`, which only a Duration says
+abbrev pub ending_at : ℕ → Front → Front
+ending_at end f = record f { lasting = option_map (λ known. end) f.lasting }
+
+-- ---- the Elements in the Segment after the area
 
 -- a tree as an Element, or nothing if there is none
 abbrev pub tree_elements : Option Node → List Element
@@ -60,7 +104,7 @@ attachments_elements (n ∷ ns) = master_element ATTACHMENTS (map tree_element (
 
 -- the Elements before the first Cluster, after the area for the SeekHead
 abbrev pub front_elements : Front → List Element
-front_elements f = tree_element f.info ∷ tree_element f.tracks ∷ attachments_elements f.attachments
+front_elements f = info_element f.info f.lasting ∷ tree_element f.tracks ∷ attachments_elements f.attachments
 
 -- the Clusters `cs` as Elements
 abbrev pub clusters_elements : List OutputCluster → List Element
@@ -81,7 +125,7 @@ elements_behind_area d = front_elements d.front ++ (clusters_elements d.clusters
 
 -- ---- offsets in bytes in the Segment
 
--- the offset of the first Cluster in the Segment
+-- the offset of the first Cluster in the Segment, which is the same for every end of the output
 abbrev pub clusters_at : Front → ℕ
 clusters_at f = AREA + length (joined (front_elements f))
 
@@ -117,11 +161,12 @@ layout d =
     let rest = joined (elements_behind_area d) in
     file_with d.front.webm (segment_size (length rest)) (area_elements (seeks_of d)) rest
 
--- an output that is being written, with the bytes `rest` after the part before the Clusters. Its size is unknown, and its area is one Void.
+-- an output that is being written, with the bytes `rest` after the part before the Clusters. Its size is unknown, its area is one Void, and a Void
+-- is in the place of a Duration.
 abbrev pub opened_with : Front → List ℕ → List ℕ
-opened_with f rest = file_with f.webm unknown_size open_area (joined (front_elements f) ++ rest)
+opened_with f rest = file_with f.webm unknown_size open_area (joined (front_elements (ending_at 0 f)) ++ rest)
 
--- an output that is complete except for its Segment's size and its SeekHead. All Clusters and the Elements after them are written, the size is
--- unknown, and the area is one Void.
+-- an output that is complete except for its Segment's size, its SeekHead and its Duration. All Clusters and the Elements after them are written, the
+-- size is unknown, the area is one Void, and a Void is in the place of a Duration.
 abbrev pub opened : Document → List ℕ
 opened d = opened_with d.front (joined (clusters_elements d.clusters) ++ joined (back_elements d))

@@ -17,7 +17,7 @@ use Rattle.output_model.specs.Element.{Element, IsElement, joined}
 use Rattle.output_model.specs.declared.TheConstants.{MAX_LANES}
 use Rattle.output_model.specs.OutputBlock.{OutputBlock}
 use Rattle.output_model.specs.Cluster.{OutputCluster, is_near}
-use Rattle.output_model.specs.Document.{Document, cues_for, layout}
+use Rattle.output_model.specs.Document.{Document, cues_for, info_told, layout}
 
 -- ---- a block
 
@@ -105,7 +105,7 @@ lanes_of d = length (entries_of d.front.tracks)
 -- The document `d` can be written and read back. Its trees and Clusters can, and its cue points belong to some of its blocks. It has at most 2^48
 -- bytes.
 pub record IsSoundDocument (d : Document) : Type 0 where
-  pub info : IsRecord INFO d.front.info
+  pub info : IsRecord INFO (info_told d.front.info d.front.lasting)
   pub scale : 1 ≤ scale_of d.front.info
   pub tracks : AreTracks d.front.tracks
   pub attachments : All IsAttachment d.front.attachments

@@ -9,6 +9,8 @@ use mkv_io::List;
 pub struct Front {
     /// True if the DocType is `webm`, and false if it is `matroska`.
     pub webm: bool,
+    /// True if Info gets a Duration.
+    pub duration: bool,
     pub info: Tree,
     pub tracks: Tree,
     pub attachments: List<Attachment>,

@@ -6,6 +6,7 @@
 //! Element) and 10 (Cluster Blocks). The definitions, which higher crates use, are in `specs/`.
 
 mod attachment;
+mod durations;
 mod element_laws;
 mod front;
 mod heads;
@@ -13,6 +14,7 @@ mod places;
 mod rule;
 
 pub use attachment::Attachment;
+pub use durations::Durations;
 pub use element_laws::{children_are_written, elements_are_read};
 pub use front::Front;
 pub use heads::{ClusterLimits, OutHead};
@@ -25,6 +27,10 @@ pub const MAX_CLUSTER_LEN: u64 = 1 << 20;
 
 /// Length in bytes of the reserved area: a SeekHead and the Void after it.
 pub const AREA: u64 = 256;
+
+/// Length in bytes of a Duration, and of the Void in its place: an ID of two bytes or one, the size, and eight or nine
+/// bytes.
+pub const DURATION_LEN: u64 = 11;
 
 /// Maximum number of cue points of an output.
 pub const MAX_CUES: usize = 1 << 20;

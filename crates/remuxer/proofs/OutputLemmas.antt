@@ -2,7 +2,7 @@
 use Rattle.std.proofs.Common.{◌≡◌, ◌≢◌, ◌≤◌, ◌<◌, ℕ, zero, suc, ◌+◌, Bool, true, false, List, [], ◌∷◌, ◌++◌, All, length, Option, None, Result, Ok, Err, inl, inr, refl, sym, ◌∙◌, ap, ap₂, subst, arith}
 use Rattle.std.proofs.lemmas.List.{take_all}
 use Rattle.std.specs.Prelude.{slice_index_or, if◌then◌else◌}
-use Rattle.std.specs.Option.{option_and_then}
+use Rattle.std.specs.Option.{IfSome, option_and_then, option_map}
 use Rattle.mkv_io.specs.declared.outside.FileId.{FileId}
 use Rattle.mkv_io.specs.Faults.{counted, last_count}
 use Rattle.mkv_io.specs.LiveFiles.{IsSameFile, LiveFiles}
@@ -23,15 +23,19 @@ use Rattle.output_model.specs.Element.{joined}
 use Rattle.output_model.specs.declared.TheConstants.{MAX_CUES}
 use Rattle.output_model.specs.declared.heads.ClusterLimits.{ClusterLimits}
 use Rattle.output_model.specs.declared.places.CuePoint.{CuePoint}
+use Rattle.output_model.specs.Duration.{durations_of, end_of_blocks}
 use Rattle.output_model.specs.Front.{front_with}
 use Rattle.output_model.specs.OutputBlock.{OutputBlock}
 use Rattle.output_model.specs.Cluster.{clusters}
-use Rattle.output_model.specs.Document.{Document, layout, back_elements, clusters_elements, opened, opened_with}
+use Rattle.output_model.specs.Document.{Document, Front, layout, back_elements, clusters_elements, ending_at, lasting_if, opened, opened_with}
+use Rattle.output_model.specs.declared.durations.Durations.{Durations}
+use Rattle.output_model.specs.declared.front.Front.{Front as GivenFront}
 use Rattle.cluster_writer.specs.Gathered.{Gathered, Holds}
 use Rattle.cues_seekhead.specs.Draft.{StandsDrafted, draft_of}
 use Rattle.cues_seekhead.specs.Finished.{Finishes, HoldsLayout, IsReady}
 use Rattle.cues_seekhead.specs.OpenOutput.{IsOpen, OpenOutput, StandsOpen}
 use Rattle.cues_seekhead.proofs.LayoutLemmas.{opened-more}
+use Rattle.cues_seekhead.proofs.OpenLemmas.{StandsOpen-ending, opened-ending}
 use Rattle.cues_seekhead.specs.Made.{MakesFile, WritesAndEnds}
 use Rattle.cues_seekhead.proofs.MadeLemmas.{MakesFile-ended, MakesFile-finished, MakesFile-kept}
 use Rattle.remuxer.specs.Stands.{HasAll, Stands}
@@ -49,11 +53,12 @@ use Rattle.splitter.specs.Sections.{Part}
 use Rattle.record_changes.specs.Cut as chapters
 use Rattle.remux_plan.specs.Parts.{chapters_of, document_with, stretch_of}
 use Rattle.remux_plan.specs.declared.output.OutputSpec.{OutputSpec}
+use Rattle.remuxer.specs.Durations.{durations_for}
 use Rattle.remuxer.specs.Places.{CanGive, part_in}
 use Rattle.remuxer.specs.Output.{CountsPart, FillsPart, Writes, WritesLayout, chapters_cut, chapters_in}
 use Rattle.remuxer.proofs.StepLemmas.{gives-same, part-same, parts-same}
 use Rattle.remuxer.proofs.TakingLemmas.{among-goes, goes-more}
-use Rattle.remuxer.specs.Taking.{CanTake, Goes, GoesOn}
+use Rattle.remuxer.specs.Taking.{CanTake, Goes, GoesOn, end_with}
 use Rattle.remuxer.specs.declared.placed.PlacedBlocks.{PlacedBlocks}
 use Rattle.remuxer.specs.declared.writer.BlockWriter.{BlockWriter}
 
@@ -66,11 +71,17 @@ pub whole-in_turn : (before now : Names) (name : List ℕ) (d : Document) → Wr
 whole-in_turn before now name d writes = record { stand = (let o : Output = record { name = name; content = layout d } in o) ∷ []; drafted = inl (sym writes.becomes); names = writes.names }
 
 -- A failure at the start leaves a content of the draft.
-pub begun-in_turn : (before now : Names) (name : List ℕ) (d : Document) → ArePrefixes before now (record { name = name; content = opened_with d.front [] } ∷ []) → AreWrittenInOrder before now (draft_of name d ∷ [])
-begun-in_turn before now name d stands = record { stand = stands.stand; drafted = step stands.stand stands.begun; names = stands.names }
+pub begun-in_turn : (before now : Names) (name : List ℕ) (d : Document) (front : Front) (end : ℕ) → d.front ≡ ending_at end front → ArePrefixes before now (record { name = name; content = opened_with front [] } ∷ []) → AreWrittenInOrder before now (draft_of name d ∷ [])
+begun-in_turn before now name d front end ends stands = record { stand = stands.stand; drafted = step stands.stand begun; names = stands.names }
   where
     more : List ℕ
     more = joined (clusters_elements d.clusters) ++ joined (back_elements d)
+
+    same : opened_with front [] ≡ opened_with d.front []
+    same = sym (opened-ending end front []) ∙ ap (λ (each : Front). opened_with each []) (sym ends)
+
+    begun : AreBegun stands.stand (record { name = name; content = opened_with d.front [] } ∷ [])
+    begun = subst (λ (bytes : List ℕ). AreBegun stands.stand (record { name = name; content = bytes } ∷ [])) same stands.begun
 
     step : (os : List Output) → AreBegun os (record { name = name; content = opened_with d.front [] } ∷ []) → AreDrafted os (draft_of name d ∷ [])
     step [] begun = tt
@@ -99,18 +110,19 @@ module _ {S : Type 0} (r : Ghosts S) (f : writing.Ghosts S) (before : Names) (na
   }
 
   -- The output has all its Clusters, and is finished.
-  pub finishes-all : (old new : S) (o : OpenOutput) (chapters tags : Option Node) (result : Result ℕ RemuxEnd) → d.chapters ≡ chapters → d.tags ≡ tags → HoldsOfFiles r f → Finishes r f o chapters tags old new result → WritesAndEnds r f o.file old new → (n : Counts) → HasAll r f before name d old o n → Writes before (f.names new) name d result
-  finishes-all old new o chapters tags result its_chapters its_tags of_files finishes ended n all = step result finishes
+  pub finishes-all : (old new : S) (o : OpenOutput) (end : ℕ) (chapters tags : Option Node) (result : Result ℕ RemuxEnd) → IfSome d.front.lasting (λ known. known ≡ end) → d.chapters ≡ chapters → d.tags ≡ tags → HoldsOfFiles r f
+      → Finishes r f o end chapters tags old new result → WritesAndEnds r f o.file old new → (n : Counts) → HasAll r f before name d old o n → Writes before (f.names new) name d result
+  finishes-all old new o end chapters tags result lasting its_chapters its_tags of_files finishes ended n all = step result finishes
     where
       named : f.holder old o.file.n ≡ name
       named = all.stands.holder
 
-      ready : IsReady r f before d old o chapters tags
+      ready : IsReady r f before d old o end chapters tags
       ready =
           let P : List ℕ → Type 0 = λ n. StandsOpen r f before n d.front (joined (clusters_elements d.clusters)) old o in
-          record { stands = subst P (sym named) all.stands; cues = all.cues; chapters = its_chapters; tags = its_tags }
+          record { stands = subst P (sym named) all.stands; cues = all.cues; lasting = lasting; chapters = its_chapters; tags = its_tags }
 
-      step : (answer : Result ℕ RemuxEnd) → Finishes r f o chapters tags old new answer → Writes before (f.names new) name d answer
+      step : (answer : Result ℕ RemuxEnd) → Finishes r f o end chapters tags old new answer → Writes before (f.names new) name d answer
       step (Ok len) ends =
           let P : List ℕ → Type 0 = λ n. HoldsLayout before (f.names new) n d len in
           let holds = subst P named (ends before d ready) in
@@ -144,11 +156,12 @@ module _ {S : Type 0} (r : Ghosts S) (f : writing.Ghosts S) (a b : S) (name : Li
       one (Entries e) opened others = tt
 
   -- The output can take its blocks.
-  pub begun-can : (w : BlockWriter) → w.out.file ≡ file → IsOpen r b w.out → CanTake r f b w p
-  begun-can w same is_open = record {
+  pub begun-can : (w : BlockWriter) → w.out.file ≡ file → IsOpen r b w.out → 1 ≤ w.durations.scale → CanTake r f b w p
+  begun-can w same is_open scale = record {
     is_open = is_open;
     gives = gives-same (live_files r a) (live_files r b) p p gives refl begun-among.ready refl refl;
     apart = subst (λ (id : FileId). IsApart (f.holder b) (f.holder b id.n ∷ []) p.merge) (sym same) begun-apart;
+    scale = scale;
   }
 
   -- At most `more` bytes were read.
@@ -219,6 +232,26 @@ chapters-are o f part cut is = by_split o.split ∙ sym (ap (chapters_in o) is)
     by_split true = refl
     by_split false = refl
 
+-- ---- the end of an output
+
+-- The durations of frames have the output's ticks.
+pub durations-scale : (scale : ℕ) (front : GivenFront) → (durations_for scale front).scale ≡ scale
+durations-scale scale front = by_duration front.duration
+  where
+    by_duration : (asked : Bool) → (if asked then durations_of scale front.tracks else record { scale = scale; frames = [] }).scale ≡ scale
+    by_duration true = refl
+    by_duration false = refl
+
+-- If the document has a Duration, it is the end that was kept.
+lasting-known : (scale : ℕ) (front : GivenFront) (blocks : List OutputBlock) (end : ℕ) → end ≡ end_with (durations_for scale front) 0 blocks
+    → IfSome (option_map (λ known. end_of_blocks (durations_of scale front.tracks) blocks) (lasting_if front.duration)) (λ known. known ≡ end)
+lasting-known scale front blocks end is = by_duration front.duration is
+  where
+    by_duration : (asked : Bool) → end ≡ end_with (if asked then durations_of scale front.tracks else record { scale = scale; frames = [] }) 0 blocks
+        → IfSome (option_map (λ known. end_of_blocks (durations_of scale front.tracks) blocks) (lasting_if asked)) (λ known. known ≡ end)
+    by_duration true last = omega (arith, last)
+    by_duration false last = tt
+
 -- ---- a part in its output
 
 module _ {S : Type 0} (r : Ghosts S) (f : writing.Ghosts S) (o : OutputSpec) (name : List ℕ) (a b : S) (p : PlacedBlocks) (same : left (live_files r b) p.merge ≡ left (live_files r a) p.merge) where
@@ -234,14 +267,18 @@ module _ {S : Type 0} (r : Ghosts S) (f : writing.Ghosts S) (o : OutputSpec) (na
       → Stands r f (f.names a) name o.rules its b out buffer none_counted (part_in (live_files r b) p).blocks
   begun-stands out buffer opened cues holds limits =
       stands-begun r f (f.names a) name its o.rules o.limits b out buffer (part_in (live_files r b) p).blocks
-      (ap (λ (each : Part). clusters o.limits each.blocks) here) cues holds limits opened
+      (ap (λ (each : Part). clusters o.limits each.blocks) here) cues holds limits
+      (StandsOpen-ending r f (f.names a) name (front_with (live_files r a) o.front) (end_of_blocks (durations_of o.limits.scale o.front.tracks) (part_in (live_files r a) p).blocks) [] b out opened)
 
   module _ (c e : S) (w w' : BlockWriter) (p' : PlacedBlocks) (cut : Option Node) (fills : FillsPart r f o b c w w' p p' cut) (stands : Stands r f (f.names a) name o.rules its b w.out w.buffer w.counts (part_in (live_files r b) p).blocks) where
     -- The output was filled, and is finished.
-    pub filled-finishes : (chapters : Option Node) (result : Result ℕ RemuxEnd) → chapters ≡ chapters_in o cut → HoldsOfFiles r f → Finishes r f w'.out chapters o.tags c e result → WritesAndEnds r f w'.out.file c e → Writes (f.names a) (f.names e) name its result
-    filled-finishes chapters result its_chapters of_files finishes ended =
+    pub filled-finishes : (chapters : Option Node) (result : Result ℕ RemuxEnd) → w.durations ≡ durations_for o.limits.scale o.front → w.end ≡ 0 → chapters ≡ chapters_in o cut → HoldsOfFiles r f → Finishes r f w'.out w'.end chapters o.tags c e result → WritesAndEnds r f w'.out.file c e
+        → Writes (f.names a) (f.names e) name its result
+    filled-finishes chapters result durations none its_chapters of_files finishes ended =
         let is : cut ≡ chapters_cut o (part_in (live_files r a) p).start (part_in (live_files r a) p).end = fills.chapters_are ∙ ap (λ (each : Part). chapters_cut o each.start each.end) here in
-        finishes-all r f (f.names a) name its c e w'.out chapters o.tags result (chapters-are o (live_files r a) (part_in (live_files r a) p) cut is ∙ sym its_chapters) refl of_files finishes ended
+        let last : w'.end ≡ end_with (durations_for o.limits.scale o.front) 0 (part_in (live_files r a) p).blocks =
+        fills.end ∙ ap (λ (each : Part). end_with w.durations w.end each.blocks) here ∙ ap₂ (λ (d : Durations) (n : ℕ). end_with d n (part_in (live_files r a) p).blocks) durations none in
+        finishes-all r f (f.names a) name its c e w'.out w'.end chapters o.tags result (lasting-known o.limits.scale o.front (part_in (live_files r a) p).blocks w'.end last) (chapters-are o (live_files r a) (part_in (live_files r a) p) cut is ∙ sym its_chapters) refl of_files finishes ended
         w'.counts (fills.all (f.names a) name its refl stands)
 
     -- The output's counts are right, and the parts after it are left.

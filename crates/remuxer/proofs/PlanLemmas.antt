@@ -100,6 +100,7 @@ module _ {S : Type 0} {r : Ghosts S} {f : writing.Ghosts S} {a : S} {p : MergePl
       few = plan-few;
       drives = ap (λ (ds : List Bool). length ds) it.started.drives ∙ length-map p.lanes (λ (l : PlannedLane). l.drives) ∙ sym count-lanes ∙ sym count-queues;
       scales = lanes-to (λ (l : LaneSeen). l.scale ≡ p.limits.scale) m.queues s.lanes it.begins.lanes (all-scales p.limits.scale p.lanes s.lanes it.started.lanes);
+      scale_some = plan.scale;
       scale = plan.scale_most;
       early = omega arith;
       empty = λ none. refl;

@@ -195,6 +195,7 @@ gives-on f h b b' gives keeps ready drives scale early empty limit = record {
   few = omega (arith, count-kept b.merge.queues b'.merge.queues keeps, gives.few);
   drives = ap (λ (ds : List Bool). length ds) drives ∙ gives.drives ∙ sym (count-kept b.merge.queues b'.merge.queues keeps);
   scales = subst (λ (n : ℕ). All (λ (q : Queue). q.lane.scale ≡ n) b'.merge.queues) (sym scale) (scales-kept b.cuts.scale b.merge.queues b'.merge.queues keeps gives.scales);
+  scale_some = omega (arith, scale, gives.scale_some);
   scale = omega (arith, scale, gives.scale);
   early = early;
   empty = empty;

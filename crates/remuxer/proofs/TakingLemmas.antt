@@ -16,6 +16,7 @@ use Rattle.mkv_io.specs.declared.reads.Reads.{Ghosts}
 use Rattle.mkv_io.specs.declared.files.Files as writing
 use Rattle.mkv_io.proofs.WritingLemmas.{KeepsOthers-then, UsesOnly-standing}
 use Rattle.mkv_io.specs.declared.remux_end.RemuxEnd.{RemuxEnd}
+use Rattle.output_model.specs.Duration.{end_of_block, end_of_blocks}
 use Rattle.output_model.specs.OutputBlock.{OutputBlock}
 use Rattle.output_model.specs.Document.{Document}
 use Rattle.cues_seekhead.specs.OpenOutput.{IsOpen, OpenOutput}
@@ -26,6 +27,7 @@ use Rattle.output_model.specs.Cued.{is_cue}
 use Rattle.remuxer.specs.Stands.{Adds, HasAll, Stands, counted_with}
 use Rattle.remuxer.specs.Stands as runs
 use Rattle.remuxer.proofs.StandsLemmas.{stands-drafted}
+use Rattle.output_model.specs.declared.durations.Durations.{Durations}
 use Rattle.output_model.specs.declared.rule.CueRule.{CueRule}
 use Rattle.cluster_reader.specs.ToldDamages.{ToldDamages}
 use Rattle.lanes.specs.Lane.{LaneSeen}
@@ -47,7 +49,7 @@ use Rattle.remuxer.specs.declared.placed.Ahead.{Ahead}
 use Rattle.remuxer.specs.Places.{CanGive, IsEnd, StandsAhead, StandsAt, ahead_at, ahead_of, block_lent, first_tick, is_same, is_within, lent_ahead, part_in, rest_of_part, split_in, start_in, turns_with}
 use Rattle.remux_plan.specs.declared.output.OutputSpec.{OutputSpec}
 use Rattle.remuxer.specs.Output.{Ends, FillsPart, chapters_cut}
-use Rattle.remuxer.specs.Taking.{BeginsNone, CanTake, Goes, GoesOn, IsOver, Leaves, StaysDraft, StaysOnTheWay, TakesNext, TakesSome, WritesInto, left_of_part}
+use Rattle.remuxer.specs.Taking.{BeginsNone, CanTake, Goes, GoesOn, IsOver, Leaves, StaysDraft, StaysOnTheWay, TakesNext, TakesSome, WritesInto, end_with, left_of_part}
 use Rattle.remuxer.specs.declared.placed.PlacedBlocks.{PlacedBlocks}
 use Rattle.remuxer.specs.declared.writer.BlockWriter.{BlockWriter}
 use Rattle.remuxer.proofs.PartLemmas.{is-end}
@@ -80,6 +82,7 @@ module _ {S : Type 0} (r : Ghosts S) (f : writing.Ghosts S) (old new : S) (read 
   pub read-writes : {T : Type 0} (w : BlockWriter) (done : T) → IsOpen r old w.out → WritesInto r f old new w w (Ok done)
   read-writes w done is_open = record {
     file = refl;
+    durations = refl;
     is_open = record {
       live = ap (λ (s : LiveFiles). s.live w.out.file.n) files-same ∙ is_open.live;
       size = ap (λ (s : LiveFiles). s.size w.out.file.n) files-same ∙ is_open.size;
@@ -133,6 +136,13 @@ counted-few n k = grind arith
 few-more : (n m k : ℕ) → m ≡ counted n k → m ≤ last_count
 few-more n m k is = let few = counted-few n k in omega (arith, is, few)
 
+-- The greatest end is found one block at a time.
+later-end : (d : Durations) (end : ℕ) (b : OutputBlock) (bs : List OutputBlock) → end_with d (end_with d end (b ∷ [])) bs ≡ end_with d end (b ∷ bs)
+later-end d end b bs = latest end (end_of_block d b) (end_of_blocks d bs)
+  where
+    latest : (x y z : ℕ) → max (max x (max y 0)) z ≡ max x (max y z)
+    latest x y z = omega arith
+
 -- A block of the current part begins none.
 within-begins : (o : Option Ahead) → is_within o ≡ true → BeginsNone o
 within-begins None is = absurd (cc)
@@ -168,14 +178,15 @@ module _ {S : Type 0} (r : Ghosts S) (f : writing.Ghosts S) (rules : List CueRul
         read-drafted r f rules b c w' others read before name d (takes others before name d (subst P first-left stands))
 
     -- The next one was read.
-    pub some-next : (p' : PlacedBlocks) → left (live_files r b) p.merge ≡ left (live_files r a) p.merge → w'.blocks ≡ counted w.blocks 1 → Leaves (live_files r b) (live_files r c) p p' → TakesSome r f rules n a c w w' p p'
-    some-next p' same count leaves =
+    pub some-next : (p' : PlacedBlocks) → left (live_files r b) p.merge ≡ left (live_files r a) p.merge → w'.blocks ≡ counted w.blocks 1 → w'.durations ≡ w.durations → w'.end ≡ end_with w.durations w.end (in_part start x ∷ [])
+        → Leaves (live_files r b) (live_files r c) p p' → TakesSome r f rules n a c w w' p p'
+    some-next p' same count durations end leaves =
         let rest = rest_of_part (live_files r c) p' in
         let is : rest_of_part (live_files r a) p ≡ x ∷ rest = sym (rest-same (live_files r a) (live_files r b) p same) ∙ leaves.rest in_it ∙ ap (λ (first : List OutputBlock). first ++ rest) one in
+        let first : left_of_part (live_files r a) n p ≡ in_part start x ∷ map (in_part n) rest = ap (map (in_part n)) is ∙ ap (λ (k : ℕ). in_part k x ∷ map (in_part n) rest) (sym starts) in
         record {
           stands = λ before name d stands.
               let P : List OutputBlock → Type 0 = λ bs. Stands r f before name rules d a w.out w.buffer w.counts bs in
-              let first = ap (map (in_part n)) is ∙ ap (λ (k : ℕ). in_part k x ∷ map (in_part n) rest) (sym starts) in
               stands-read r f b c read before name rules d w'.out w'.buffer w'.counts (map (in_part n) rest) (takes (map (in_part n) rest) before name d (subst P first stands));
           behind = leaves.behind in_it ∙ behind-same (live_files r a) (live_files r b) p same;
           parts = leaves.parts (within-begins p.ahead in_it) ∙ parts-same (live_files r a) (live_files r b) p same;
@@ -183,6 +194,9 @@ module _ {S : Type 0} (r : Ghosts S) (f : writing.Ghosts S) (rules : List CueRul
               ap (λ (k : ℕ). counted k (length rest)) count ∙ counted-next w.blocks (length rest)
               ∙ sym (ap (λ (bs : List OutputBlock). counted w.blocks (length bs)) is ∙ ap (counted w.blocks) (let more : length (x ∷ rest) ≡ 1 + length rest = omega arith in more));
           few = λ le. few-more w.blocks w'.blocks 1 count;
+          end =
+              ap₂ (λ (d : Durations) (k : ℕ). end_with d k (map (in_part n) rest)) durations end ∙ later-end w.durations w.end (in_part start x) (map (in_part n) rest)
+              ∙ ap (end_with w.durations w.end) (sym first);
         }
 
 -- ---- turns
@@ -202,14 +216,15 @@ least-turns n (Some a) = omega arith
 -- ---- after some calls
 
 -- The output can take more blocks.
-pub can-again : {S : Type 0} (r : Ghosts S) (f : writing.Ghosts S) (a b : S) (w w' : BlockWriter) (p p' : PlacedBlocks) → CanTake r f a w p → w'.out.file ≡ w.out.file → IsOpen r b w'.out → KeepsOthers r f (f.holder a w.out.file.n ∷ []) a b → GoesOn r 0 a b p p' → CanTake r f b w' p'
-can-again r f a b w w' p p' can file is_open kept goes =
+pub can-again : {S : Type 0} (r : Ghosts S) (f : writing.Ghosts S) (a b : S) (w w' : BlockWriter) (p p' : PlacedBlocks) → CanTake r f a w p → {T : Type 0} (done : T) → WritesInto r f a b w w' (Ok done) → GoesOn r 0 a b p p' → CanTake r f b w' p'
+can-again r f a b w w' p p' can done writes goes =
     let P : List ℕ → Type 0 = λ name. IsApart (f.holder b) (name ∷ []) p'.merge in
-    let named : f.holder b w'.out.file.n ≡ f.holder a w.out.file.n = ap (λ id. f.holder b id.n) file ∙ kept.holders w.out.file.n can.is_open.live in
+    let named : f.holder b w'.out.file.n ≡ f.holder a w.out.file.n = ap (λ id. f.holder b id.n) writes.file ∙ writes.kept.holders w.out.file.n can.is_open.live in
     record {
-      is_open = is_open;
+      is_open = writes.is_open;
       gives = goes.gives;
-      apart = subst P (sym named) (apart-same (f.holder b) (f.holder a w.out.file.n ∷ []) p.merge p'.merge goes.lanes (apart-kept r f (f.holder a w.out.file.n ∷ []) a b p.merge kept can.gives.ready can.apart));
+      apart = subst P (sym named) (apart-same (f.holder b) (f.holder a w.out.file.n ∷ []) p.merge p'.merge goes.lanes (apart-kept r f (f.holder a w.out.file.n ∷ []) a b p.merge writes.kept can.gives.ready can.apart));
+      scale = let some = can.scale in let same = ap (λ (d : Durations). d.scale) writes.durations in omega (arith, some, same);
     }
 
 -- Two calls make one.
@@ -241,11 +256,12 @@ some-then r f rules start a b c w v u l m n first next = record {
   parts = next.parts ∙ first.parts;
   count = next.count ∙ first.count;
   few = λ le. next.few (first.few le);
+  end = next.end ∙ first.end;
 }
 
 -- No block was taken.
 pub some-none : {S : Type 0} (r : Ghosts S) (f : writing.Ghosts S) (rules : List CueRule) (start : ℕ) (a : S) (w : BlockWriter) (p : PlacedBlocks) → TakesSome r f rules start a a w w p p
-some-none r f rules start a w p = record { stands = λ before name d stands. stands; behind = refl; parts = refl; count = refl; few = λ le. le }
+some-none r f rules start a w p = record { stands = λ before name d stands. stands; behind = refl; parts = refl; count = refl; few = λ le. le; end = refl }
 
 -- ---- all output tracks have ended
 
@@ -304,6 +320,7 @@ writes-then r f a b c w v u done result is_open first next =
     let P : List ℕ → Type 0 = λ name. KeepsOthers r f (name ∷ []) b c in
     record {
       file = next.file ∙ first.file;
+      durations = next.durations ∙ first.durations;
       is_open = next.is_open;
       kept = KeepsOthers-then r f (f.holder a w.out.file.n ∷ []) a b c first.kept (subst P named next.kept);
     }
@@ -334,10 +351,14 @@ module _ {S : Type 0} (r : Ghosts S) (f : writing.Ghosts S) (o : OutputSpec) (ru
       let L : List OutputBlock → Type 0 = λ bs. Stands r f before name rules d b v.out v.buffer v.counts (map (in_part (start_of p.cuts)) bs) in
       subst Q are (subst L (rest-none (live_files r b) p' over.behind) (taken.stands before name d (subst P (sym are) stands)))
 
+  max-zero : (n : ℕ) → max n 0 ≡ n
+  max-zero n = omega arith
+
   -- The last Cluster is written.
   pub fills-part : (c : S) (u : BlockWriter) (start : ℕ) (chapters : Option Node) (end : Option ℕ) → start ≡ start_of p.cuts → end ≡ option_map (max start) (first_tick (lent_ahead p')) → chapters ≡ chapters_cut o start end
-      → left (live_files r c) p'.merge ≡ left (live_files r b) p'.merge → runs.Ends {T = Unit {0}} {E = RemuxEnd} r f b c v.out u.out v.buffer (Ok tt) → u.blocks ≡ v.blocks → u.counts ≡ v.counts → FillsPart r f o a c w u p p' chapters
-  fills-part c u start chapters end starts at cut same ends blocks counts = record {
+      → left (live_files r c) p'.merge ≡ left (live_files r b) p'.merge → runs.Ends {T = Unit {0}} {E = RemuxEnd} r f b c v.out u.out v.buffer (Ok tt) → u.blocks ≡ v.blocks → u.counts ≡ v.counts → u.end ≡ v.end
+      → FillsPart r f o a c w u p p' chapters
+  fills-part c u start chapters end starts at cut same ends blocks counts lasts = record {
     all = λ before name d cues stands.
         subst (HasAll r f before name d c u.out) (sym counts) (ends before name o.rules d v.counts (all-taken before name d stands) cues);
     chapters_are =
@@ -349,6 +370,8 @@ module _ {S : Type 0} (r : Ghosts S) (f : writing.Ghosts S) (o : OutputSpec) (ru
         ∙ ap (counted w.blocks) (sym (length-map (rest_of_part (live_files r a) p) (in_part (start_of p.cuts))));
     behind = parts-same (live_files r b) (live_files r c) p' same ∙ taken.parts;
     few = λ le. let most = taken.few le in omega (arith, blocks, most);
+    end =
+        lasts ∙ sym (max-zero v.end) ∙ sym (ap (λ (bs : List OutputBlock). end_with v.durations v.end (map (in_part (start_of p.cuts)) bs)) (rest-none (live_files r b) p' over.behind)) ∙ taken.end;
   }
 
   -- The last Cluster couldn't be written.

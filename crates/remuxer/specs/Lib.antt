@@ -1,4 +1,5 @@
 pub mod Info
+pub mod Durations
 pub mod Places
 pub mod Taking
 pub mod Output

@@ -18,6 +18,7 @@ use Rattle.mkv_outputs.specs.Drafts.{Draft, AreWrittenInOrder, output_of, output
 use Rattle.mkv_outputs.specs.Outputs.{Output, with_outputs}
 use Rattle.mkv_schema.specs.declared.ids.TheConstants.{INFO, TRACKS, CHAPTERS, TAGS}
 use Rattle.tree_format.specs.Node.{IsMaster, Node, id_of}
+use Rattle.tree_format.specs.Standing.{IsSoundOf}
 use Rattle.ebml_tree.specs.Building.{IsRead}
 use Rattle.record_changes.specs.Cut.{cut}
 use Rattle.output_model.specs.declared.attachment.Attachment.{Attachment}
@@ -38,18 +39,19 @@ use Rattle.remux_plan.specs.declared.output.OutputSpec.{OutputSpec}
 use Rattle.remux_plan.specs.declared.summary.Written.{Written}
 use Rattle.remuxer.specs.Places.{CanGive, IsPartBegun, IsFresh, part_in, parts_left, split_in, turns}
 use Rattle.remuxer.specs.Stands.{AreCounts}
-use Rattle.remuxer.specs.Taking.{CanTake, GetsAll, IsOver, StaysDraft, told_by}
+use Rattle.remuxer.specs.Taking.{CanTake, GetsAll, IsOver, StaysDraft, end_with, told_by}
 use Rattle.remuxer.specs.declared.output.WrittenPart.{WrittenPart}
 use Rattle.remuxer.specs.declared.placed.PlacedBlocks.{PlacedBlocks}
 use Rattle.remuxer.specs.declared.writer.BlockWriter.{BlockWriter}
 
 -- ---- preconditions
 
--- The elements outside the Clusters of an output have the right IDs, the Chapters can be read, and the attachments can be attached.
+-- The elements outside the Clusters of an output have the right IDs, and the Tracks are valid. The Chapters can be read, and the attachments can be
+-- attached.
 pub record HasRecords {S : Type 0} (r : Ghosts S) (f : writing.Ghosts S) (files : S) (name : List ℕ) (front : Front) (its_chapters its_tags : Option Node) : Type 0 where
   pub info : id_of front.info ≡ INFO
   pub info_master : IsMaster front.info
-  pub tracks : id_of front.tracks ≡ TRACKS
+  pub tracks : IsSoundOf TRACKS front.tracks
   pub attached : All (CanAttach r f files name) front.attachments
   pub chapters : IfSome its_chapters (IsRead CHAPTERS)
   pub tags : IfSome its_tags (λ n. id_of n ≡ TAGS)
@@ -117,13 +119,14 @@ pub record CanFill {S : Type 0} (r : Ghosts S) (f : writing.Ghosts S) (files : S
   pub scale : b.cuts.scale ≡ o.limits.scale
   pub chapters : IfSome o.chapters (IsRead CHAPTERS)
 
--- The output in `w` has all its Clusters in `w'`, with the blocks of the current part of `b`. Its Chapters are `chapters`, and `b'` has the later
--- parts left.
+-- The output in `w` has all its Clusters in `w'`, with the blocks of the current part of `b`, and knows the tick at which the last of them ends. Its
+-- Chapters are `chapters`, and `b'` has the later parts left.
 pub record FillsPart {S : Type 0} (r : Ghosts S) (f : writing.Ghosts S) (o : OutputSpec) (old new : S) (w w' : BlockWriter) (b b' : PlacedBlocks) (chapters : Option Node) : Type 0 where
   pub all : GetsAll r f o.rules (part_in (live_files r old) b).blocks old new w w'
   pub chapters_are : chapters ≡ chapters_cut o (part_in (live_files r old) b).start (part_in (live_files r old) b).end
   pub count : counted w'.blocks 0 ≡ counted w.blocks (length (part_in (live_files r old) b).blocks)
   pub few : w.blocks ≤ last_count → w'.blocks ≤ last_count
+  pub end : w'.end ≡ end_with w.durations w.end (part_in (live_files r old) b).blocks
   pub behind : parts_left (live_files r new) b' ≡ parts_left (live_files r old) b
 
 -- The output was filled as `FillsPart` requires. After an error its content is one that its draft may have.

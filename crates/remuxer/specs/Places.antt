@@ -140,6 +140,7 @@ pub record CanGive (f : LiveFiles) (b : PlacedBlocks) : Type 0 where
   pub few : length b.merge.queues ≤ MAX_LANES
   pub drives : length b.drives ≡ length b.merge.queues
   pub scales : All (λ (q : Queue). q.lane.scale ≡ b.cuts.scale) b.merge.queues
+  pub scale_some : 1 ≤ b.cuts.scale
   pub scale : b.cuts.scale ≤ MAX_SCALE
   pub early : start_of b.cuts * b.cuts.scale < 2 ^ 64
   pub empty : is_none b.cuts.start ≡ true → b.cuts.load ≡ 0

@@ -1,5 +1,5 @@
 -- An output that gets the blocks of a part, and the effect of a call on both.
-use Rattle.std.specs.Prelude.{◌≡◌, ◌≤◌, ℕ, ◌+◌, true, false, ◌&&◌, if◌then◌else◌, is_none, is_some, List, [], ◌∷◌, ◌++◌, length, map, Option, Some, None, Result, Ok, Err, OnOk}
+use Rattle.std.specs.Prelude.{◌≡◌, ◌≤◌, ℕ, ◌+◌, max, true, false, ◌&&◌, if◌then◌else◌, is_none, is_some, List, [], ◌∷◌, ◌++◌, length, map, Option, Some, None, Result, Ok, Err, OnOk}
 use Rattle.mkv_io.specs.Faults.{counted, last_count}
 use Rattle.mkv_io.specs.LiveFiles.{LiveFiles}
 use Rattle.mkv_io.specs.Names.{Names}
@@ -9,6 +9,8 @@ use Rattle.mkv_io.specs.declared.reads.Reads.{Ghosts}
 use Rattle.mkv_io.specs.declared.files.Files as writing
 use Rattle.mkv_io.specs.declared.remux_end.RemuxEnd.{RemuxEnd}
 use Rattle.output_model.specs.OutputBlock.{OutputBlock}
+use Rattle.output_model.specs.Duration.{end_of_blocks}
+use Rattle.output_model.specs.declared.durations.Durations.{Durations}
 use Rattle.output_model.specs.Document.{Document, cues_for}
 use Rattle.cluster_writer.specs.Gathered.{HoldsSmall}
 use Rattle.cues_seekhead.specs.OpenOutput.{IsOpen}
@@ -29,17 +31,20 @@ use Rattle.remuxer.specs.declared.placed.PlacedBlocks.{PlacedBlocks}
 use Rattle.remuxer.specs.declared.writer.BlockWriter.{BlockWriter}
 use Rattle.lanes.specs.Lane.{LaneSeen}
 
--- The output in `w` can get blocks of `b`. Its file is open, `b` can give blocks, and no file of a link has its name.
+-- The output in `w` can get blocks of `b`. Its file is open, `b` can give blocks, no file of a link has its name, and a tick isn't 0 nanoseconds.
 pub record CanTake {S : Type 0} (r : Ghosts S) (f : writing.Ghosts S) (files : S) (w : BlockWriter) (b : PlacedBlocks) : Type 0 where
   pub is_open : IsOpen r files w.out
   pub gives : CanGive (live_files r files) b
   pub apart : IsApart (f.holder files) (f.holder files w.out.file.n ∷ []) b.merge
+  pub scale : 1 ≤ w.durations.scale
 
 -- ---- file of the output
 
--- The output's file is the same in `w'` as in `w`, and is still open unless the call failed. From `old` to `new` files of other names are unchanged.
+-- The output's file and the durations of its frames are the same in `w'` as in `w`. The file is still open unless the call failed. From `old` to
+-- `new` files of other names are unchanged.
 pub record WritesInto {S T : Type 0} (r : Ghosts S) (f : writing.Ghosts S) (old new : S) (w w' : BlockWriter) (result : Result T RemuxEnd) : Type 0 where
   pub file : w'.out.file ≡ w.out.file
+  pub durations : w'.durations ≡ w.durations
   pub is_open : OnOk result (IsOpen r new w'.out)
   pub kept : KeepsOthers r f (f.holder old w.out.file.n ∷ []) old new
 
@@ -80,6 +85,15 @@ TakesLent r f rules start k lane old new w w' result = TakesNext r f rules (lent
 abbrev pub TakesMore : {T : Type 0} → ℕ → BlockWriter → BlockWriter → Result T RemuxEnd → Type 0
 TakesMore n w w' result = OnOk result (w'.blocks ≡ counted w.blocks n)
 
+-- the tick at which the last of the blocks `blocks` ends, or `end` if that is later; `d` has the durations of frames
+abbrev pub end_with : Durations → ℕ → List OutputBlock → ℕ
+end_with d end blocks = max end (end_of_blocks d blocks)
+
+-- The output `w` got the block `b` and became `w'`, unless the call failed. Its end is then the tick at which `b` ends, or its earlier end if that is
+-- later.
+abbrev pub EndsAfter : {T : Type 0} → OutputBlock → BlockWriter → BlockWriter → Result T RemuxEnd → Type 0
+EndsAfter b w w' result = OnOk result (w'.end ≡ end_with w.durations w.end (b ∷ []))
+
 -- the blocks that `b` has left of a part that starts at the tick `start`, with their ticks in the part
 abbrev pub left_of_part : LiveFiles → ℕ → PlacedBlocks → List OutputBlock
 left_of_part f start b = map (in_part start) (rest_of_part f b)
@@ -91,6 +105,7 @@ pub record TakesSome {S : Type 0} (r : Ghosts S) (f : writing.Ghosts S) (rules :
   pub parts : parts_left (live_files r new) b' ≡ parts_left (live_files r old) b
   pub count : counted w'.blocks (length (rest_of_part (live_files r new) b')) ≡ counted w.blocks (length (rest_of_part (live_files r old) b))
   pub few : w.blocks ≤ last_count → w'.blocks ≤ last_count
+  pub end : end_with w'.durations w'.end (left_of_part (live_files r new) start b') ≡ end_with w.durations w.end (left_of_part (live_files r old) start b)
 
 -- Some blocks of the part were written, as `TakesSome` requires. After an error the content is one that the draft may have.
 abbrev pub TakesTold : {S T : Type 0} → Ghosts S → writing.Ghosts S → List CueRule → ℕ → S → S → BlockWriter → BlockWriter → PlacedBlocks → PlacedBlocks → Result T RemuxEnd → Type 0

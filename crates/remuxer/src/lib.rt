@@ -4,6 +4,7 @@
 //! for each part. Some of them get a cue point.
 
 mod counts;
+mod durations;
 mod info;
 mod merging;
 mod output;

@@ -11,6 +11,7 @@ ghost use Rattle.remuxer.specs.Taking.{Goes, IsOver, WritesInto};
 ghost use Rattle.remuxer.specs.Output.{CanFill, CanWrite, Fills, FindsWritten, WritesPart, chapters_cut, chapters_in, data_of};
 
 use crate::counts::Counts;
+use crate::durations::durations_for;
 use crate::placed::PlacedBlocks;
 use crate::run::add_rest;
 use crate::writer::BlockWriter;
@@ -105,6 +106,7 @@ pub(crate) fn write_output<F: Files>(
     ensures cause { HasRemuxCause F.Reads F.Files.own files.old files.new result }
 {
     let buffer = ClusterBuf::new(alloc, spec.limits)?;
+    let durations = durations_for(alloc, spec.limits.scale, &spec.front)?;
     let out = OutFile::begin(alloc, files, name, &spec.front)?;
     let mut writer = BlockWriter {
         out,
@@ -114,6 +116,8 @@ pub(crate) fn write_output<F: Files>(
             clusters: 0,
             cues: 0,
         },
+        durations,
+        end: 0,
     };
     match fill(alloc, files, spec, blocks, &mut writer) {
         Ok(part) => {
@@ -122,7 +126,9 @@ pub(crate) fn write_output<F: Files>(
                 counts: writer.counts,
             };
             let chapters = chapters_in(spec, &part);
-            writer.out.finish_with(files, chapters, &spec.tags)?;
+            writer
+                .out
+                .finish_with(files, writer.end, chapters, &spec.tags)?;
             Ok(written)
         }
         Err(end) => {

@@ -1,6 +1,6 @@
 //! Blocks of a part that are written to an output, in sequence
 
-ghost use Rattle.std.specs.Prelude.{◌≡◌, ◌+◌, ◌<◌, OnOk};
+ghost use Rattle.std.specs.Prelude.{◌≡◌, ◌+◌, ◌<◌, ◌≤◌, OnOk};
 ghost use Rattle.std.specs.List.{slice_get};
 ghost use Rattle.std.specs.Option.{unwrap_or};
 ghost use Rattle.mkv_io.specs.Ends.{HasRemuxCause};
@@ -11,6 +11,7 @@ ghost use Rattle.lanes.specs.Lane.{lent};
 ghost use Rattle.splitter.specs.Sections.{in_part};
 ghost use Rattle.cluster_writer.specs.Lent.{CanBePut, block_of};
 ghost use Rattle.output_model.specs.Cued.{is_cue_by};
+ghost use Rattle.output_model.specs.Duration.{end_of_block};
 ghost use Rattle.output_model.specs.declared.rule.CueRule.TheVariants as cue_rule;
 
 use crate::counts::Counts;
@@ -20,7 +21,7 @@ use cluster_writer::{BlockRef, ClusterBuf};
 use cues_seekhead::OutFile;
 use lanes::Lane;
 use mkv_io::{Files, Reads, RemuxEnd as OutEnd};
-use output_model::CueRule;
+use output_model::{CueRule, Durations};
 
 // Checks whether a block of the output track `k`, counted from 0, gets a cue point. Without a rule it gets none.
 fn is_cued(rules: &[CueRule], k: usize, key: bool) -> bool
@@ -53,20 +54,36 @@ fn lent_by(lane: &Lane, k: usize, start: u64) -> BlockRef<'_>
     }
 }
 
+// Returns the end of the block in ticks.
+fn end_of(durations: &Durations, block: &BlockRef<'_>) -> u64
+    requires block { CanBePut block.now }
+    requires scale { 1 ≤ durations.now.scale }
+    ensures { result ≡ end_of_block durations.now (block_of block.now) }
+{
+    durations.end_at(
+        block.lane,
+        block.tick,
+        block.sizes.len(),
+        block.head.duration,
+    )
+}
+
 /// Output that takes blocks: its file, the Cluster that the next block may join, the number of its blocks, and its
-/// counts
+/// counts. It also has the durations of frames on its tracks, and the greatest end of a block in ticks.
 #[derive(Drop)]
 pub(crate) struct BlockWriter {
     pub(crate) out: OutFile,
     pub(crate) buffer: ClusterBuf,
     pub(crate) blocks: u64,
     pub(crate) counts: Counts,
+    pub(crate) durations: Durations,
+    pub(crate) end: u64,
 }
 
 impl BlockWriter {
     ghost use Rattle.cues_seekhead.specs.OpenOutput.{IsOpen};
-    ghost use Rattle.remuxer.specs.Places.{IsPartBegun};
-    ghost use Rattle.remuxer.specs.Taking.{CanTake, Goes, IsOver, StaysSmall, TakesLent, TakesMore, TakesPart, WritesInto};
+    ghost use Rattle.remuxer.specs.Places.{IsPartBegun, lent_in};
+    ghost use Rattle.remuxer.specs.Taking.{CanTake, EndsAfter, Goes, IsOver, StaysSmall, TakesLent, TakesMore, TakesPart, WritesInto};
 
     // Adds the last block of `lane`, the output track `k`, counted from 0, to the output of a part that starts at the
     // tick `start`. `rules` has each output track's rule for cue points.
@@ -81,8 +98,10 @@ impl BlockWriter {
         requires lent { IsLent (lent lane.now) }
         requires number { k < MAX_LANES }
         requires open { IsOpen F.Reads files.old self.old.out }
+        requires scale { 1 ≤ self.old.durations.scale }
         ensures takes { TakesLent F.Reads F.Files.own rules.now start k lane.now files.old files.new self.old self.new result }
         ensures count { TakesMore 1 self.old self.new result }
+        ensures end { EndsAfter (lent_in start k lane.now) self.old self.new result }
         ensures writes { WritesInto F.Reads F.Files.own files.old files.new self.old self.new result }
         ensures held { StaysSmall self.old self.new result }
         ensures octets { F.octets_read files.new ≡ F.octets_read files.old }
@@ -91,6 +110,8 @@ impl BlockWriter {
         let block = lent_by(lane, k, start);
         let cued = is_cued(rules, k, block.head.key);
         let begins = add_block(files, &mut self.out, &mut self.buffer, &block, cued)?;
+        let end = end_of(&self.durations, &block);
+        self.end = self.end.max(end);
         self.blocks = self.blocks.saturating_add(1);
         self.counts.add(begins, cued);
         Ok(())

@@ -3,6 +3,7 @@ use Rattle.std.proofs.Common.{◌≡◌, List, Option, map, refl, sym, ap, ◌�
 use Rattle.mkv_schema.specs.declared.ids.TheConstants.{CHAPTERS}
 use Rattle.tree_format.specs.Node.{Node}
 use Rattle.splitter.specs.Words.{spec_of}
+use Rattle.output_model.specs.Document.{lasting_if}
 use Rattle.output_records.specs.Info.{output_info}
 use Rattle.merge_inputs.specs.Input.{read_in}
 use Rattle.merge_inputs.specs.declared.taken.TakenTrack.{TakenTrack}
@@ -39,7 +40,8 @@ returns-clause-exact c =
         limits = refl;
         front = λ f told.
             let reads = sym (reads-in f inputs) in
-            λ i. record { webm = words.webm; info = (info ∙ ap (info_of words) reads) i; tracks = (records.tracks ∙ ap tracks_of_output reads) i; attachments = records.attachments f told i };
+            λ i. record { webm = words.webm; lasting = lasting_if words.duration; info = (info ∙ ap (info_of words) reads) i; tracks = (records.tracks ∙ ap tracks_of_output reads) i; attachments = records.attachments f told i };
+        duration = refl;
         octets = records.octets;
         chapters = records.chapters;
         tags = records.tags;

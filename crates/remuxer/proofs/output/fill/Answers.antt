@@ -30,7 +30,7 @@ returns-in_err-add_part-clause-fills g c = λ told.
 can : (g : Over) (c : In_ok-add_part g) → CanTake g.F.Reads g.F.Files c.add_part.new.files c.add_part.new.self c.add_part.new.blocks
 can g c =
     let wrote = c.in_ok-add_part.ensures.writes in
-    can-again g.F.Reads g.F.Files c.args.files.now c.add_part.new.files c.args.writer.now c.add_part.new.self c.args.blocks.now c.add_part.new.blocks c.requires.can wrote.file wrote.is_open wrote.kept c.in_ok-add_part.ensures.goes
+    can-again g.F.Reads g.F.Files c.args.files.now c.add_part.new.files c.args.writer.now c.add_part.new.self c.args.blocks.now c.add_part.new.blocks c.requires.can (tt {0}) wrote c.in_ok-add_part.ensures.goes
 
 starts : (g : Over) (c : In_ok-add_part g) → c.add_part.new.blocks.start ≡ start_of c.args.blocks.now.cuts
 starts g c = c.in_ok-add_part.ensures.over.start ∙ c.requires.begun.starts
@@ -79,7 +79,7 @@ returns-in_err-add_rest-clause-writes g c =
     let p = err_from_is_err_and c.from_residual-in_err-add_rest.result c.from_residual-in_err-add_rest.ensures.1 in
     let v = c.add_part.new.self in
     rw p.1 (writes-then g.F.Reads g.F.Files c.args.files.now c.add_part.new.files c.add_rest.new.files c.args.writer.now v (record v { out = c.add_rest.new.out; buffer = c.add_rest.new.buffer }) (tt {0}) _ c.requires.can.is_open c.in_ok-add_part.ensures.writes
-    (record { file = c.in_err-add_rest.ensures.file; is_open = tt; kept = c.in_err-add_rest.ensures.only.kept }))
+    (record { file = c.in_err-add_rest.ensures.file; durations = refl; is_open = tt; kept = c.in_err-add_rest.ensures.only.kept }))
 
 -- All was written.
 pub returns-clause-fills : goal.returns-clause-fills
@@ -90,13 +90,13 @@ returns-clause-fills g c = λ told.
     let only = c.in_ok-add_rest.ensures.only in
     fills-part g.F.Reads g.F.Files c.args.spec.now c.as_slice.result.now c.args.files.now x c.args.writer.now v c.args.blocks.now q c.as_slice.ensures (c.in_ok-add_part.ensures.takes told) c.in_ok-add_part.ensures.over
     c.add_rest.new.files (record v { out = c.add_rest.new.out; buffer = c.add_rest.new.buffer }) q.start c.in_ok-chapters.chapters c.end_of_part.result (starts g (goal.at.returns-clause-fills g c).In_ok-add_part) c.end_of_part.ensures c.in_ok-chapters.ensures.exact
-    (rest-left g.F.Reads g.F.Files x c.add_rest.new.files v q (can g (goal.at.returns-clause-fills g c).In_ok-add_part) only.kept only.octets) c.in_ok-add_rest.ensures.ends refl refl
+    (rest-left g.F.Reads g.F.Files x c.add_rest.new.files v q (can g (goal.at.returns-clause-fills g c).In_ok-add_part) only.kept only.octets) c.in_ok-add_rest.ensures.ends refl refl refl
 
 pub returns-clause-writes : goal.returns-clause-writes
 returns-clause-writes g c =
     let v = c.add_part.new.self in
     writes-then g.F.Reads g.F.Files c.args.files.now c.add_part.new.files c.add_rest.new.files c.args.writer.now v (record v { out = c.add_rest.new.out; buffer = c.add_rest.new.buffer }) (tt {0}) _ c.requires.can.is_open c.in_ok-add_part.ensures.writes
-    (record { file = c.in_ok-add_rest.ensures.file; is_open = c.in_ok-add_rest.ensures.open; kept = c.in_ok-add_rest.ensures.only.kept })
+    (record { file = c.in_ok-add_rest.ensures.file; durations = refl; is_open = c.in_ok-add_rest.ensures.open; kept = c.in_ok-add_rest.ensures.only.kept })
 
 pub returns-clause-goes : goal.returns-clause-goes
 returns-clause-goes g c =

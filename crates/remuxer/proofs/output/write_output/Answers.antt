@@ -1,4 +1,4 @@
-use Rattle.std.proofs.Common.{◌≡◌, ◌≤◌, [], ◌∷◌, Option, Ok, Err, refl, sym, subst, arith}
+use Rattle.std.proofs.Common.{◌≡◌, ◌≤◌, [], ◌∷◌, ◌∙◌, Option, Ok, Err, refl, sym, ap, subst, arith}
 use Rattle.std.proofs.lemmas.Result.{err_from_is_err_and}
 use Rattle.mkv_io.specs.Names.{Names}
 use Rattle.mkv_io.specs.Sources.{live_files}
@@ -6,6 +6,7 @@ use Rattle.mkv_io.specs.declared.remux_end.RemuxEnd.{RemuxEnd}
 use Rattle.mkv_outputs.specs.Drafts.{AreWrittenInOrder}
 use Rattle.tree_format.specs.Node.{Node}
 use Rattle.output_model.specs.Document.{Document}
+use Rattle.output_model.specs.declared.durations.Durations.{Durations}
 use Rattle.cues_seekhead.specs.Draft.{draft_of}
 use Rattle.time_merge.specs.Merge.{IsTold, left}
 use Rattle.remux_plan.specs.Parts.{document_with}
@@ -14,7 +15,7 @@ use Rattle.remuxer.specs.Places.{part_in}
 use Rattle.remuxer.specs.Stands.{Stands}
 use Rattle.remuxer.specs.Taking.{GoesOn}
 use Rattle.remuxer.specs.declared.writer.BlockWriter.{BlockWriter}
-use Rattle.remuxer.proofs.OutputLemmas.{abandoned-keeps, begun-can, begun-goes, begun-in_turn, begun-left, begun-stands, begun-told, drafted-in_turn, ending-goes, ending-left, filled-counts, filled-finishes, finished-keeps, goes-refused, goes-whole, none_counted}
+use Rattle.remuxer.proofs.OutputLemmas.{abandoned-keeps, begun-can, begun-goes, begun-in_turn, begun-left, begun-stands, begun-told, drafted-in_turn, durations-scale, ending-goes, ending-left, filled-counts, filled-finishes, finished-keeps, goes-refused, goes-whole, none_counted}
 use Rattle.remuxer.proofs.ShortLemmas.{HoldsOfFiles}
 use Rattle.remuxer.proofs.output.write_output.Given.{Over}
 use Rattle.remuxer.proofs.output.write_output.Goals as goal
@@ -32,13 +33,16 @@ its g c = document_with (live_files g.F.Reads c.args.files.now) c.args.spec.now 
 pub returns-in_err-out-clause-writes : goal.returns-in_err-out-clause-writes
 returns-in_err-out-clause-writes g c = λ told.
     let p = err_from_is_err_and c.from_residual-in_err-out.result c.from_residual-in_err-out.ensures.1 in
-    rw p.1 (begun-in_turn (g.F.Files.names c.args.files.now) (g.F.Files.names c.begin.new.files) c.args.name.now (its g (goal.at.returns-in_err-out-clause-writes g c).Start) c.in_err-out.ensures.err)
+    rw p.1 (begun-in_turn (g.F.Files.names c.args.files.now) (g.F.Files.names c.begin.new.files) c.args.name.now (its g (goal.at.returns-in_err-out-clause-writes g c).Start) _ _ refl c.in_err-out.ensures.err)
 
 pub fill-requires : goal.fill-requires
 fill-requires g c =
     record {
       can = begun-can g.F.Reads g.F.Files c.args.files.now c.begin.new.files c.args.name.now c.in_ok-out.out.file c.args.blocks.now c.in_ok-out.ensures.made c.requires.gives c.requires.apart
-          (record { out = c.in_ok-out.out; buffer = c.in_ok-buffer.buffer; blocks = 0; counts = none_counted }) refl c.in_ok-out.ensures.ok.is_open;
+          (record { out = c.in_ok-out.out; buffer = c.in_ok-buffer.buffer; blocks = 0; counts = none_counted; durations = c.in_ok-durations.durations; end = 0 }) refl c.in_ok-out.ensures.ok.is_open
+          (let same = ap (λ (d : Durations). d.scale) c.in_ok-durations.ensures ∙ durations-scale c.args.spec.now.limits.scale c.args.spec.now.front in
+          let some = c.requires.gives.scale_some in
+          omega (arith, same, some, c.requires.scale));
       begun = c.requires.begun;
       scale = c.requires.scale;
       chapters = c.requires.records.chapters;
@@ -47,7 +51,7 @@ fill-requires g c =
 -- ---- it was begun, and filled or not
 
 abbrev writer : (g : Over) (c : After-fill g) → BlockWriter
-writer g c = record { out = c.in_ok-out.out; buffer = c.in_ok-buffer.buffer; blocks = 0; counts = none_counted }
+writer g c = record { out = c.in_ok-out.out; buffer = c.in_ok-buffer.buffer; blocks = 0; counts = none_counted; durations = c.in_ok-durations.durations; end = 0 }
 
 same-left : (g : Over) (c : After-fill g) → left (live_files g.F.Reads c.begin.new.files) c.args.blocks.now.merge ≡ left (live_files g.F.Reads c.args.files.now) c.args.blocks.now.merge
 same-left g c = begun-left g.F.Reads g.F.Files c.args.files.now c.begin.new.files c.args.name.now c.in_ok-out.out.file c.args.blocks.now c.in_ok-out.ensures.made c.requires.gives c.requires.apart
@@ -70,7 +74,7 @@ returns-in_err-finish_with-in-Ok-clause-writes g c = λ told.
     let end = err_from_is_err_and c.from_residual-in_err-finish_with-in-Ok.result c.from_residual-in_err-finish_with-in-Ok.ensures.1 in
     let after = (goal.at.returns-in_err-finish_with-in-Ok-clause-writes g c).After-fill in
     rw end.1 (filled-finishes g.F.Reads g.F.Files c.args.spec.now c.args.name.now c.args.files.now c.begin.new.files c.args.blocks.now (same-left g after) c.fill.new.files c.finish_with.new.files (writer g after) c.fill.new.writer c.fill.new.blocks c.in-Ok.part
-    (c.in-Ok.ensures.fills (told-then g after told)) (stands g after) c.chapters_in-chapters.result.now (Err c.in_err-finish_with-in-Ok.field-0.0) c.chapters_in-chapters.ensures (of_files g) c.in_err-finish_with-in-Ok.ensures.finishes c.in_err-finish_with-in-Ok.ensures.ended)
+    (c.in-Ok.ensures.fills (told-then g after told)) (stands g after) c.chapters_in-chapters.result.now (Err c.in_err-finish_with-in-Ok.field-0.0) c.in_ok-durations.ensures refl c.chapters_in-chapters.ensures (of_files g) c.in_err-finish_with-in-Ok.ensures.finishes c.in_err-finish_with-in-Ok.ensures.ended)
 
 pub returns-in_err-finish_with-in-Ok-clause-kept : goal.returns-in_err-finish_with-in-Ok-clause-kept
 returns-in_err-finish_with-in-Ok-clause-kept g c =
@@ -90,7 +94,7 @@ pub returns-in-Ok-clause-writes : goal.returns-in-Ok-clause-writes
 returns-in-Ok-clause-writes g c = λ told.
     let after = (goal.at.returns-in-Ok-clause-writes g c).After-fill in
     filled-finishes g.F.Reads g.F.Files c.args.spec.now c.args.name.now c.args.files.now c.begin.new.files c.args.blocks.now (same-left g after) c.fill.new.files c.finish_with.new.files (writer g after) c.fill.new.writer c.fill.new.blocks c.in-Ok.part
-    (c.in-Ok.ensures.fills (told-then g after told)) (stands g after) c.chapters_in-chapters.result.now (Ok c.in_ok-finish_with-in-Ok.field-0) c.chapters_in-chapters.ensures (of_files g) c.in_ok-finish_with-in-Ok.ensures.finishes c.in_ok-finish_with-in-Ok.ensures.ended
+    (c.in-Ok.ensures.fills (told-then g after told)) (stands g after) c.chapters_in-chapters.result.now (Ok c.in_ok-finish_with-in-Ok.field-0) c.in_ok-durations.ensures refl c.chapters_in-chapters.ensures (of_files g) c.in_ok-finish_with-in-Ok.ensures.finishes c.in_ok-finish_with-in-Ok.ensures.ended
 
 pub returns-in-Ok-clause-finds : goal.returns-in-Ok-clause-finds
 returns-in-Ok-clause-finds g c =

@@ -74,7 +74,7 @@ returns-in-Ok-clause-ok g c =
     ap (λ w. w ++ attached_octets (live_files r new) them) c.as_slice.ensures
     ∙ ap (λ (ns : List Node). c.in_ok-opening.opening.octets ++ joined (map tree_element ns)) (attached-all-created r f name c.in_ok-file.file old new them made c.requires.attached)
     ∙ begun-octets files front c.in_ok-opening.opening opening masters own have in
-    let known = begun-known files front c.in_ok-opening.opening (record { file = c.in_ok-file.file; webm = front.webm; len = c.in_ok-opening.opening.len; seeks = c.in_ok-opening.opening.seeks.items; cues = [] }) opening masters own have refl refl refl in
+    let known = begun-known files front c.in_ok-opening.opening (record { file = c.in_ok-file.file; webm = front.webm; len = c.in_ok-opening.opening.len; place = c.in_ok-opening.opening.place; seeks = c.in_ok-opening.opening.seeks.items; cues = [] }) opening masters own have refl refl refl refl in
     record {
       is_open = record {
         live = c.write_front.ensures.kept.live c.in_ok-file.file.n ∙ ok.is_new.live;
@@ -84,7 +84,7 @@ returns-in-Ok-clause-ok g c =
       names = appended-to (f.names old) (f.names new) (f.names c.write_front.new.files) name [] _ ok.names
           (c.in-Ok.ensures.appended ∙ ap (λ h. with_change (f.names new) h (with_appended (c.as_slice.result.now ++ attached_octets (live_files r new) them))) ok.is_new.holder)
           ∙ ap (with_content (f.names old) name) whole;
-      known = record { webm = known.webm; len = known.len; seeks = known.seeks };
+      known = record { webm = known.webm; len = known.len; place = known.place; seeks = known.seeks };
     }
 
 -- A prefix was written.

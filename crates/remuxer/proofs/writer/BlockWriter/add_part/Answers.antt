@@ -22,7 +22,7 @@ use Rattle.remuxer.proofs.writer.BlockWriter.add_part.Goals.{After-advance, Afte
 can : (g : Over) (c : After-lane g) → CanTake g.F.Reads g.F.Files c.steps.files c.steps.self c.steps.blocks
 can g c =
     let inv = c.steps.invariant in
-    can-again g.F.Reads g.F.Files c.args.files.now c.steps.files c.args.self.now c.steps.self c.args.blocks.now c.steps.blocks c.requires.can inv.writes.file inv.writes.is_open inv.writes.kept inv.goes
+    can-again g.F.Reads g.F.Files c.args.files.now c.steps.files c.args.self.now c.steps.self c.args.blocks.now c.steps.blocks c.requires.can (tt {0}) inv.writes inv.goes
 
 lends : (g : Over) (c : After-lane g) → LendsAhead c.steps.blocks c.in-Some.lane
 lends g c = lends-ahead c.steps.blocks c.in-Some.lane c.steps.invariant.stands (sym c.in-Some.ensures)
@@ -38,7 +38,7 @@ steps-init g c =
     let begun = c.requires.begun in
     let p = c.args.blocks.now in
     record {
-      writes = record { file = refl; is_open = c.requires.can.is_open; kept = KeepsOthers-none g.F.Reads g.F.Files _ c.args.files.now };
+      writes = record { file = refl; durations = refl; is_open = c.requires.can.is_open; kept = KeepsOthers-none g.F.Reads g.F.Files _ c.args.files.now };
       held = λ small. small;
       goes = goes-idle g.F.Reads c.args.files.now p p.ahead p.start c.requires.can.gives;
       stands = begun.stands;
@@ -66,6 +66,9 @@ add_lent-requires-clause-number g c =
     let inside : c.in-Some.lane < length c.steps.blocks.merge.queues = slice_get_within c.steps.blocks.merge.queues c.in-Some.lane it.lends.queue it.lends.here in
     omega (arith, inside, c.steps.invariant.goes.gives.few)
 
+pub add_lent-requires-clause-scale : goal.add_lent-requires-clause-scale
+add_lent-requires-clause-scale g c = (can g (goal.at.add_lent-requires-clause-scale g c).After-lane).scale
+
 -- The block ahead couldn't be written.
 pub returns-in_err-add_lent-clause-takes : goal.returns-in_err-add_lent-clause-takes
 returns-in_err-add_lent-clause-takes g c =
@@ -82,7 +85,7 @@ returns-in_err-add_lent-clause-writes g c =
     let end = err_from_is_err_and c.from_residual.result c.from_residual.ensures.1 in
     let both = writes-then {T = Unit {0}} g.F.Reads g.F.Files c.args.files.now c.steps.files c.add_lent.new.files c.args.self.now c.steps.self c.add_lent.new.self (tt {0}) (Err c.in_err-add_lent.field-0.0) c.requires.can.is_open
     c.steps.invariant.writes c.in_err-add_lent.ensures.writes in
-    rw end.1 (record { file = both.file; is_open = tt; kept = both.kept })
+    rw end.1 (record { file = both.file; durations = both.durations; is_open = tt; kept = both.kept })
 
 -- ---- it was written
 
@@ -124,7 +127,7 @@ pub returns-in_err-advance-clause-writes : goal.returns-in_err-advance-clause-wr
 returns-in_err-advance-clause-writes g c =
     let end = err_from_is_err_and c.from_residual-in_err-advance.result c.from_residual-in_err-advance.ensures.1 in
     let both = then-read g (goal.at.returns-in_err-advance-clause-writes g c).After-advance c.advance.new.src c.in_err-advance.ensures.standing in
-    rw end.1 (record { file = both.file; is_open = tt; kept = both.kept })
+    rw end.1 (record { file = both.file; durations = both.durations; is_open = tt; kept = both.kept })
 
 pub returns-in_err-advance-clause-goes : goal.returns-in_err-advance-clause-goes
 returns-in_err-advance-clause-goes g c =
@@ -172,6 +175,7 @@ steps-preserved g c =
           let here = (inv.goes.told told).told in
           let some = some-next g.F.Reads g.F.Files c.args.rules.now c.steps.blocks.start (start_of p.cuts) (c.steps.invariant.start ∙ c.requires.begun.starts) a b c.steps.self c.add_lent.new.self q (block_lent c.in-Some.lane c.lane.result.now) (lends g lane).in_it (one g lane)
           c.in_ok-add_lent.ensures.takes e (read g b e next.standing) q' (rest-left g.F.Reads g.F.Files a b c.steps.self q (can g lane) c.in_ok-add_lent.ensures.writes.kept c.in_ok-add_lent.ensures.octets) c.in_ok-add_lent.ensures.count
+          c.in_ok-add_lent.ensures.writes.durations c.in_ok-add_lent.ensures.end
           (next.advances.left inv.stands (goes.told here).told) in
           some-then g.F.Reads g.F.Files c.args.rules.now (start_of p.cuts) c.args.files.now a e c.args.self.now c.steps.self c.add_lent.new.self p q q' (inv.takes told) some;
     }

@@ -1,0 +1,113 @@
+//! Info with a place for a Duration: RFC 9559, section 5.1.2 (Info).
+
+ghost use Rattle.std.specs.Prelude.{◌≡◌, ◌+◌, ◌^◌, ◌<◌, ◌≤◌, ◌++◌, not, length, flat_map, position, take, drop, Some, OnOk, IfOk, MatchOption};
+ghost use Rattle.std.specs.Option.{option_map};
+ghost use Rattle.mkv_schema.specs.declared.ids.TheConstants.{INFO as INFO_ID};
+ghost use Rattle.tree_format.specs.Node.{id_of};
+ghost use Rattle.tree_format.specs.NormalForm.{longest, octets};
+ghost use Rattle.output_model.specs.Document.{duration_place, info_element, is_before_duration, lasting_if};
+ghost use Rattle.output_model.specs.Duration.{duration_element};
+ghost use Rattle.output_model.specs.Element.{octets_of};
+ghost use Rattle.cues_seekhead.specs.Front.{before_duration};
+
+use crate::area::put_void;
+use crate::attached::put_children;
+use crate::places::sized;
+use crate::written::{put_header, put_tree};
+use ebml_tree::Tree;
+use mkv_io::Bytes;
+use mkv_schema::ids::{INFO, NEXT_UUID, PREV_UUID, SEGMENT_UUID, TIMESTAMP_SCALE};
+use output_model::{AREA, DURATION_LEN};
+use std::alloc::AllocError;
+use std::num::{f64_to_bits_with_nan, nearest_u64_to_f64};
+
+// Checks whether the child `child` of an Info comes before its Duration.
+fn is_before_duration(child: &Tree) -> bool
+    ensures { result ≡ is_before_duration child.now }
+{
+    matches!(
+        child.id(),
+        TIMESTAMP_SCALE | SEGMENT_UUID | PREV_UUID | NEXT_UUID
+    )
+}
+
+// Returns the index of the first child after a Duration in `children`, the children of an Info, counted from 0, or None if
+// a Duration comes last.
+fn first_behind(children: &[Tree]) -> Option<usize>
+    ensures exact { result ≡ position (λ n. not (is_before_duration n)) children.now }
+    ensures inside { MatchOption result (Unit {0}) (λ k. k < length children.now) }
+{
+    children.iter().position(|child| !is_before_duration(child))
+}
+
+// Splits the children of an Info at the place of its Duration.
+fn split_at_duration(children: &[Tree]) -> (&[Tree], &[Tree])
+    ensures front { result.0.now ≡ take (duration_place children.now) children.now }
+    ensures back { result.1.now ≡ drop (duration_place children.now) children.now }
+{
+    match first_behind(children) {
+        Some(k) => children.split_at(k),
+        None => (children, &[]),
+    }
+}
+
+// Returns the length of trees in their normal form.
+fn children_len(children: &[Tree]) -> Result<u64, AllocError>
+    ensures exact { IfOk result (λ len. len ≡ length (flat_map octets children.now)) }
+    ensures most { IfOk result (λ len. len ≤ longest) }
+{
+    let mut total = 0;
+    for child in children {
+        total = sized(total + child.written_len())?;
+    }
+    Ok(total)
+}
+
+// Appends an Info with a Void in the place of its Duration. Returns the number of bytes of `out` before the Void.
+#[tactic(auto, unfolding(ebml_numbers::specs::Number::is_id))]
+fn put_with_void(out: &mut Bytes, info: &Tree) -> Result<usize, AllocError>
+    requires { id_of info.now ≡ INFO_ID }
+    ensures octets { OnOk result (out.new ≡ out.old ++ octets_of (info_element info.now (Some 0))) }
+    ensures place { IfOk result (λ place. place ≡ length (out.old ++ before_duration info.now)) }
+    ensures most { IfOk result (λ place. place < 2 ^ 63) }
+{
+    let (first, others) = split_at_duration(info.children());
+    let len = sized(children_len(first)? + DURATION_LEN + children_len(others)?)?;
+    put_header(out, INFO, len)?;
+    put_children(out, first)?;
+    let place = out.len();
+    put_void(out, DURATION_LEN)?;
+    put_children(out, others)?;
+    Ok(place)
+}
+
+/// Appends the Info `info` to `out`, the bytes after the area. If `duration` is set, a Void is in the place of its
+/// Duration. Returns the offset of the Void in bytes from the start of the Segment's body, if there is one.
+pub(crate) fn put_info(
+    out: &mut Bytes,
+    info: &Tree,
+    duration: bool,
+) -> Result<Option<u64>, AllocError>
+    requires { id_of info.now ≡ INFO_ID }
+    ensures octets { OnOk result (out.new ≡ out.old ++ octets_of (info_element info.now (lasting_if duration))) }
+    ensures place { IfOk result (λ place. place ≡ option_map (λ end. AREA + length (out.old ++ before_duration info.now)) (lasting_if duration)) }
+{
+    if duration {
+        let place = put_with_void(out, info)?;
+        return Ok(Some(AREA + place as u64));
+    }
+    put_tree(out, info)?;
+    Ok(None)
+}
+
+/// Returns the Duration of an output that ends at the tick `end`, which is above 0: the ID, the size, and a float of
+/// eight bytes.
+pub(crate) fn duration_octets(end: u64) -> [u8; DURATION_LEN as usize]
+    requires { 1 ≤ end }
+    ensures { result ≡ octets_of (duration_element end) }
+{
+    let mut octets = [0x44, 0x89, 0x88, 0, 0, 0, 0, 0, 0, 0, 0];
+    let bits = f64_to_bits_with_nan(nearest_u64_to_f64(end));
+    octets[3..].copy_from_slice(&bits.to_be_bytes());
+    octets
+}
