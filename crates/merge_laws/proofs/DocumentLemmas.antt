@@ -1,8 +1,9 @@
 -- The document of each output of a merge is valid.
-use Rattle.std.proofs.Common.{◌≡◌, ◌<◌, ◌≤◌, ℕ, ◌^◌, Bool, true, false, if◌then◌else◌, List, [], ◌∷◌, ◌++◌, length, length-append, append_assoc, map, max, Option, Some, None, IfSome, refl, sym, ap, subst, ◌∙◌, arith, unwrap_or}
+use Rattle.std.proofs.Common.{◌≡◌, ◌<◌, ◌≤◌, ℕ, ◌^◌, Bool, true, false, if◌then◌else◌, List, [], ◌∷◌, ◌++◌, length, length-append, append_assoc, map, flat_map, take, drop, ◌+◌, max, Option, Some, None, IfSome, refl, sym, ap, subst, ◌∙◌, arith, unwrap_or}
 use Rattle.std.specs.List.{All}
 use Rattle.std.specs.Str.{IsUtf8}
 use Rattle.std.proofs.lemmas.List.Elements.{All-nil, All-cons, All-head, All-tail, All-append, All-weaker}
+use Rattle.std.proofs.lemmas.List.{take-append-drop}
 use Rattle.std.proofs.lemmas.List.Concat.{flat_map-append}
 use Rattle.std.proofs.lemmas.Option.{IfSome_then}
 use Rattle.std.proofs.lemmas.Str.{IsUtf8-nil}
@@ -10,12 +11,12 @@ use lib.Utf8.{encode}
 use Rattle.ebml_numbers.specs.Number.{id_octets}
 use Rattle.mkv_schema.specs.declared.ids.TheConstants.{ATTACHMENTS, CHAPTERS, INFO, NEXT_UUID, PREV_UUID, SEGMENT_UUID, TIMESTAMP_SCALE, TITLE, MUXING_APP, WRITING_APP, SEGMENT, ATTACHED_FILE, FILE_DATA}
 use Rattle.mkv_io.specs.declared.outside.TheConstants.{LONGEST_FILE}
-use Rattle.tree_format.specs.Node.{Node, leaf, master, nodes_of, list_of, depth_all, id_of}
+use Rattle.tree_format.specs.Node.{IsMaster, Node, leaf, master, nodes_of, list_of, depth_all, id_of}
 use Rattle.tree_format.specs.Changes.{part, with_child}
-use Rattle.tree_format.specs.NormalForm.{content, longest}
+use Rattle.tree_format.specs.NormalForm.{content, longest, octets, octets_all}
 use Rattle.tree_format.specs.Standing.{AllStandIn, StandsIn}
 use Rattle.tree_format.proofs.ChangeLemmas.{deep-with_child}
-use Rattle.tree_format.proofs.NodeLemmas.{list-nodes, nodes-list}
+use Rattle.tree_format.proofs.NodeLemmas.{list-nodes, nodes-list, octets_all-flat}
 use Rattle.tree_format.proofs.PartLemmas.{part-set}
 use Rattle.tree_format.proofs.StandingLemmas.{sound-set}
 use Rattle.output_model.specs.Attached.{with_data}
@@ -25,7 +26,8 @@ use Rattle.output_model.specs.Element.{Element, header_of, octets_of, joined, ma
 use Rattle.output_model.specs.declared.TheConstants.{MAX_LANES}
 use Rattle.output_model.specs.Cues.{cues_elements}
 use Rattle.output_model.specs.SeekHead.{area_elements}
-use Rattle.output_model.specs.Document.{Document, ebml_element, tree_element, tree_elements, attachments_elements, front_elements, clusters_elements, back_elements, elements_behind_area, seeks_of, segment_size, layout}
+use Rattle.output_model.specs.Duration.{duration_element}
+use Rattle.output_model.specs.Document.{Document, duration_place, ebml_element, info_element, tree_element, tree_elements, attachments_elements, front_elements, clusters_elements, back_elements, elements_behind_area, seeks_of, segment_size, layout}
 use Rattle.output_model.specs.Sound.{IsRecord, IsAttachment, IsSoundCluster, IsSoundDocument}
 use Rattle.tree_format.specs.Children.{given, uint_leaf}
 use Rattle.ebml_numbers.specs.Number.{is_id}
@@ -37,6 +39,7 @@ use Rattle.output_records.specs.Info.{application, title_elements, output_info}
 use Rattle.output_records.proofs.OutputLemmas.{info-scale, scale-in, title-in, muxing-in, writing-in}
 use Rattle.ebml_tree.proofs.LeafLemmas.{uint-stands, text-stands}
 use Rattle.output_laws.proofs.AreaLemmas.{HasIds}
+use Rattle.output_laws.proofs.InfoLemmas.{told-record}
 use Rattle.output_laws.proofs.MergedClusterLemmas.{IsOf, clusters-sound}
 use Rattle.output_model.specs.Cued.{document_of, is_cue}
 use Rattle.splitter.specs.Sections.{Part}
@@ -70,22 +73,36 @@ behind-short d =
     let ebml : List ℕ = octets_of (ebml_element d.front.webm) in
     omega (arith, length-append ebml (id_octets SEGMENT ++ (size ++ (area ++ rest))), length-append (id_octets SEGMENT) (size ++ (area ++ rest)), length-append size (area ++ rest), length-append area rest)
 
+-- An Info has its children, with a Duration or without.
+info-inside : (info : Node) (lasting : Option ℕ) → IsMaster info → length (content info) ≤ length (info_element info lasting).body
+info-inside info None is = omega arith
+info-inside (leaf id at body) (Some end) is = absurd (cc)
+info-inside (master id at kids) (Some end) is =
+    let ns : List Node = list_of kids in
+    let k : ℕ = duration_place ns in
+    let first : List ℕ = flat_map octets (take k ns) in
+    let last : List ℕ = flat_map octets (drop k ns) in
+    let inside : List ℕ = octets_of (duration_element end) in
+    let whole : length (octets_all kids) ≡ length first + length last =
+    ap length (ap octets_all (sym (nodes-list kids)) ∙ octets_all-flat ns ∙ ap (flat_map octets) (sym (take-append-drop k ns)) ∙ flat_map-append octets (take k ns) (drop k ns)) ∙ length-append first last in
+    omega (arith, whole, length-append first (inside ++ last), length-append inside last)
+
 -- Info and Tracks are a part, too.
 module _ (d : Document) where
   others : List Element
   others = attachments_elements d.front.attachments ++ (clusters_elements d.clusters ++ back_elements d)
 
-  pub info-short : length (content d.front.info) ≤ length (layout d)
+  pub info-short : IsMaster d.front.info → length (content d.front.info) ≤ length (layout d)
   unfolding others
-  info-short =
-      let e : Element = tree_element d.front.info in
+  info-short is =
+      let e : Element = info_element d.front.info d.front.lasting in
       let rest : List ℕ = joined (tree_element d.front.tracks ∷ others) in
-      omega (arith, behind-short d, length-append (octets_of e) rest, length-append (header_of e) e.body)
+      omega (arith, info-inside d.front.info d.front.lasting is, behind-short d, length-append (octets_of e) rest, length-append (header_of e) e.body)
 
   pub tracks-short : length (content d.front.tracks) ≤ length (layout d)
   unfolding others
   tracks-short =
-      let first : Element = tree_element d.front.info in
+      let first : Element = info_element d.front.info d.front.lasting in
       let e : Element = tree_element d.front.tracks in
       omega (arith, behind-short d, length-append (octets_of first) (joined (e ∷ others)), length-append (octets_of e) (joined others), length-append (header_of e) e.body)
 
@@ -126,7 +143,7 @@ inside-short (n ∷ ns) =
 -- Attachments are a part of the file.
 files-short : (d : Document) → All (λ (n : Node). length (content n) ≤ length (layout d)) d.front.attachments
 files-short d =
-    let first : Element = tree_element d.front.info in
+    let first : Element = info_element d.front.info d.front.lasting in
     let second : Element = tree_element d.front.tracks in
     let files : List Element = attachments_elements d.front.attachments in
     let rest : List Element = clusters_elements d.clusters ++ back_elements d in
@@ -319,9 +336,11 @@ module _ (words : MergeWords) (sources : List Source) (sound : IsSoundMerge word
   document-sound number files part have filled blocks short =
       let d : Document = document_with words sources number files part in
       let some = sound.scale.least in
+      let is_master : IsMaster d.front.info = subst IsMaster (sym (own-info (uuids_at words.uuids words.link number) words.scale (title_of words (reads_of sources)))) refl in
       let text = title-is IsUtf8 IsUtf8-nil words sources texts.title (All-weaker IsReadSource (λ (s : Source). IsUtf8 s.1.title) (λ s is. is.title) sources are.each) in
       record {
-        info = own-record (uuids_at words.uuids words.link number) words.scale (title_of words (reads_of sources)) scale-small text (omega (arith, info-short d));
+        info = told-record d.front.info d.front.lasting (own-record (uuids_at words.uuids words.link number) words.scale (title_of words (reads_of sources)) scale-small text (omega (arith, info-short d is_master)))
+            (omega (arith, info-short d is_master));
         scale = omega (arith, document-scale number);
         tracks = taken-tracks (tracks_taken (reads_of sources)) (all-tracks sources are.each) tracks-few (omega (arith, tracks-short d));
         attachments = files-sound (length (layout d)) files (omega arith) filled (files-short d);

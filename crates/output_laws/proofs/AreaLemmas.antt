@@ -1,5 +1,6 @@
--- The area has its length, and the last two writes don't change the length of an output.
-use Rattle.std.proofs.Common.{◌≡◌, ℕ, suc, ◌+◌, ◌-◌, ◌*◌, ◌<◌, ◌≤◌, nat_le, Bool, true, false, if◌then◌else◌, List, [], ◌∷◌, ◌++◌, length, map, replicate, All, IfSome, append-nil, length-append, Option, None, Some, refl, sym, ap, ◌∙◌, arith}
+-- The area has its length, and the last writes don't change the length of an output.
+use Rattle.std.proofs.Common.{◌≡◌, ℕ, suc, ◌+◌, ◌-◌, ◌*◌, ◌<◌, ◌≤◌, nat_le, Bool, true, false, if◌then◌else◌, List, [], ◌∷◌, ◌++◌, length, map, flat_map, take, drop, replicate, All, IfSome, append-nil, append_assoc, length-append, Option, None, Some, refl, sym, ap, ◌∙◌, arith}
+use Rattle.std.specs.Option.{option_map}
 use Rattle.std.proofs.lemmas.Bool.Decides.{nat_tests}
 use Rattle.std.proofs.lemmas.List.{length-replicate}
 use Rattle.std.proofs.lemmas.List.Concat.{flat_map-append}
@@ -10,7 +11,8 @@ use Rattle.ebml_numbers.specs.Number.{all_ones, id_octets, uint_width}
 use Rattle.ebml_numbers.proofs.NumberLemmas.{length-uint_octets, length-size_octets}
 use Rattle.ebml_numbers.proofs.WidthLemmas.{least_size_width-IsLeast}
 use Rattle.mkv_schema.specs.declared.ids.TheConstants.{VOID, SEEK_HEAD, SEEK, SEEK_ID, SEEK_POSITION, INFO, TRACKS, ATTACHMENTS, CUES, CHAPTERS, TAGS}
-use Rattle.tree_format.specs.Node.{Node, id_of}
+use Rattle.tree_format.specs.Node.{Node, id_of, children}
+use Rattle.tree_format.specs.NormalForm.{header_octets, octets}
 use Rattle.output_model.specs.Element.{Element, element, octets_of, joined, void_element}
 use Rattle.output_model.proofs.ReadLemmas.{length-header_of, length-octets_of}
 use Rattle.output_model.specs.declared.TheConstants.{AREA}
@@ -18,9 +20,11 @@ use Rattle.output_model.specs.declared.places.CuePoint.{CuePoint}
 use Rattle.output_model.specs.declared.places.Seek.{Seek}
 use Rattle.output_model.specs.Cues.{cues_elements}
 use Rattle.output_model.specs.SeekHead.{seek_element, seek_head, area_elements, open_area, seeks_from}
-use Rattle.output_model.specs.Document.{Document, tree_element, tree_elements, attachments_elements, front_elements, clusters_elements, back_elements, back_at, seeks_of, file_with, unknown_size}
+use Rattle.output_model.specs.Duration.{duration_element}
+use Rattle.output_model.specs.Document.{Document, ending_at, tree_element, tree_elements, duration_place, info_with, info_element, attachments_elements, front_elements, clusters_elements, back_elements, back_at, seeks_of, file_with, unknown_size}
 use Rattle.output_model.specs.Sound.{IsRecord, IsSoundDocument}
-use Rattle.output_laws.specs.Layouts.{behind_area, DifferInTwo}
+use Rattle.output_laws.specs.Layouts.{behind_area, duration_octets, DifferInDuration, DifferInThree}
+use Rattle.output_laws.proofs.InfoLemmas.{told-id, info-id, length-duration}
 use Rattle.output_laws.proofs.PartLemmas.{IsShortest, shortest-attachments, shortest-cues}
 
 -- ---- a Void
@@ -116,7 +120,7 @@ pub record HasIds (d : Document) : Type 0 where
   pub tags : IfSome d.tags (λ n. id_of n ≡ TAGS)
 
 sound-ids : (d : Document) → IsSoundDocument d → HasIds d
-sound-ids d is = record { info = is.info.id; tracks = is.tracks.is.id; chapters = record-id CHAPTERS d.chapters is.chapters; tags = record-id TAGS d.tags is.tags }
+sound-ids d is = record { info = sym (told-id d.front.info d.front.lasting) ∙ is.info.id; tracks = is.tracks.is.id; chapters = record-id CHAPTERS d.chapters is.chapters; tags = record-id TAGS d.tags is.tags }
   where
     record-id : (own : ℕ) (n : Option Node) → IfSome n (IsRecord own) → IfSome n (λ (m : Node). id_of m ≡ own)
     record-id own None is = tt
@@ -133,7 +137,7 @@ seek_head-short d is =
     let long : All HasLongId (seeks_of d) =
     All-append HasLongId first second
     (long-seeks AREA front
-    (All-cons IsLong (tree_element d.front.info) (tree_element d.front.tracks ∷ attachments_elements d.front.attachments) (ap uint_width is.info)
+    (All-cons IsLong (info_element d.front.info d.front.lasting) (tree_element d.front.tracks ∷ attachments_elements d.front.attachments) (ap uint_width (info-id d.front.info d.front.lasting ∙ is.info))
     (All-cons IsLong (tree_element d.front.tracks) (attachments_elements d.front.attachments) (ap uint_width is.tracks) (long-shortest ATTACHMENTS (attachments_elements d.front.attachments) refl (shortest-attachments d.front.attachments)))))
     (long-seeks (back_at d) back
     (All-append IsLong (cues_elements d.cues) (tree_elements d.chapters ++ tree_elements d.tags) (long-shortest CUES (cues_elements d.cues) refl (shortest-cues d.cues))
@@ -164,9 +168,51 @@ length-open_area = ap (λ (o : List ℕ). length o) (append-nil (octets_of (void
 
 -- ---- overwritten bytes
 
-pub overwritten : (d : Document) → IsSoundDocument d → DifferInTwo d
+-- the bytes of an Info with a Duration before and after that Duration
+abbrev before_duration : Node → List ℕ
+before_duration info =
+    header_octets (id_of info) (length (info_with info (octets_of (duration_element 0)))) ++ flat_map octets (take (duration_place (children info)) (children info))
+
+abbrev after_duration : Node → List ℕ
+after_duration info = flat_map octets (drop (duration_place (children info)) (children info))
+
+-- They are the same for each end.
+info-parts : (info : Node) (end : ℕ) → octets_of (info_element info (Some end)) ≡ before_duration info ++ (octets_of (duration_element end) ++ after_duration info)
+info-parts info end =
+    let own : List ℕ = octets_of (duration_element end) in
+    let void : List ℕ = octets_of (duration_element 0) in
+    let first : List ℕ = flat_map octets (take (duration_place (children info)) (children info)) in
+    let last : List ℕ = after_duration info in
+    let len : length (first ++ (own ++ last)) ≡ length (first ++ (void ++ last)) =
+    omega (arith, length-append first (own ++ last), length-append own last, length-append first (void ++ last), length-append void last, length-duration end, length-duration 0) in
+    ap (λ n. header_octets (id_of info) n ++ (first ++ (own ++ last))) len
+    ∙ sym (append_assoc (header_octets (id_of info) (length (info_with info void))) first (own ++ last))
+
+pub duration-differs : (d : Document) → DifferInDuration d
+duration-differs d =
+    let rest : List Element = tree_element d.front.tracks ∷ (attachments_elements d.front.attachments ++ (clusters_elements d.clusters ++ back_elements d)) in
+    let differ = of d.front.info d.front.lasting (joined rest) in
+    record { before = differ.0; after = differ.1; layout_is = differ.2; opened_is = differ.3; len = differ.4 }
+  where
+    Differ : Node → Option ℕ → List ℕ → Type 0
+    Differ info lasting rest =
+        let now : Option ℕ = option_map (λ known. 0) lasting in
+        (before : List ℕ) × (after : List ℕ) × (octets_of (info_element info lasting) ++ rest ≡ before ++ (duration_octets lasting ++ after))
+        × (octets_of (info_element info now) ++ rest ≡ before ++ (duration_octets now ++ after)) × (length (duration_octets lasting) ≡ length (duration_octets now))
+
+    parts : (info : Node) (end : ℕ) (rest : List ℕ) → octets_of (info_element info (Some end)) ++ rest ≡ before_duration info ++ (octets_of (duration_element end) ++ (after_duration info ++ rest))
+    parts info end rest =
+        let own : List ℕ = octets_of (duration_element end) in
+        ap (λ o. o ++ rest) (info-parts info end) ∙ append_assoc (before_duration info) (own ++ after_duration info) rest
+        ∙ ap (λ o. before_duration info ++ o) (append_assoc own (after_duration info) rest)
+
+    of : (info : Node) (lasting : Option ℕ) (rest : List ℕ) → Differ info lasting rest
+    of info None rest = ([], octets_of (info_element info None) ++ rest, refl, refl, refl)
+    of info (Some end) rest = (before_duration info, after_duration info ++ rest, parts info end rest, parts info 0 rest, length-duration end ∙ sym (length-duration 0))
+
+pub overwritten : (d : Document) → IsSoundDocument d → DifferInThree d
 overwritten d is =
-    let front : List Element = front_elements d.front in
+    let front : List Element = front_elements (ending_at 0 d.front) in
     let middle : List Element = clusters_elements d.clusters in
     let back : List Element = back_elements d in
     record {
@@ -176,4 +222,5 @@ overwritten d is =
           (ap (λ o. joined front ++ o) (sym (flat_map-append octets_of middle back)) ∙ sym (flat_map-append octets_of front (middle ++ back)));
       size = length-size_octets (AREA + length (behind_area d)) 8 ∙ sym (length-size_octets (all_ones 8) 8);
       area = length-area d is ∙ sym length-open_area;
+      duration = duration-differs d;
     }

@@ -1,5 +1,5 @@
 -- Written documents are read back.
-use Rattle.std.proofs.Common.{◌≡◌, ℕ, ◌+◌, ◌-◌, ◌≤◌, ◌==◌, nat_lt, min, Bool, false, if◌then◌else◌, List, [], ◌∷◌, ◌++◌, length, All, append-nil, append_assoc, length-append, None, Some, Ok, Err, refl, sym, ap, ◌∙◌, subst, arith}
+use Rattle.std.proofs.Common.{◌≡◌, ℕ, ◌+◌, ◌-◌, ◌≤◌, ◌==◌, nat_lt, min, Bool, false, if◌then◌else◌, List, [], ◌∷◌, ◌++◌, length, All, append-nil, append_assoc, length-append, Option, None, Some, Ok, Err, refl, sym, ap, ◌∙◌, subst, arith}
 use Rattle.std.proofs.lemmas.Bool.{cond-true, lt-ltb}
 use Rattle.std.proofs.lemmas.List.Concat.{flat_map-append}
 use Rattle.std.proofs.lemmas.List.Elements.{All-nil, All-cons, All-head, All-tail, All-append, All-take, All-weaker}
@@ -24,19 +24,19 @@ use Rattle.output_model.specs.declared.TheConstants.{AREA, MAX_CUES, MAX_LANES}
 use Rattle.output_model.specs.Cluster.{OutputCluster}
 use Rattle.output_model.specs.Cues.{points_from, cues_elements}
 use Rattle.output_model.specs.SeekHead.{seek_head, area_elements, seeks_from}
-use Rattle.output_model.specs.Document.{Document, ebml_element, tree_element, tree_elements, attachments_elements, front_elements, clusters_elements, back_elements, elements_behind_area, clusters_at, back_at, seeks_of, layout}
+use Rattle.output_model.specs.Document.{Document, ebml_element, tree_element, tree_elements, info_element, attachments_elements, front_elements, clusters_elements, back_elements, elements_behind_area, clusters_at, back_at, seeks_of, layout}
 use Rattle.output_model.specs.Sound.{IsSoundIn, IsSoundCluster, IsSoundDocument, lanes_of}
 use Rattle.output_laws.specs.Places.{HasSize, IsOther, OutputSegment, segment_elements, segment_element, IsSoundSegment}
 use Rattle.output_laws.specs.Points.{PointsAtBlock}
 use Rattle.output_laws.proofs.ClusterLemmas.{sizes-joined}
 use Rattle.output_laws.proofs.SegmentLemmas.{IsElement-segment, elements-of, segment-read, segment-is_read}
 use Rattle.output_laws.proofs.CueLemmas.{points-hold}
-use Rattle.output_laws.specs.Reading.{segment_of_document, segment_place, header_of_segment, level_1_of, IsRecordAt, RecordsAre, SeeksElement, IsReadAs}
+use Rattle.output_laws.specs.Reading.{segment_of_document, segment_place, header_of_segment, level_1_of, RecordsAre, SeeksElement, IsReadAs}
 use Rattle.output_laws.proofs.AreaLemmas.{length-area}
 use Rattle.output_laws.proofs.HeaderLemmas.{ebml-read}
-use Rattle.output_laws.proofs.PartLemmas.{All-parts, IsNot, IsShortest, shortest-record, shortest-records, shortest-attachments, shortest-cues, shortest-clusters, not-shortest, none-shortest, other-shortest, others-shortest, void-id, void-other}
-use Rattle.output_laws.proofs.RecordLemmas.{first-record, attachments-read, cues-read, seeks-read}
-use Rattle.output_laws.proofs.ScaleLemmas.{scale-placed}
+use Rattle.output_laws.proofs.PartLemmas.{All-parts, IsNot, IsShortest, shortest-record, shortest-info, shortest-records, shortest-attachments, shortest-cues, shortest-clusters, not-shortest, none-shortest, other-shortest, others-shortest, void-id, void-other}
+use Rattle.output_laws.proofs.RecordLemmas.{first-record, info-read, attachments-read, cues-read, seeks-read}
+use Rattle.output_laws.proofs.InfoLemmas.{told-master, FindsInfo, info-found}
 
 -- ---- a document is an EBML header and a Segment
 
@@ -74,7 +74,7 @@ wider-cluster few many c fits is = record {
 
 -- The parts of the document `d`, each with its shortest header.
 record HasParts (d : Document) : Type 0 where
-  info : IsShortest INFO (tree_element d.front.info)
+  info : IsShortest INFO (info_element d.front.info d.front.lasting)
   tracks : IsShortest TRACKS (tree_element d.front.tracks)
   attachments : All (IsShortest ATTACHMENTS) (attachments_elements d.front.attachments)
   clusters : All (IsShortest CLUSTER) (clusters_elements d.clusters)
@@ -84,7 +84,7 @@ record HasParts (d : Document) : Type 0 where
 
 parts-of : (d : Document) → IsSoundDocument d → HasParts d
 parts-of d is = record {
-  info = shortest-record INFO d.front.info is.info;
+  info = shortest-info d.front.info d.front.lasting is.info;
   tracks = shortest-record TRACKS d.front.tracks is.tracks.is;
   attachments = shortest-attachments d.front.attachments;
   clusters = shortest-clusters d.clusters;
@@ -102,7 +102,7 @@ segment-sound d is =
     let total : ℕ = AREA - length (octets_of seek) in
     let void : Element = void_element total in
     let front : List Element = front_elements d.front in
-    let info : Element = tree_element d.front.info in
+    let info : Element = info_element d.front.info d.front.lasting in
     let tracks : Element = tree_element d.front.tracks in
     let attachments : List Element = attachments_elements d.front.attachments in
     let chapters : List Element = tree_elements d.chapters in
@@ -183,7 +183,7 @@ records-read d bytes p is held =
     let list : List Element = segment_elements s in
     let seek : Element = seek_head (seeks_of d) in
     let total : ℕ = AREA - length (octets_of seek) in
-    let info : Element = tree_element d.front.info in
+    let info : Element = info_element d.front.info d.front.lasting in
     let tracks : Element = tree_element d.front.tracks in
     let area : List Element = area_elements (seeks_of d) in
     let attachments : List Element = attachments_elements d.front.attachments in
@@ -199,7 +199,7 @@ records-read d bytes p is held =
     let behind_chapters : (attachments ++ (middle ++ cues)) ++ (chapters ++ tags) ≡ ((attachments ++ (middle ++ cues)) ++ chapters) ++ (tags ++ []) =
     sym (append_assoc (attachments ++ (middle ++ cues)) chapters tags) ∙ ap (λ l. ((attachments ++ (middle ++ cues)) ++ chapters) ++ l) (sym (append-nil tags)) in
     record {
-      info = first-record bytes INFO (Some d.front.info) list area (tracks ∷ (attachments ++ (middle ++ (cues ++ (chapters ++ tags))))) p refl refl
+      info = info-read bytes d.front.info d.front.lasting list area (tracks ∷ (attachments ++ (middle ++ (cues ++ (chapters ++ tags))))) p refl
           (in_area INFO refl refl)
           (All-cons (IsNot INFO) tracks _ (not-shortest TRACKS INFO tracks refl has.tracks)
           (All-append (IsNot INFO) attachments _ (none-shortest ATTACHMENTS INFO attachments refl has.attachments)
@@ -243,34 +243,33 @@ records-read d bytes p is held =
         All-cons (IsNot id) (seek_head (seeks_of d)) (void_element total ∷ []) seek (All-cons (IsNot id) (void_element total) [] (ap (λ x. x == id) (void-id total) ∙ void) (All-nil (IsNot id)))
 
     in_front : (id : ℕ) → (SEEK_HEAD == id) ≡ false → (VOID == id) ≡ false → (INFO == id) ≡ false → (TRACKS == id) ≡ false
-        → All (IsNot id) (area_elements (seeks_of d) ++ tree_element d.front.info ∷ tree_element d.front.tracks ∷ [])
+        → All (IsNot id) (area_elements (seeks_of d) ++ info_element d.front.info d.front.lasting ∷ tree_element d.front.tracks ∷ [])
     in_front id seek void one two =
         let has = parts-of d is in
-        All-append (IsNot id) (area_elements (seeks_of d)) (tree_element d.front.info ∷ tree_element d.front.tracks ∷ []) (in_area id seek void)
-        (All-cons (IsNot id) (tree_element d.front.info) (tree_element d.front.tracks ∷ []) (not-shortest INFO id (tree_element d.front.info) one has.info)
+        All-append (IsNot id) (area_elements (seeks_of d)) (info_element d.front.info d.front.lasting ∷ tree_element d.front.tracks ∷ []) (in_area id seek void)
+        (All-cons (IsNot id) (info_element d.front.info d.front.lasting) (tree_element d.front.tracks ∷ []) (not-shortest INFO id (info_element d.front.info d.front.lasting) one has.info)
         (All-cons (IsNot id) (tree_element d.front.tracks) [] (not-shortest TRACKS id (tree_element d.front.tracks) two has.tracks) (All-nil (IsNot id))))
 
     before_cues : (id : ℕ) → (SEEK_HEAD == id) ≡ false → (VOID == id) ≡ false → (INFO == id) ≡ false → (TRACKS == id) ≡ false → (ATTACHMENTS == id) ≡ false → (CLUSTER == id) ≡ false
-        → All (IsNot id) (area_elements (seeks_of d) ++ tree_element d.front.info ∷ tree_element d.front.tracks ∷ (attachments_elements d.front.attachments ++ clusters_elements d.clusters))
+        → All (IsNot id) (area_elements (seeks_of d) ++ info_element d.front.info d.front.lasting ∷ tree_element d.front.tracks ∷ (attachments_elements d.front.attachments ++ clusters_elements d.clusters))
     before_cues id seek void one two three four =
         let has = parts-of d is in
-        All-append (IsNot id) (area_elements (seeks_of d) ++ tree_element d.front.info ∷ tree_element d.front.tracks ∷ []) (attachments_elements d.front.attachments ++ clusters_elements d.clusters) (in_front id seek void one two)
+        All-append (IsNot id) (area_elements (seeks_of d) ++ info_element d.front.info d.front.lasting ∷ tree_element d.front.tracks ∷ []) (attachments_elements d.front.attachments ++ clusters_elements d.clusters) (in_front id seek void one two)
         (All-append (IsNot id) (attachments_elements d.front.attachments) (clusters_elements d.clusters) (none-shortest ATTACHMENTS id (attachments_elements d.front.attachments) three has.attachments)
         (none-shortest CLUSTER id (clusters_elements d.clusters) four has.clusters))
 
     before_back : (id : ℕ) → (SEEK_HEAD == id) ≡ false → (VOID == id) ≡ false → (INFO == id) ≡ false → (TRACKS == id) ≡ false → (ATTACHMENTS == id) ≡ false → (CLUSTER == id) ≡ false → (CUES == id) ≡ false
-        → All (IsNot id) (area_elements (seeks_of d) ++ tree_element d.front.info ∷ tree_element d.front.tracks ∷ (attachments_elements d.front.attachments ++ (clusters_elements d.clusters ++ cues_elements d.cues)))
+        → All (IsNot id) (area_elements (seeks_of d) ++ info_element d.front.info d.front.lasting ∷ tree_element d.front.tracks ∷ (attachments_elements d.front.attachments ++ (clusters_elements d.clusters ++ cues_elements d.cues)))
     before_back id seek void one two three four five =
         let has = parts-of d is in
-        All-append (IsNot id) (area_elements (seeks_of d) ++ tree_element d.front.info ∷ tree_element d.front.tracks ∷ []) (attachments_elements d.front.attachments ++ (clusters_elements d.clusters ++ cues_elements d.cues)) (in_front id seek void one two)
+        All-append (IsNot id) (area_elements (seeks_of d) ++ info_element d.front.info d.front.lasting ∷ tree_element d.front.tracks ∷ []) (attachments_elements d.front.attachments ++ (clusters_elements d.clusters ++ cues_elements d.cues)) (in_front id seek void one two)
         (All-append (IsNot id) (attachments_elements d.front.attachments) (clusters_elements d.clusters ++ cues_elements d.cues) (none-shortest ATTACHMENTS id (attachments_elements d.front.attachments) three has.attachments)
         (All-append (IsNot id) (clusters_elements d.clusters) (cues_elements d.cues) (none-shortest CLUSTER id (clusters_elements d.clusters) four has.clusters) (none-shortest CUES id (cues_elements d.cues) five has.cues)))
 
 -- ---- the scale
 
-scale-read : (bytes : List ℕ) (list : List Header) (info : Node) (h : Header) → first_of INFO list ≡ Some h → IsRecordAt bytes h info → scale_at (info_without_limits bytes) (first_of INFO list) ≡ scale_of info
-scale-read bytes list info h first is =
-    ap (scale_at (info_without_limits bytes)) first ∙ ap scale_in is.read ∙ scale-placed h.offset h.body info
+scale-read : (bytes : List ℕ) (list : List Header) (info : Node) (lasting : Option ℕ) → FindsInfo bytes list info lasting → scale_at (info_without_limits bytes) (first_of INFO list) ≡ scale_of info
+scale-read bytes list info lasting finds = ap (scale_at (info_without_limits bytes)) finds.first ∙ ap scale_in finds.read ∙ finds.scale
 
 -- ---- a document
 
@@ -292,7 +291,7 @@ read-as d is =
     let read = segment-is_read (scale_of d.front.info) bytes s w sound held in
     let records = records-read d bytes q is body in
     let scale : scale_without_limits bytes h ≡ scale_of d.front.info =
-    ap (λ hs. scale_at (info_without_limits bytes) (first_of INFO hs)) read.level_1 ∙ scale-read bytes (level_1_of d) d.front.info records.info.0 records.info.1 records.info.2 in
+    ap (λ hs. scale_at (info_without_limits bytes) (first_of INFO hs)) read.level_1 ∙ scale-read bytes (level_1_of d) d.front.info d.front.lasting (info-found bytes (level_1_of d) d.front.info d.front.lasting (told-master d.front.info d.front.lasting is.info.master) records.info) in
     let area_len = length-area d is in
     let front_len : length (joined s.front) ≡ clusters_at d.front =
     ap (λ (o : List ℕ). length o) (flat_map-append octets_of (area_elements (seeks_of d)) (front_elements d.front)) ∙ length-append (joined (area_elements (seeks_of d))) (joined (front_elements d.front)) ∙ omega arith in

@@ -16,6 +16,7 @@ pub mod WalkLemmas
 mod PartLemmas
 pub mod AreaLemmas
 mod ScaleLemmas
+pub mod InfoLemmas
 mod HeaderLemmas
 mod RecordLemmas
 pub mod LayoutLemmas

@@ -1,19 +1,20 @@
 -- The Elements of a document: their IDs, and that they are valid if their sizes fit.
-use Rattle.std.proofs.Common.{◌≡◌, ℕ, ◌-◌, ◌≤◌, ◌==◌, nat_le, Bool, true, false, if◌then◌else◌, List, [], ◌∷◌, ◌++◌, length, map, replicate, All, IfSome, Option, None, Some, refl, ap, ◌∙◌, arith}
+use Rattle.std.proofs.Common.{◌≡◌, ℕ, ◌-◌, ◌≤◌, ◌==◌, nat_le, Bool, true, false, if◌then◌else◌, List, [], ◌∷◌, ◌++◌, length, map, replicate, All, IfSome, Option, None, Some, refl, sym, ap, ◌∙◌, arith}
 use Rattle.std.proofs.lemmas.Bool.{leb-true}
 use Rattle.std.proofs.lemmas.List.{length-replicate}
 use Rattle.std.proofs.lemmas.List.Elements.{All-nil, All-cons, All-head, All-tail, All-weaker}
 use Rattle.ebml_numbers.specs.Number.{is_id, least_size_width}
 use Rattle.ebml_numbers.proofs.WidthLemmas.{least_size_width-IsLeast}
-use Rattle.mkv_schema.specs.declared.ids.TheConstants.{ATTACHMENTS, CLUSTER, CUES, VOID}
-use Rattle.tree_format.specs.Node.{Node}
+use Rattle.mkv_schema.specs.declared.ids.TheConstants.{INFO, ATTACHMENTS, CLUSTER, CUES, VOID}
+use Rattle.tree_format.specs.Node.{Node, id_of}
 use Rattle.output_model.specs.Element.{Element, IsElement, void_element}
 use Rattle.output_model.specs.declared.places.CuePoint.{CuePoint}
 use Rattle.output_model.specs.Cluster.{OutputCluster, cluster_element}
 use Rattle.output_model.specs.Cues.{cues_elements}
-use Rattle.output_model.specs.Document.{tree_element, tree_elements, attachments_elements, clusters_elements}
+use Rattle.output_model.specs.Document.{tree_element, tree_elements, info_element, info_told, attachments_elements, clusters_elements}
 use Rattle.output_model.specs.Sound.{IsRecord}
 use Rattle.output_laws.specs.Places.{HasSize, IsOther}
+use Rattle.output_laws.proofs.InfoLemmas.{told-id}
 
 -- ---- lists of two parts
 
@@ -32,6 +33,13 @@ pub record IsShortest (own : ℕ) (e : Element) : Type 0 where
 
 pub shortest-record : (own : ℕ) (n : Node) → IsRecord own n → IsShortest own (tree_element n)
 shortest-record own n is = record { id = is.id; width = refl }
+
+pub shortest-info : (info : Node) (lasting : Option ℕ) → IsRecord INFO (info_told info lasting) → IsShortest INFO (info_element info lasting)
+shortest-info info lasting is = of lasting (sym (told-id info lasting) ∙ is.id)
+  where
+    of : (o : Option ℕ) → id_of info ≡ INFO → IsShortest INFO (info_element info o)
+    of None own = record { id = own; width = refl }
+    of (Some end) own = record { id = own; width = refl }
 
 pub shortest-records : (own : ℕ) (n : Option Node) → IfSome n (IsRecord own) → All (IsShortest own) (tree_elements n)
 shortest-records own None is = All-nil (IsShortest own)

@@ -1,10 +1,10 @@
 -- The records of a document are found at level 1, and so are the Elements that the Seeks name.
-use Rattle.std.proofs.Common.{◌≡◌, ℕ, ◌+◌, ◌≤◌, ◌==◌, Bool, true, cond, List, [], ◌∷◌, ◌++◌, length, map, All, IfSome, append-nil, length-append, Option, None, Some, refl, sym, ap, ◌∙◌, subst, arith}
+use Rattle.std.proofs.Common.{◌≡◌, ℕ, zero, suc, ◌+◌, ◌≤◌, ◌==◌, Bool, true, cond, List, [], ◌∷◌, ◌++◌, length, map, All, IfSome, append-nil, length-append, Option, None, Some, refl, sym, ap, ◌∙◌, subst, arith}
 use Rattle.std.specs.List.{AllZip}
 use Rattle.std.proofs.lemmas.List.Concat.{flat_map-append}
 use Rattle.std.proofs.lemmas.List.Elements.{All-nil, All-cons, All-head, All-tail, All-append, All-weaker}
 use Rattle.ebml_numbers.specs.Number.{is_id}
-use Rattle.mkv_schema.specs.declared.ids.TheConstants.{ATTACHMENTS, ATTACHED_FILE, CUES}
+use Rattle.mkv_schema.specs.declared.ids.TheConstants.{INFO, ATTACHMENTS, ATTACHED_FILE, CUES}
 use Rattle.mkv_schema.specs.declared.element.Header.{Header}
 use Rattle.mkv_schema.specs.Element.{in_master, in_segment, stated_end}
 use Rattle.mkv_schema.specs.Elements.{Run, children_in}
@@ -20,11 +20,12 @@ use Rattle.output_model.specs.declared.places.CuePoint.{CuePoint}
 use Rattle.output_model.specs.declared.places.Seek.{Seek}
 use Rattle.output_model.specs.Cues.{cues_elements, point_element}
 use Rattle.output_model.specs.SeekHead.{seeks_from}
-use Rattle.output_model.specs.Document.{tree_element, tree_elements, attachments_elements}
+use Rattle.output_model.specs.Document.{tree_element, tree_elements, info_element, info_told, attachments_elements}
 use Rattle.output_model.specs.Sound.{IsRecord, IsAttachment}
 use Rattle.output_laws.specs.Places.{HasSize}
 use Rattle.output_laws.proofs.ClusterLemmas.{sizes-joined}
-use Rattle.output_laws.specs.Reading.{IsRecordAt, FirstIs, ChildrenAre, AttachmentsAre, CuesAre, SeeksElement}
+use Rattle.output_laws.specs.Reading.{IsRecordAt, FirstIs, IsInfoWithVoid, InfoIs, ChildrenAre, AttachmentsAre, CuesAre, SeeksElement}
+use Rattle.output_laws.proofs.InfoLemmas.{told-void, told-element, void-again}
 use Rattle.output_laws.proofs.PartLemmas.{IsNot, records-are_elements}
 
 -- ---- the first Element with an ID
@@ -95,6 +96,32 @@ first-record bytes id (Some n) list before rest p same whole front back is held 
       ap (λ l. first_of id (headers_in_place p l)) whole ∙ first_of-here id before e rest p front (ap (λ x. x == id) is.id ∙ same),
       record-read bytes id n q is (held-behind bytes before e rest p (subst (λ (l : List Element). HoldsAt bytes p (joined l)) whole held)),
     )
+
+-- ---- the Info
+
+void-read : (bytes : List ℕ) (info : Node) (p : ℕ) → IsRecord INFO info → HoldsAt bytes p (octets_of (info_element info (Some zero))) → IsInfoWithVoid bytes (header_in_place p (info_element info (Some zero))) info
+void-read bytes info p is held =
+    let e : Element = info_element info (Some zero) in
+    let h : Header = header_in_place p e in
+    record {
+      id = refl;
+      read = ap (λ o. tree_without_limits h.id h.offset o h.body) (body_of-read bytes p e held) ∙ void-again info h.offset h.body is.id is.master is.sound is.limits;
+    }
+
+-- The Info of an output among Elements with other IDs is the first.
+pub info-read : (bytes : List ℕ) (info : Node) (lasting : Option ℕ) (list before rest : List Element) (p : ℕ) → list ≡ before ++ info_element info lasting ∷ rest
+    → All (IsNot INFO) before → All (IsNot INFO) rest → IsRecord INFO (info_told info lasting) → HoldsAt bytes p (joined list) → InfoIs bytes (headers_in_place p list) info lasting
+info-read bytes info None list before rest p whole front back is held = first-record bytes INFO (Some info) list before rest p refl whole front back is held
+info-read bytes info (Some zero) list before rest p whole front back is held =
+    let e : Element = info_element info (Some zero) in
+    let q : ℕ = p + length (joined before) in
+    let own : IsRecord INFO info = subst (IsRecord INFO) (told-void info) is in (
+      header_in_place q e,
+      ap (λ l. first_of INFO (headers_in_place p l)) whole ∙ first_of-here INFO before e rest p front (ap (λ x. x == INFO) own.id),
+      void-read bytes info q own (held-behind bytes before e rest p (subst (λ (l : List Element). HoldsAt bytes p (joined l)) whole held)),
+    )
+info-read bytes info (Some (suc n)) list before rest p whole front back is held =
+    first-record bytes INFO (Some (info_told info (Some (suc n)))) list before rest p refl (whole ∙ ap (λ e. before ++ e ∷ rest) (sym (told-element info n is.master))) front back is held
 
 -- ---- attachments
 

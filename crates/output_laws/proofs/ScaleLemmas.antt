@@ -1,8 +1,10 @@
 -- The scale of an Info that is written and read again.
-use Rattle.std.proofs.Common.{◌≡◌, ℕ, ◌+◌, ◌==◌, Bool, true, false, cond, if◌then◌else◌, length, find, Some, refl, sym, ap, ◌∙◌, arith}
+use Rattle.std.proofs.Common.{◌≡◌, ℕ, ◌+◌, ◌==◌, Bool, true, false, cond, if◌then◌else◌, List, ◌∷◌, ◌++◌, length, take, drop, find, Option, None, Some, refl, sym, ap, ap₂, ◌∙◌, arith}
 use Rattle.std.specs.Prelude.{unwrap_or}
-use Rattle.std.specs.Option.{option_map}
+use Rattle.std.specs.Option.{option_map, option_or}
 use Rattle.std.proofs.lemmas.Bool.Decides.{nat_tests}
+use Rattle.std.proofs.lemmas.List.{take-append-drop}
+use Rattle.std.proofs.lemmas.List.Folds.{find-append}
 use Rattle.mkv_schema.specs.Schema.{uint_default}
 use Rattle.mkv_schema.specs.declared.ids.TheConstants.{TIMESTAMP_SCALE}
 use Rattle.tree_format.specs.Node.{Node, Nodes, leaf, master, none, node, list_of, id_of}
@@ -11,9 +13,31 @@ use Rattle.tree_format.specs.Standing.{placed, placed_all, placed_in}
 use Rattle.tree_format.specs.Values.{integer_of}
 use Rattle.file_format.specs.Info.{scale_of}
 
+-- ---- an integer among the children
+
+-- the unsigned integer `id` among the children `ns`, if there is one
+abbrev pub integer_among : ℕ → List Node → Option ℕ
+integer_among id ns = option_map integer_of (find (λ n. id_of n == id) ns)
+
+map-or : (f : Node → ℕ) (a b : Option Node) → option_map f (option_or a b) ≡ option_or (option_map f a) (option_map f b)
+map-or f None b = refl
+map-or f (Some n) b = refl
+
+integer-append : (id : ℕ) (ms ns : List Node) → integer_among id (ms ++ ns) ≡ option_or (integer_among id ms) (integer_among id ns)
+integer-append id ms ns =
+    ap (option_map integer_of) (find-append (λ n. id_of n == id) ms ns) ∙ map-or integer_of (find (λ n. id_of n == id) ms) (find (λ n. id_of n == id) ns)
+
+-- A child with another ID, and children with the same integer before and after it, don't change the integer.
+pub integer-inserted : (id : ℕ) (n : Node) (k : ℕ) (front back ns : List Node) → integer_among id front ≡ integer_among id (take k ns) → integer_among id back ≡ integer_among id (drop k ns) → (id_of n == id) ≡ false
+    → integer_among id (front ++ n ∷ back) ≡ integer_among id ns
+integer-inserted id n k front back ns first rest other =
+    integer-append id front (n ∷ back)
+    ∙ ap (λ (t : Bool). option_or (integer_among id front) (option_map integer_of (cond t (Some n) (find (λ m. id_of m == id) back)))) other
+    ∙ ap₂ option_or first rest
+    ∙ sym (integer-append id (take k ns) (drop k ns)) ∙ ap (integer_among id) (take-append-drop k ns)
+
 -- A written integer is the same at any place.
-placed-integer : (id : ℕ) (ns : Nodes) (p : ℕ) → is_filler id ≡ false
-    → option_map integer_of (find (λ n. id_of n == id) (list_of (placed_all p ns))) ≡ option_map integer_of (find (λ n. id_of n == id) (list_of ns))
+pub placed-integer : (id : ℕ) (ns : Nodes) (p : ℕ) → is_filler id ≡ false → integer_among id (list_of (placed_all p ns)) ≡ integer_among id (list_of ns)
 placed-integer id none p kept = refl
 placed-integer id (node n ns) p kept = split (is_filler (id_of n)) refl (λ q. placed-integer id ns q kept)
   where
@@ -45,7 +69,17 @@ placed-integer id (node n ns) p kept = split (is_filler (id_of n)) refl (λ q. p
     split true filler rest = rest p ∙ sym (ap (λ (t : Bool). option_map integer_of (cond t (Some n) (find (λ k. id_of k == id) (list_of ns)))) (not_it (id_of n == id) refl filler))
     split false filler rest = here n p (p + length (octets n)) (rest (p + length (octets n)))
 
+-- ---- the scale
+
+-- the scale, if it is known, and otherwise the default
+abbrev pub default_scale : Option ℕ → ℕ
+default_scale scale = unwrap_or scale (unwrap_or (uint_default TIMESTAMP_SCALE) 0)
+
+-- the scale of an Info with the children `ns`
+abbrev pub scale_among : List Node → ℕ
+scale_among ns = default_scale (integer_among TIMESTAMP_SCALE ns)
+
 -- The scale of an Info is the scale of the written Info.
 pub scale-placed : (offset base : ℕ) (info : Node) → scale_of (placed_in offset base info) ≡ scale_of info
 scale-placed offset base (leaf id at body) = refl
-scale-placed offset base (master id at kids) = ap (λ o. unwrap_or o (unwrap_or (uint_default TIMESTAMP_SCALE) 0)) (placed-integer TIMESTAMP_SCALE kids base refl)
+scale-placed offset base (master id at kids) = ap default_scale (placed-integer TIMESTAMP_SCALE kids base refl)

@@ -1,8 +1,9 @@
 -- Written documents are read back.
-use Rattle.std.specs.Prelude.{◌≡◌, ℕ, List, length}
-use Rattle.output_model.specs.Element.{joined}
+use Rattle.std.specs.Prelude.{◌≡◌, ℕ, List, [], ◌++◌, length, Option, None, Some}
+use Rattle.output_model.specs.Duration.{duration_element}
+use Rattle.output_model.specs.Element.{joined, octets_of}
 use Rattle.output_model.specs.SeekHead.{area_elements, open_area}
-use Rattle.output_model.specs.Document.{Document, elements_behind_area, seeks_of, file_with, segment_size, unknown_size, layout, opened}
+use Rattle.output_model.specs.Document.{Document, ending_at, elements_behind_area, seeks_of, file_with, segment_size, unknown_size, layout, opened}
 use Rattle.output_model.specs.Sound.{IsSoundDocument}
 use Rattle.output_laws.specs.Reading.{IsReadAs}
 
@@ -14,14 +15,32 @@ LayoutsAreRead = (d : Document) → IsSoundDocument d → IsReadAs d (layout d)
 abbrev pub behind_area : Document → List ℕ
 behind_area d = joined (elements_behind_area d)
 
--- Before its last two writes, the content of the document `d` differs only in the Segment's size and in the area for its SeekHead. These parts keep
--- their lengths.
-pub record DifferInTwo (d : Document) : Type 0 where
+-- the document `d` while its end isn't known
+abbrev pub unfinished : Document → Document
+unfinished d = record d { front = ending_at 0 d.front }
+
+-- the bytes of the Duration that `lasting` gives, or of the Void in its place, as in `info_element`
+abbrev pub duration_octets : Option ℕ → List ℕ
+duration_octets None = []
+duration_octets (Some end) = octets_of (duration_element end)
+
+-- The bytes after the area change only in the Duration when the end becomes known. They keep their length.
+pub record DifferInDuration (d : Document) : Type 0 where
+  pub before : List ℕ
+  pub after : List ℕ
+  pub layout_is : behind_area d ≡ before ++ (duration_octets d.front.lasting ++ after)
+  pub opened_is : behind_area (unfinished d) ≡ before ++ (duration_octets (unfinished d).front.lasting ++ after)
+  pub len : length (duration_octets d.front.lasting) ≡ length (duration_octets (unfinished d).front.lasting)
+
+-- Before its last writes, the content of the document `d` differs only in the Segment's size, in the area for its SeekHead and in its Duration, if
+-- it has one. These parts keep their lengths.
+pub record DifferInThree (d : Document) : Type 0 where
   pub layout_is : layout d ≡ file_with d.front.webm (segment_size (length (behind_area d))) (area_elements (seeks_of d)) (behind_area d)
-  pub opened_is : opened d ≡ file_with d.front.webm unknown_size open_area (behind_area d)
+  pub opened_is : opened d ≡ file_with d.front.webm unknown_size open_area (behind_area (unfinished d))
   pub size : length (segment_size (length (behind_area d))) ≡ length unknown_size
   pub area : length (joined (area_elements (seeks_of d))) ≡ length (joined open_area)
+  pub duration : DifferInDuration d
 
--- An output before its last two writes differs from the finished one only in the Segment's size and in the area for its SeekHead.
+-- An output before its last writes differs from the finished one only in the Segment's size, in the area for its SeekHead and in its Duration.
 abbrev pub OpenedIsOverwritten : Type 0
-OpenedIsOverwritten = (d : Document) → IsSoundDocument d → DifferInTwo d
+OpenedIsOverwritten = (d : Document) → IsSoundDocument d → DifferInThree d

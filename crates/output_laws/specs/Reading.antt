@@ -1,25 +1,27 @@
 -- A content that is read as a document: RFC 8794, section 8 (EBML Document), and RFC 9559, sections 4.5 (Data Layout) and 5.1 (Segment Element).
-use Rattle.std.specs.Prelude.{◌≡◌, ℕ, ◌+◌, false, List, [], ◌∷◌, ◌++◌, length, map, All, Option, None, Some, Ok}
+use Rattle.std.specs.Prelude.{◌≡◌, ℕ, zero, suc, ◌+◌, false, List, [], ◌∷◌, ◌++◌, length, map, flat_map, take, drop, All, Option, None, Some, Ok}
 use Rattle.std.specs.List.{AllZip}
-use Rattle.mkv_schema.specs.declared.ids.TheConstants.{INFO, TRACKS, ATTACHMENTS, CUES, CHAPTERS, TAGS}
+use Rattle.mkv_schema.specs.declared.ids.TheConstants.{VOID, INFO, TRACKS, ATTACHMENTS, CUES, CHAPTERS, TAGS}
 use Rattle.mkv_schema.specs.declared.element.Header.{Header}
 use Rattle.mkv_schema.specs.Element.{in_master, in_segment, element_at, stated_end}
 use Rattle.mkv_schema.specs.Elements.{children_in}
 use Rattle.mkv_schema.specs.Value.{body_of, first_of}
 use Rattle.mkv_schema.specs.Outline.{segment_bound, Outlined}
 use Rattle.mkv_schema.specs.WithoutLimits.{outline_without_limits}
-use Rattle.tree_format.specs.Node.{Node, id_of}
+use Rattle.tree_format.specs.Node.{Node, leaf, master, nodes_of, list_of, id_of, children}
+use Rattle.tree_format.specs.NormalForm.{octets}
 use Rattle.tree_format.specs.Order.{tree_without_limits}
-use Rattle.tree_format.specs.Standing.{placed_in}
+use Rattle.tree_format.specs.Standing.{placed_all, placed_in}
 use Rattle.file_format.specs.Info.{scale_of, scale_without_limits}
 use Rattle.block_format.specs.Block.{Block}
 use Rattle.file_format.specs.FileBlocks.{file_events}
-use Rattle.output_model.specs.Element.{octets_of, joined, header_in_place, headers_in_place}
+use Rattle.output_model.specs.Element.{octets_of, joined, header_in_place, headers_in_place, void_element}
+use Rattle.output_model.specs.declared.TheConstants.{DURATION_LEN}
 use Rattle.output_model.specs.declared.places.CuePoint.{CuePoint}
 use Rattle.output_model.specs.declared.places.Seek.{Seek}
 use Rattle.output_model.specs.Cues.{point_element}
 use Rattle.output_model.specs.SeekHead.{area_elements}
-use Rattle.output_model.specs.Document.{Document, ebml_element, front_elements, back_elements, seeks_of}
+use Rattle.output_model.specs.Document.{Document, duration_place, ebml_element, info_told, front_elements, back_elements, seeks_of}
 use Rattle.output_laws.specs.Places.{OutputSegment, segment_elements, segment_element, segment_blocks, block_events}
 use Rattle.output_laws.specs.Points.{PointsAtBlock}
 
@@ -70,6 +72,29 @@ abbrev pub FirstIs : List ℕ → List Header → ℕ → Option Node → Type 0
 FirstIs bytes list id None = first_of id list ≡ None
 FirstIs bytes list id (Some n) = (h : Header) × (first_of id list ≡ Some h) × IsRecordAt bytes h n
 
+-- the trees `ns` as they are read back after they are written at `p`
+abbrev pub placed_list : ℕ → List Node → List Node
+placed_list p ns = list_of (placed_all p (nodes_of ns))
+
+-- the children `ns` of an Info as they are read back after they are written at `p`. A Void follows the first `k`, in the place of a Duration.
+abbrev pub around_void : ℕ → ℕ → List Node → List Node
+around_void k p ns =
+    let q = p + length (flat_map octets (take k ns)) in
+    placed_list p (take k ns) ++ leaf VOID q (void_element DURATION_LEN).body ∷ placed_list (q + DURATION_LEN) (drop k ns)
+
+-- The Element `h` of a content is the Info `info` of an output that ends at 0. It is read as `IsRecordAt` states, but has a Void in the place of a
+-- Duration.
+pub record IsInfoWithVoid (bytes : List ℕ) (h : Header) (info : Node) : Type 0 where
+  pub id : h.id ≡ id_of info
+  pub read : tree_without_limits h.id h.offset (body_of bytes h) h.body
+      ≡ Ok (master h.id h.offset (nodes_of (around_void (duration_place (children info)) h.body (children info))))
+
+-- The first Info is the record `info` with the Duration that `lasting` gives, as in `info_element`. At the end 0 a Void is in its place.
+abbrev pub InfoIs : List ℕ → List Header → Node → Option ℕ → Type 0
+InfoIs bytes list info None = FirstIs bytes list INFO (Some info)
+InfoIs bytes list info (Some zero) = (h : Header) × (first_of INFO list ≡ Some h) × IsInfoWithVoid bytes h info
+InfoIs bytes list info (Some (suc n)) = FirstIs bytes list INFO (Some (info_told info (Some (suc n))))
+
 -- The children of the master `h` in the content `bytes` are the records `ns`, without damage.
 pub record ChildrenAre (bytes : List ℕ) (h : Header) (ns : List Node) : Type 0 where
   pub unbroken : (children_in in_master bytes h.body (stated_end h)).damage ≡ None
@@ -87,7 +112,7 @@ CuesAre bytes list (p ∷ ps) = (h : Header) × (first_of CUES list ≡ Some h) 
 
 -- The Elements of level 1 in the content `bytes`, with the headers `list`, have the records and cue points of the document `d`.
 pub record RecordsAre (bytes : List ℕ) (list : List Header) (d : Document) : Type 0 where
-  pub info : FirstIs bytes list INFO (Some d.front.info)
+  pub info : InfoIs bytes list d.front.info d.front.lasting
   pub tracks : FirstIs bytes list TRACKS (Some d.front.tracks)
   pub attachments : AttachmentsAre bytes list d.front.attachments
   pub cues : CuesAre bytes list d.cues

@@ -9,8 +9,8 @@ pub fn layouts_are_read()
     ensures { LayoutsAreRead }
 {}
 
-/// Law: an output before its last two writes differs from the finished one only in the Segment's size and in the area
-/// for its SeekHead.
+/// Law: an output before its last writes differs from the finished one only in the Segment's size, in the area for its
+/// SeekHead and in its Duration.
 pub fn opened_is_overwritten()
     ensures { OpenedIsOverwritten }
 {}
