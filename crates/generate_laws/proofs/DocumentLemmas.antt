@@ -89,7 +89,7 @@ pub record HasLanes (lanes : ℕ) (tracks : Node) : Type 0 where
 
 -- the Elements before the Clusters, with the given Tracks
 abbrev pub plain_front : Node → Front
-plain_front tracks = record { webm = false; info = plain_info; tracks = tracks; attachments = [] }
+plain_front tracks = record { webm = false; lasting = None; info = plain_info; tracks = tracks; attachments = [] }
 
 -- the output of the blocks `bs` on these tracks
 abbrev pub plain_document : List CueRule → Node → List OutputBlock → Document

@@ -226,9 +226,9 @@ module _ (rules : List CueRule) (tracks : Node) (lanes : ℕ) (bs : List OutputB
       let many = is.has.few in
       let info : KeepsReaderLimits plain_info = record { short = omega (arith, info-long); few = omega arith } in
       record {
-        records = record { info = info; tracks = record { short = omega arith; few = omega arith }; chapters = tt; tags = tt };
+        records = record { lasting = refl; info = info; tracks = record { short = omega arith; few = omega arith }; chapters = tt; tags = tt };
         attachments = subst (λ (o : Option Header). IfSome o (AttachmentsKeepLimits (layout d))) (sym (layout-read d sound).records.attachments) tt;
-        blocks = blocks-read d sound info blocks-short all-readable;
+        blocks = blocks-read d sound refl info blocks-short all-readable;
       }
 
   -- So a reader with limits finds the whole of it.

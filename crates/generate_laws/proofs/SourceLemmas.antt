@@ -250,7 +250,7 @@ module _ (rules : List CueRule) (tracks : Node) (lanes : ℕ) (bs : List OutputB
         let keeps = keeps-limits rules tracks lanes bs is in
         record {
           blocks = ap (Clusters (header_of_segment d)) of_d.scale;
-          events = ap (λ (n : ℕ). events_of (with_limits n) (layout d) (header_of_segment d)) (of_d.scale ∙ sym (own-scale d good-sound keeps.records.info)) ∙ read.events;
+          events = ap (λ (n : ℕ). events_of (with_limits n) (layout d) (header_of_segment d)) (of_d.scale ∙ sym (own-scale d good-sound keeps.records.lasting keeps.records.info)) ∙ read.events;
           alone = refl;
           times = refl;
           numbers = taken.numbers;

@@ -179,7 +179,7 @@ module _ (n : ℕ) (few : n ≤ 100000) (names : Names) where
   -- the document of a part with the identifier `own` and the attached files `files`
   abbrev with_front : Part → Option ℕ → List Node → Document
   with_front p own files =
-      document_of default_limits both_rules (record { webm = false; info = with_uuids (record { own = own; before = None; next = None }) plain_info; tracks = part_tracks; attachments = files }) None None p.blocks
+      document_of default_limits both_rules (record { webm = false; lasting = None; info = with_uuids (record { own = own; before = None; next = None }) plain_info; tracks = part_tracks; attachments = files }) None None p.blocks
 
   -- Each part is such a document, too.
   part-document : (number : ℕ) (p : Part) → document_at words part_sources (number, p) ≡ plain_document both_rules part_tracks p.blocks

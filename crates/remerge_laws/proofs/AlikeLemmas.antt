@@ -12,7 +12,7 @@ use Rattle.output_model.specs.declared.places.Seek.{Seek}
 use Rattle.output_model.specs.Cluster.{OutputCluster}
 use Rattle.output_model.specs.Cues.{cues_elements}
 use Rattle.output_model.specs.SeekHead.{area_elements, seeks_from}
-use Rattle.output_model.specs.Document.{Front, attachments_elements, back_at, back_elements, clusters_elements, elements_behind_area, file_with, front_elements, segment_size, seeks_of, tree_element, tree_elements}
+use Rattle.output_model.specs.Document.{info_element, Front, attachments_elements, back_at, back_elements, clusters_elements, elements_behind_area, file_with, front_elements, segment_size, seeks_of, tree_element, tree_elements}
 use Rattle.remerge_laws.specs.Alike.{AlikeDocumentsAreOne, AreAlike, MayBeAlike}
 
 -- ---- Elements that are written alike
@@ -78,10 +78,16 @@ attachments-same (m ∷ ms) (n ∷ ns) are = (
 )
 attachments-same _ _ are = absurd are
 
+-- An Info without a Duration.
+info-same : (f g : Front) → f.lasting ≡ None → g.lasting ≡ None → AreAlike f.info g.info → IsSame (info_element f.info f.lasting) (info_element g.info g.lasting)
+info-same f g none none_too alike =
+    subst (λ (e : Element). IsSame e (info_element g.info g.lasting)) (sym (ap (info_element f.info) none))
+    (subst (IsSame (tree_element f.info)) (sym (ap (info_element g.info) none_too)) (tree-same f.info g.info alike))
+
 -- The Elements before the Clusters.
-pub fronts-same : (f g : Front) → AreAlike f.info g.info → AreAlike f.tracks g.tracks → AllZip AreAlike f.attachments g.attachments → joined (front_elements f) ≡ joined (front_elements g)
-fronts-same f g info tracks files =
-    joined-same (front_elements f) (front_elements g) (tree-same f.info g.info info, (tree-same f.tracks g.tracks tracks, attachments-same f.attachments g.attachments files))
+pub fronts-same : (f g : Front) → f.lasting ≡ None → g.lasting ≡ None → AreAlike f.info g.info → AreAlike f.tracks g.tracks → AllZip AreAlike f.attachments g.attachments → joined (front_elements f) ≡ joined (front_elements g)
+fronts-same f g none none_too info tracks files =
+    joined-same (front_elements f) (front_elements g) (info-same f g none none_too info, (tree-same f.tracks g.tracks tracks, attachments-same f.attachments g.attachments files))
 
 -- the bytes of a file, by the Elements after the area and the Seeks
 abbrev laid : Bool → List Seek → List ℕ → List ℕ
@@ -96,7 +102,7 @@ alike-one d e alike =
     let back : List Element = back_elements d in
     let back_too : List Element = back_elements e in
     let fronts : AreSame one two =
-    (tree-same d.front.info e.front.info alike.info, (tree-same d.front.tracks e.front.tracks alike.tracks, attachments-same d.front.attachments e.front.attachments alike.attachments)) in
+    (info-same d.front e.front alike.lasting alike.lasting_too alike.info, (tree-same d.front.tracks e.front.tracks alike.tracks, attachments-same d.front.attachments e.front.attachments alike.attachments)) in
     let middles : AreSame middle middle_too = subst (λ (cs : List OutputCluster). AreSame middle (clusters_elements cs)) alike.clusters (same-itself middle) in
     let cues : AreSame (cues_elements d.cues) (cues_elements e.cues) = subst (λ (ps : List CuePoint). AreSame (cues_elements d.cues) (cues_elements ps)) alike.cues (same-itself (cues_elements d.cues)) in
     let ends : AreSame (tree_elements d.chapters ++ tree_elements d.tags) (tree_elements e.chapters ++ tree_elements e.tags) =

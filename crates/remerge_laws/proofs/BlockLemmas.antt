@@ -173,19 +173,19 @@ scale-read bytes (Some h) m is =
     let same : read.0 ≡ m = cc in
     ap scale_in read.1.0 ∙ ap scale_of same
 
-pub own-scale : (d : Document) → IsSoundDocument d → KeepsReaderLimits d.front.info → file_scale (layout d) (header_of_segment d) ≡ scale_of d.front.info
+pub own-scale : (d : Document) → IsSoundDocument d → d.front.lasting ≡ None → KeepsReaderLimits d.front.info → file_scale (layout d) (header_of_segment d) ≡ scale_of d.front.info
 unfolding file_scale
-own-scale d is keeps =
-    let info = info-read d is keeps in
+own-scale d is none keeps =
+    let info = info-read d is none keeps in
     scale-read (layout d) (first_of INFO (segment_run (layout d) (header_of_segment d)).list) info.0 info.1 ∙ info.2
 
 pub blocks-read : OutputBlocksAreRead
-blocks-read d is keeps short good =
+blocks-read d is none keeps short good =
     let bytes : List ℕ = layout d in
     let segment : Header = header_of_segment d in
     let scale : ℕ = scale_of d.front.info in
     let read = layout-read d is in
-    let with_scale : file_scale bytes segment ≡ scale = own-scale d is keeps in
+    let with_scale : file_scale bytes segment ≡ scale = own-scale d is none keeps in
     let events : events_of (without_limits scale) bytes segment ≡ block_events (blocks_of_document d) = ap (λ (n : ℕ). events_of (without_limits n) bytes segment) (sym read.scale) ∙ read.events in
     ap (λ (n : ℕ). events_of (with_limits n) bytes segment) with_scale
     ∙ limits-leave scale bytes segment (ap damages_of events ∙ none-damaged (blocks_of_document d)) short

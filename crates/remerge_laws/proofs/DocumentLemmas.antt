@@ -1,5 +1,5 @@
 -- The outline of an output keeps a reader's limits.
-use Rattle.std.proofs.Common.{◌≡◌, ℕ, ◌+◌, ◌-◌, ◌*◌, ◌≤◌, ◌==◌, nat_le, not, Bool, true, false, if◌then◌else◌, List, [], ◌∷◌, ◌++◌, length, filter, All, IfSome, Option, Some, None, refl, sym, ap, ◌∙◌, arith, sum_by, inl, inr}
+use Rattle.std.proofs.Common.{◌≡◌, ℕ, ◌+◌, ◌-◌, ◌*◌, ◌≤◌, ◌==◌, nat_le, not, Bool, true, false, if◌then◌else◌, List, [], ◌∷◌, ◌++◌, length, filter, All, IfSome, Option, Some, None, refl, sym, ap, subst, ◌∙◌, arith, sum_by, inl, inr}
 use Rattle.std.proofs.lemmas.List.Elements.{All-nil, All-cons, All-head, All-tail, All-append}
 use Rattle.std.proofs.lemmas.List.Sums.{sum_by-append}
 use Rattle.std.proofs.lemmas.Bool.{cases_Bool}
@@ -18,7 +18,7 @@ use Rattle.output_model.specs.declared.places.Seek.{Seek}
 use Rattle.output_model.specs.Cluster.{OutputCluster, cluster_element}
 use Rattle.output_model.specs.Cues.{cues_elements}
 use Rattle.output_model.specs.SeekHead.{seek_head, area_elements}
-use Rattle.output_model.specs.Document.{Document, ebml_element, tree_element, tree_elements, attachments_elements, clusters_elements, seeks_of, layout}
+use Rattle.output_model.specs.Document.{info_element, Document, ebml_element, tree_element, tree_elements, attachments_elements, clusters_elements, seeks_of, layout}
 use Rattle.output_laws.specs.Places.{segment_elements}
 use Rattle.output_laws.specs.Reading.{segment_of_document, header_of_segment, outline_of_document, level_1_of}
 use Rattle.output_laws.proofs.LayoutLemmas.{layout-read}
@@ -171,9 +171,11 @@ count-document d keeps =
     (count-append MAX_MASTER_LEN MAX_MASTER_LEN 1 1 chapters tags (count-records d.chapters keeps.chapters) (count-records d.tags keeps.tags)) in
     let front = count-append MAX_MASTER_LEN (MAX_MASTER_LEN + 0) 1 2 (info ∷ []) (tracks ∷ attachments) (count-record d.front.info keeps.info)
     (count-append MAX_MASTER_LEN 0 1 1 (tracks ∷ []) attachments (count-record d.front.tracks keeps.tracks) (count-attachments d.front.attachments)) in
-    count-append (MAX_MASTER_LEN + MAX_MASTER_LEN) (MAX_MASTER_LEN + MAX_MASTER_LEN) 5 3 (area ++ (info ∷ tracks ∷ attachments)) (middle ++ (cues ++ (chapters ++ tags)))
+    let rest : List Element = middle ++ (cues ++ (chapters ++ tags)) in
+    subst (λ (e : Element). CountFor (4 * MAX_MASTER_LEN) 8 ((area ++ (e ∷ tracks ∷ attachments)) ++ rest)) (sym (ap (info_element d.front.info) keeps.lasting))
+    (count-append (MAX_MASTER_LEN + MAX_MASTER_LEN) (MAX_MASTER_LEN + MAX_MASTER_LEN) 5 3 (area ++ (info ∷ tracks ∷ attachments)) rest
     (count-append 0 (MAX_MASTER_LEN + MAX_MASTER_LEN) 2 3 area (info ∷ tracks ∷ attachments) (count-area (seeks_of d)) front)
-    (count-append 0 (MAX_MASTER_LEN + MAX_MASTER_LEN) 0 3 middle (cues ++ (chapters ++ tags)) (count-clusters d.clusters) back)
+    (count-append 0 (MAX_MASTER_LEN + MAX_MASTER_LEN) 0 3 middle (cues ++ (chapters ++ tags)) (count-clusters d.clusters) back))
 
 -- The EBML header is short.
 ebml-short : (webm : Bool) → length (ebml_element webm).body ≤ MAX_HEADER_LEN

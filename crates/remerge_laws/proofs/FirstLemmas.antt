@@ -17,9 +17,10 @@ use Rattle.output_model.specs.declared.places.Seek.{Seek}
 use Rattle.output_model.specs.Cluster.{OutputCluster, cluster_element}
 use Rattle.output_model.specs.Cues.{cues_elements}
 use Rattle.output_model.specs.SeekHead.{seek_head, area_elements}
-use Rattle.output_model.specs.Document.{Document, attachments_elements, back_elements, clusters_elements, ebml_element, elements_behind_area, layout, seeks_of, segment_size, tree_element, tree_elements}
+use Rattle.output_model.specs.Document.{info_element, Document, attachments_elements, back_elements, clusters_elements, ebml_element, elements_behind_area, layout, seeks_of, segment_size, tree_element, tree_elements}
 use Rattle.output_model.specs.Sound.{IsRecord, IsSoundDocument}
 use Rattle.output_model.proofs.HeldLemmas.{held-between, held-left, held-right}
+use Rattle.output_laws.proofs.InfoLemmas.{info-id, told-id}
 use Rattle.output_laws.specs.Places.{segment_elements}
 use Rattle.output_laws.specs.Reading.{header_of_segment, level_1_of, outline_of_document, segment_of_document}
 use Rattle.output_laws.proofs.LayoutLemmas.{layout-read}
@@ -121,17 +122,23 @@ module _ (d : Document) (is : IsSoundDocument d) where
   abbrev behind_tracks : List Element
   behind_tracks = attachments_elements d.front.attachments ++ (clusters_elements d.clusters ++ back_elements d)
 
-  pub info-first : first_element INFO (segment_elements (segment_of_document d)) ≡ Some (tree_element d.front.info)
+  abbrev info : Element
+  info = info_element d.front.info d.front.lasting
+
+  its-id : info.id ≡ INFO
+  its-id = info-id d.front.info d.front.lasting ∙ sym (told-id d.front.info d.front.lasting) ∙ is.info.id
+
+  pub info-first : first_element INFO (segment_elements (segment_of_document d)) ≡ Some info
   info-first =
-      behind-area INFO (seeks_of d) (tree_element d.front.info ∷ tree_element d.front.tracks ∷ behind_tracks) refl refl
-      ∙ here INFO (tree_element d.front.info) (tree_element d.front.tracks ∷ behind_tracks) is.info.id refl
+      behind-area INFO (seeks_of d) (info ∷ tree_element d.front.tracks ∷ behind_tracks) refl refl
+      ∙ here INFO info (tree_element d.front.tracks ∷ behind_tracks) its-id refl
 
   -- The first Element after the Info.
   past-info : (id : ℕ) → (SEEK_HEAD == id) ≡ false → (VOID == id) ≡ false → (INFO == id) ≡ false
       → first_element id (segment_elements (segment_of_document d)) ≡ first_element id (tree_element d.front.tracks ∷ behind_tracks)
-  past-info id seek void info =
-      behind-area id (seeks_of d) (tree_element d.front.info ∷ tree_element d.front.tracks ∷ behind_tracks) seek void
-      ∙ behind id INFO (tree_element d.front.info ∷ []) (tree_element d.front.tracks ∷ behind_tracks) info (one-id INFO (tree_element d.front.info) is.info.id)
+  past-info id seek void differs =
+      behind-area id (seeks_of d) (info ∷ tree_element d.front.tracks ∷ behind_tracks) seek void
+      ∙ behind id INFO (info ∷ []) (tree_element d.front.tracks ∷ behind_tracks) differs (one-id INFO info its-id)
 
   pub tracks-first : first_element TRACKS (segment_elements (segment_of_document d)) ≡ Some (tree_element d.front.tracks)
   tracks-first = past-info TRACKS refl refl refl ∙ here TRACKS (tree_element d.front.tracks) behind_tracks is.tracks.is.id refl

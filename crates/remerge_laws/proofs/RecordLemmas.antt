@@ -22,10 +22,10 @@ use Rattle.file_format.specs.Refusal.{refusal_of}
 use Rattle.track_records.specs.declared.track.Track.{Track}
 use Rattle.track_records.specs.Track.{track_of, tracks_of}
 use Rattle.output_model.specs.Element.{header_of, header_in_place}
-use Rattle.output_model.specs.Document.{Document, layout, tree_element}
+use Rattle.output_model.specs.Document.{Document, layout, tree_element, info_element, info_told}
 use Rattle.output_model.specs.Sound.{IsRecord, IsSoundDocument}
 use Rattle.output_laws.specs.Places.{segment_elements}
-use Rattle.output_laws.specs.Reading.{FirstIs, header_of_segment, level_1_of, segment_of_document}
+use Rattle.output_laws.specs.Reading.{FirstIs, header_of_segment, level_1_of, segment_of_document, InfoIs}
 use Rattle.output_laws.proofs.LayoutLemmas.{layout-read}
 use Rattle.meta_records.specs.Attached.{AttachedFile, first_attached}
 use Rattle.meta_records.specs.Records.{FileRecords, file_records, first_tree, good_info, good_tracks, tree_at}
@@ -76,12 +76,25 @@ module _ (d : Document) (is : IsSoundDocument d) (id : ℕ) where
   may-read None found first own keeps = none-read found
   may-read (Some n) found first own keeps = some-read n found (first n refl) own keeps
 
+-- the Info of an output without a Duration: it is the first Element with its ID, and can be written
+record HasPlainInfo (d : Document) : Type 0 where
+  found : FirstIs (layout d) (level_1_of d) INFO (Some d.front.info)
+  first : first_element INFO (segment_elements (segment_of_document d)) ≡ Some (tree_element d.front.info)
+  own : IsRecord INFO d.front.info
+
+info-is : (d : Document) → IsSoundDocument d → d.front.lasting ≡ None → HasPlainInfo d
+info-is d is none = record {
+  found = subst (InfoIs (layout d) (level_1_of d) d.front.info) none (layout-read d is).records.info;
+  first = info-first d is ∙ ap (λ (lasting : Option ℕ). Some (info_element d.front.info lasting)) none;
+  own = subst (λ (lasting : Option ℕ). IsRecord INFO (info_told d.front.info lasting)) none is.info;
+}
+
 -- The records of an output are read as trees.
 pub trees-read : TreesAreRead
 trees-read d is keeps =
     let records = (layout-read d is).records in
     record {
-      info = some-read d is INFO d.front.info records.info (info-first d is) is.info keeps.info;
+      info = some-read d is INFO d.front.info (info-is d is keeps.lasting).found (info-is d is keeps.lasting).first (info-is d is keeps.lasting).own keeps.info;
       tracks = some-read d is TRACKS d.front.tracks records.tracks (tracks-first d is) is.tracks.is keeps.tracks;
       chapters = may-read d is CHAPTERS d.chapters records.chapters (λ n same. chapters-first d is n same) is.chapters keeps.chapters;
       tags = may-read d is TAGS d.tags records.tags (λ n same. tags-first d is n same) is.tags keeps.tags;
@@ -113,9 +126,10 @@ info-good info p some =
         ap (λ (b : Bool). where_it (not (not b)) (damage BadValue TIMESTAMP_SCALE (offset_of n))) test
 
 -- The first Info of an output is read, with the document's scale.
-pub info-read : (d : Document) → IsSoundDocument d → KeepsReaderLimits d.front.info → (m : Node) × (first_tree INFO (layout d) (header_of_segment d) ≡ Ok (Some m)) × (scale_of m ≡ scale_of d.front.info)
-info-read d is keeps =
-    let read = some-read d is INFO d.front.info (layout-read d is).records.info (info-first d is) is.info keeps in
+pub info-read : (d : Document) → IsSoundDocument d → d.front.lasting ≡ None → KeepsReaderLimits d.front.info → (m : Node) × (first_tree INFO (layout d) (header_of_segment d) ≡ Ok (Some m)) × (scale_of m ≡ scale_of d.front.info)
+info-read d is none keeps =
+    let its = info-is d is none in
+    let read = some-read d is INFO d.front.info its.found its.first its.own keeps in
     let info = some-of d.front.info read.0 read.2 in
     (info.0, read.1 ∙ ap (λ (o : Option Node). Ok o) info.1, ap scale_of info.2.1 ∙ scale-same d.front.info info.2.0)
 

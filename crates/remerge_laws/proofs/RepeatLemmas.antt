@@ -170,7 +170,7 @@ module _ (tracks_stay : TracksStay) (chapters_stay : ChaptersStay) (tags_stay : 
     output-read : IsReadOfOutput d s.1
     output-read = record {
       blocks = ap (Clusters (header_of_segment d)) of_d.scale;
-      events = ap (λ (n : ℕ). events_of (with_limits n) (layout d) (header_of_segment d)) (of_d.scale ∙ sym (own-scale d has.sound has.limits.records.info)) ∙ read.events;
+      events = ap (λ (n : ℕ). events_of (with_limits n) (layout d) (header_of_segment d)) (of_d.scale ∙ sym (own-scale d has.sound has.limits.records.lasting has.limits.records.info)) ∙ read.events;
       alone = refl;
       times = refl;
       numbers = taken-of.numbers;
@@ -247,11 +247,13 @@ module _ (tracks_stay : TracksStay) (chapters_stay : ChaptersStay) (tags_stay : 
     cues-same =
         ap (λ (rules : List CueRule). points rules (AREA + length (joined (front_elements d.front))) d.clusters) rules-same
         ∙ ap₂ (λ (octets : List ℕ) (cs : List OutputCluster). points (rules_given (s.1 ∷ [])) (AREA + length octets) cs)
-        (fronts-same d.front e.front info-alike tracks-alike files-alike) clusters-same
+        (fronts-same d.front e.front has.limits.records.lasting refl info-alike tracks-alike files-alike) clusters-same
 
     documents-alike : AreAlikeDocuments d e
     documents-alike = record {
       webm = usual.webm;
+      lasting = has.limits.records.lasting;
+      lasting_too = refl;
       info = info-alike;
       tracks = tracks-alike;
       attachments = files-alike;

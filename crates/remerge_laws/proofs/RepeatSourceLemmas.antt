@@ -73,7 +73,7 @@ module _ (documents_sound : MergedDocumentsAreSound) (layouts_hold : LayoutsHold
         ∙ sym (ap length (entries-are (tracks_taken (reads_of sources)) taken) ∙ entries-count (tracks_taken (reads_of sources)));
     unnumbered = lanes-free words sources are.each;
     plain = plain_one holds;
-    limits = octets-keep d document-sound (whole-planned words sources are.unrefused) within;
+    limits = octets-keep d document-sound (whole-planned words sources usual.duration are.unrefused) within;
   }
     where
       plain_one : (o : PlannedOutput) × (o.document ≡ d) × HoldsOutput words o (layout d) → All (λ (entry : Node). first_child CONTENT_ENCODINGS entry ≡ None) (entries_of d.front.tracks)

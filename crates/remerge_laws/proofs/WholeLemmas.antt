@@ -28,6 +28,8 @@ use Rattle.merge_plan.specs.Plan.{Source, limits_of, rules_given, starts_in}
 use Rattle.merge_plan.specs.Records.{chapters_of, tags_of, title_of, tracks_of_output, tracks_taken}
 use Rattle.merge_plan.specs.Refusal.{lanes_refusal, plan_refusal, records_refusal}
 use Rattle.merge_plan.specs.declared.refusal.PlanRefusal.TheVariants.{HeaderTooLarge}
+use Rattle.output_model.specs.Document.{lasting_if}
+use Rattle.output_model.specs.Duration.{durations_of, end_of_blocks}
 use Rattle.mkv_merge.specs.Merge.{blocks_of, output_at, parts_of, split_of}
 use Rattle.remerge_laws.specs.Outline.{KeepsReaderLimits}
 use Rattle.remerge_laws.specs.Whole.{WholeMergesHaveSmallRecords, WholeMergesHaveOneDocument}
@@ -111,9 +113,10 @@ module _ (words : MergeWords) (reads : List InputRead) (unrefused : plan_refusal
   large-behind = second-none (too_large TRACKS (Some (tracks_of_output reads))) (option_or (too_large CHAPTERS (chapters_of reads)) (too_large TAGS (tags_of reads))) none-too-large
 
 pub whole-planned : WholeMergesHaveSmallRecords
-whole-planned words sources unrefused =
+whole-planned words sources usual unrefused =
     let reads : List InputRead = reads_of sources in
     record {
+      lasting = ap (λ (asked : Bool). option_map (λ known. end_of_blocks (durations_of words.scale (tracks_of_output reads)) (blocks_of words sources)) (lasting_if asked)) usual;
       info = few-info words.scale (title_of words reads);
       tracks = not-large TRACKS (tracks_of_output reads) (first-none (too_large TRACKS (Some (tracks_of_output reads))) (option_or (too_large CHAPTERS (chapters_of reads)) (too_large TAGS (tags_of reads))) (none-too-large words reads unrefused));
       chapters = none-large CHAPTERS (chapters_of reads) (first-none (too_large CHAPTERS (chapters_of reads)) (too_large TAGS (tags_of reads)) (large-behind words reads unrefused));

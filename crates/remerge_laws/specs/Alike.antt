@@ -18,9 +18,11 @@ MayBeAlike None (Some n) = ⊥
 MayBeAlike (Some m) None = ⊥
 MayBeAlike (Some m) (Some n) = AreAlike m n
 
--- The documents `d` and `e` have records with the same bytes, and the same Clusters and cue points.
+-- The documents `d` and `e` have no Duration, records with the same bytes, and the same Clusters and cue points.
 pub record AreAlikeDocuments (d e : Document) : Type 0 where
   pub webm : d.front.webm ≡ e.front.webm
+  pub lasting : d.front.lasting ≡ None
+  pub lasting_too : e.front.lasting ≡ None
   pub info : AreAlike d.front.info e.front.info
   pub tracks : AreAlike d.front.tracks e.front.tracks
   pub attachments : AllZip AreAlike d.front.attachments e.front.attachments

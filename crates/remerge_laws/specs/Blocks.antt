@@ -1,6 +1,6 @@
 -- Conditions under which a reader's limits leave the blocks of a file unchanged: RFC 9559, sections 5.1.3 (Cluster Element) and 10 (Cluster
 -- Blocks). The limits are this project's.
-use Rattle.std.specs.Prelude.{◌≡◌, ◌≤◌, ℕ, ◌==◌, true, false, Bool, ◌||◌, List, [], length, All}
+use Rattle.std.specs.Prelude.{◌≡◌, ◌≤◌, ℕ, ◌==◌, true, false, Bool, ◌||◌, List, [], length, All, None}
 use Rattle.mkv_schema.specs.declared.ids.TheConstants.{BLOCK_GROUP, CLUSTER, SIMPLE_BLOCK}
 use Rattle.mkv_schema.specs.declared.element.Header.{Header}
 use Rattle.mkv_schema.specs.Element.{known}
@@ -42,9 +42,9 @@ LimitsLeaveBlocks =
     → AreShortBlocks bytes segment → All IsReadable (blocks_of (events_of (without_limits scale) bytes segment))
     → events_of (with_limits scale) bytes segment ≡ events_of (without_limits scale) bytes segment
 
--- A reader with limits finds the same blocks as one without, in an output whose Info keeps the limits. The blocks must be short, and each must be
--- readable.
+-- A reader with limits finds the same blocks as one without, in an output without a Duration whose Info keeps the limits. The blocks must be short,
+-- and each must be readable.
 abbrev pub OutputBlocksAreRead : Type 0
 OutputBlocksAreRead =
-    (d : Document) → IsSoundDocument d → KeepsReaderLimits d.front.info → AreShortBlocks (layout d) (header_of_segment d) → All IsReadable (blocks_of_document d)
+    (d : Document) → IsSoundDocument d → d.front.lasting ≡ None → KeepsReaderLimits d.front.info → AreShortBlocks (layout d) (header_of_segment d) → All IsReadable (blocks_of_document d)
     → file_events true (layout d) (header_of_segment d) ≡ file_events false (layout d) (header_of_segment d)

@@ -1,5 +1,5 @@
 -- The limits of a reader as conditions on the bytes of an output: RFC 9559, section 5.1 (Segment Element). The limits are this project's.
-use Rattle.std.specs.Prelude.{◌≡◌, ◌≤◌, ℕ, true, false, List, length, IfSome, Ok}
+use Rattle.std.specs.Prelude.{◌≡◌, ◌≤◌, ℕ, true, false, List, length, IfSome, None, Ok}
 use Rattle.mkv_io.specs.declared.outside.TheConstants.{LONGEST_FILE}
 use Rattle.mkv_schema.specs.declared.ids.TheConstants.{ATTACHMENTS, INFO}
 use Rattle.mkv_schema.specs.declared.element.Header.{Header}
@@ -25,8 +25,10 @@ pub record IsWithinLimits (bytes : List ℕ) : Type 0 where
   pub attachments : (o : Outlined) → outline_without_limits bytes ≡ Ok o → IfSome (first_of ATTACHMENTS o.list) (AttachmentsKeepLimits bytes)
   pub blocks : (o : Outlined) → outline_without_limits bytes ≡ Ok o → file_events true bytes o.segment ≡ file_events false bytes o.segment
 
--- The records of the document `d` are small: its Info has at most 65,536 Elements, and its Tracks, Chapters and Tags keep a reader's limits.
+-- The records of the document `d` are small: its Info has no Duration and at most 65,536 Elements, and its Tracks, Chapters and Tags keep a reader's
+-- limits.
 pub record RecordsAreSmall (d : Document) : Type 0 where
+  pub lasting : d.front.lasting ≡ None
   pub info : kept d.front.info ≤ MAX_NODES
   pub tracks : KeepsReaderLimits d.front.tracks
   pub chapters : IfSome d.chapters KeepsReaderLimits

@@ -1,6 +1,6 @@
 -- The outline of an output, as a reader with limits finds it: RFC 8794, section 8 (EBML Document), and RFC 9559, section 5.1 (Segment Element).
 -- The limits are this project's.
-use Rattle.std.specs.Prelude.{◌≡◌, ◌≤◌, length, IfSome, Ok}
+use Rattle.std.specs.Prelude.{◌≡◌, ◌≤◌, length, IfSome, None, Ok}
 use Rattle.mkv_schema.specs.declared.limits.TheConstants.{MAX_MASTER_LEN}
 use Rattle.mkv_schema.specs.Outline.{outline_of}
 use Rattle.tree_format.specs.declared.limits.TheConstants.{MAX_NODES}
@@ -16,8 +16,9 @@ pub record KeepsReaderLimits (n : Node) : Type 0 where
   pub short : length (content n) ≤ MAX_MASTER_LEN
   pub few : kept n ≤ MAX_NODES
 
--- A reader with limits can read the Info, Tracks, Chapters and Tags of the document `d`.
+-- The document `d` has no Duration. A reader with limits can read its Info, Tracks, Chapters and Tags.
 pub record RecordsKeepLimits (d : Document) : Type 0 where
+  pub lasting : d.front.lasting ≡ None
   pub info : KeepsReaderLimits d.front.info
   pub tracks : KeepsReaderLimits d.front.tracks
   pub chapters : IfSome d.chapters KeepsReaderLimits

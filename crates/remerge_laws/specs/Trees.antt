@@ -13,6 +13,6 @@ SmallTreesAreRead =
     (id offset : ℕ) (body : List ℕ) (base nodes : ℕ) (n : Node) → tree_without_limits id offset body base ≡ Ok n
     → count n ≤ nodes → depth n ≤ deepest → tree_of id offset body base nodes ≡ Ok n
 
--- Two records with the same ID that are written alike have equally many Elements.
+-- Two records with the ID `own` whose contents are written alike have equally many Elements that are written: Void and CRC-32 don't count.
 abbrev pub AlikeRecordsCountAlike : Type 0
 AlikeRecordsCountAlike = (own : ℕ) (m n : Node) → IsRecord own m → IsRecord own n → content m ≡ content n → kept m ≡ kept n

@@ -1,5 +1,5 @@
 -- The one output of a merge that isn't split: RFC 9559, section 5.1 (Segment Element). The limits that its records keep are this project's.
-use Rattle.std.specs.Prelude.{◌≡◌, List, [], ◌∷◌, None}
+use Rattle.std.specs.Prelude.{◌≡◌, false, List, [], ◌∷◌, None}
 use Rattle.output_model.specs.Cued.{document_of}
 use Rattle.output_model.specs.Document.{Document}
 use Rattle.requests.specs.declared.merge.MergeWords.{MergeWords}
@@ -23,7 +23,7 @@ WholeMergesHaveOneDocument =
     (words : MergeWords) (sources : List Source) → words.split ≡ None → words.uuids ≡ []
     → outputs_of words sources ≡ record { name = words.output; blocks = blocks_of words sources; document = whole_document words sources } ∷ []
 
--- If a merge isn't refused, its records keep the limits that a plan must keep.
+-- If a merge without a Duration isn't refused, its records keep the limits that a plan must keep.
 abbrev pub WholeMergesHaveSmallRecords : Type 0
 WholeMergesHaveSmallRecords =
-    (words : MergeWords) (sources : List Source) → plan_refusal words (reads_of sources) ≡ None → RecordsAreSmall (whole_document words sources)
+    (words : MergeWords) (sources : List Source) → words.duration ≡ false → plan_refusal words (reads_of sources) ≡ None → RecordsAreSmall (whole_document words sources)

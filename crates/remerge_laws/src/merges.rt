@@ -59,7 +59,9 @@ pub fn tracks_are_taken_again()
     ensures { TracksAreTakenAgain }
 {}
 
-/// States that the TrackEntries of an output are written as they were if it is merged by itself.
+/// States that the TrackEntries of an output are written byte for byte as they were if it is merged by itself and
+/// without options. They must be numbered from 1, of types that a merge selects, and without ContentEncodings, and
+/// their TrackUIDs must have 64 bits.
 pub fn entries_are_written_again()
     ensures { EntriesAreWrittenAgain }
 {

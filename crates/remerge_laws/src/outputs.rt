@@ -14,7 +14,7 @@ pub fn outlines_are_read()
 {}
 
 /// States that a reader with limits finds Info, Tracks, Chapters and Tags of an output, each at the place of the
-/// written record.
+/// written record, if each of them keeps the limits.
 pub fn trees_are_read()
     ensures { TreesAreRead }
 {}
@@ -29,22 +29,26 @@ pub fn outputs_are_read_with_limits()
     ensures { OutputsAreReadWithLimits }
 {}
 
-/// States that a planned output keeps a reader's limits if its bytes do.
+/// States that an output keeps a reader's limits if its bytes do, its Info has at most 65,536 Elements, and its Tracks,
+/// Chapters and Tags keep the limits.
 pub fn octets_keep_limits()
     ensures { OctetsKeepLimits }
 {}
 
-/// States that the blocks of a file are the same with and without limits, if they are short and a reader can read each.
+/// States that the blocks of a file that is read without limits and without damage are the same with limits. Each block
+/// must have at most 32 MiB, at most 64 references, and times that aren't too large for a reader.
 pub fn limits_leave_blocks()
     ensures { LimitsLeaveBlocks }
 {}
 
-/// States that the blocks of an output are the same with and without limits, if its Info can be read.
+/// States that the blocks of an output are the same with and without limits if its Info keeps the limits. Each block
+/// must have at most 32 MiB, at most 64 references, and times that aren't too large for a reader.
 pub fn output_blocks_are_read()
     ensures { OutputBlocksAreRead }
 {}
 
-/// States that documents whose records are written alike, with the same Clusters and cue points, have the same bytes.
+/// States that documents of one DocType whose records are written alike, with the same Clusters and cue points, have
+/// the same bytes.
 pub fn alike_documents_are_one()
     ensures { AlikeDocumentsAreOne }
 {}

@@ -6,6 +6,7 @@ use Rattle.std.proofs.lemmas.Bool.Decides.{nat_tests}
 use Rattle.mkv_io.specs.declared.damage.Damage.{Damage}
 use Rattle.tree_format.specs.Node.{Node}
 use Rattle.output_model.specs.Cued.{document_of}
+use Rattle.output_model.specs.Document.{lasting_if}
 use Rattle.output_records.specs.declared.inputs.InputRecords.{InputRecords}
 use Rattle.output_records.specs.Chapters.{merged_chapters}
 use Rattle.output_records.specs.Info.{output_info}
@@ -129,7 +130,7 @@ module _ (words : MergeWords) (n : TimesName) (timed own : FileWords) (named : o
         name = name_of (is_split words) words.output each.0;
         blocks = each.1.blocks;
         document = document_of (limits_of words) (map rule_of taken)
-            (front_for words each.0 (record { webm = words.webm; info = output_info words.scale (unwrap_or words.title title); tracks = output_tracks (entries_of taken); attachments = attachments }))
+            (front_for words each.0 (record { webm = words.webm; lasting = lasting_if words.duration; info = output_info words.scale (unwrap_or words.title title); tracks = output_tracks (entries_of taken); attachments = attachments }))
             (chapters_of (is_split words) (merged_chapters records) (stretch_of words.scale each.1.start each.1.end)) (merged_tags records) each.1.blocks;
       })
       (enumerate_from 1 (parts (record { spec = spec_of words.split (starts_in (merged_chapters records)); size = size_of words.split; scale = words.scale; drives = drives_by (drivers_by (map is_video taken)) }) (merged (map (lane_blocks words.scale) given))))
