@@ -1,0 +1,5 @@
+mod EndLemmas
+mod FloatLemmas
+mod InfoLemmas
+mod CueLemmas
+mod ChangeLemmas

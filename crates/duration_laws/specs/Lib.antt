@@ -1,0 +1,3 @@
+pub mod Ends
+pub mod Floats
+pub mod Changes
