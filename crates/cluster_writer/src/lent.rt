@@ -2,8 +2,8 @@
 
 ghost use Rattle.std.specs.Prelude.{◌≡◌, ◌≤◌, ◌^◌, ℕ, length};
 ghost use Rattle.output_model.specs.OutputBlock.{CanBeLent, IsLent};
-ghost use Rattle.cluster_writer.specs.Lent.{AreLengths, IsLenOf, block_of, lent_of};
-ghost use Rattle.cluster_writer.specs.Lengths.{block_len, body_len, octets_taken, prefixed_sizes, taken_len};
+ghost use Rattle.cluster_writer.specs.Lent.{AreLengths, IsLenOf, lent_of};
+ghost use Rattle.cluster_writer.specs.Lengths.{block_len, body_len, prefixed_sizes, taken_len};
 
 use crate::block::block_len;
 use crate::element::element_len as whole_len;
@@ -48,16 +48,6 @@ impl BlockRef<'_> {
             self.references,
             self.kept.len(),
         )
-    }
-
-    /// Returns the length in bytes of the block's SimpleBlock or BlockGroup, its header included, which is the same in
-    /// each Cluster.
-    pub fn element_len(&self) -> u64
-        requires { IsLent (lent_of self.now) }
-        ensures exact { result ≡ octets_taken (block_of self.now) }
-        ensures most { result ≤ 2 ^ 27 }
-    {
-        self.lengths().whole
     }
 }
 

@@ -1,10 +1,10 @@
 -- An AttachedFile with its data, and the bytes before and after them.
-use Rattle.std.proofs.Common.{◌≡◌, ◌<◌, ◌≤◌, ℕ, suc, ◌+◌, List, [], ◌∷◌, ◌++◌, length, map, flat_map, sum_by, take, drop, get_or, Bool, true, false, not, cond, ◌==◌, nat_lt, position, Some, None, All, refl, sym, ap, append_assoc, ◌∙◌, arith, add-one, length-append}
+use Rattle.std.proofs.Common.{◌≡◌, ◌<◌, ◌≤◌, ℕ, suc, ◌+◌, List, [], ◌∷◌, ◌++◌, length, map, flat_map, sum_by, take, drop, get_or, Bool, true, false, not, cond, ◌==◌, nat_lt, position, unwrap_or, Some, None, All, refl, sym, ap, append_assoc, ◌∙◌, arith, add-one, length-append}
 use Rattle.std.specs.List.{position_or_len}
 use Rattle.std.proofs.lemmas.Bool.Decides.{nat_tests}
 use Rattle.std.proofs.lemmas.List.{take_all, drop_all}
 use Rattle.std.proofs.lemmas.List.Concat.{flat_map-append}
-use Rattle.std.proofs.lemmas.List.Sums.{passes_at_first, sum_by-cons}
+use Rattle.std.proofs.lemmas.List.Sums.{passes_at_first, prefix_len-le-length, sum_by-cons}
 use Rattle.std.proofs.Math.Seq.{drop-cons}
 use Rattle.mkv_io.specs.LiveFiles.{LiveFiles}
 use Rattle.mkv_schema.specs.declared.ids.TheConstants.{ATTACHED_FILE, FILE_DATA}
@@ -21,30 +21,23 @@ use Rattle.cues_seekhead.specs.Attached.{data_place, attached_body, attached_tot
 
 -- ---- index of the first child that passes a test
 
-pub found-at : (passes : Node → Bool) (ns : List Node) (k : ℕ) → position passes ns ≡ Some k → position_or_len passes ns ≡ k
-found-at passes ns k is = split (nat_lt (position_or_len passes ns) (length ns)) is
-  where
-    split : (inside : Bool) → cond inside (Some (position_or_len passes ns)) None ≡ Some k → position_or_len passes ns ≡ k
-    split true same = cc
-    split false same = absurd (cc)
+pub index-inside : (passes : Node → Bool) (ns : List Node) → position_or_len passes ns ≤ length ns
+index-inside passes ns = prefix_len-le-length (λ n. not (passes n)) ns
 
-pub found-none : (passes : Node → Bool) (ns : List Node) → position passes ns ≡ None → length ns ≤ position_or_len passes ns
-found-none passes ns is = split (nat_lt (position_or_len passes ns) (length ns)) refl is
+-- It is found, or it is the number of children if none passes.
+pub index-is : (passes : Node → Bool) (ns : List Node) → unwrap_or (position passes ns) (length ns) ≡ position_or_len passes ns
+index-is passes ns = split (nat_lt (position_or_len passes ns) (length ns)) refl
   where
-    split : (inside : Bool) → nat_lt (position_or_len passes ns) (length ns) ≡ inside → cond inside (Some (position_or_len passes ns)) None ≡ None → length ns ≤ position_or_len passes ns
-    split true test same = absurd (cc)
-    split false test same = grind (arith, nat_tests)
+    split : (inside : Bool) → nat_lt (position_or_len passes ns) (length ns) ≡ inside → unwrap_or (cond inside (Some (position_or_len passes ns)) None) (length ns) ≡ position_or_len passes ns
+    split true test = refl
+    split false test =
+        let most = index-inside passes ns in
+        grind (arith, nat_tests, most)
 
 -- ---- index of the first FileData
 
 abbrev is_data : Node → Bool
 is_data n = id_of n == FILE_DATA
-
-pub place-found : (ns : List Node) (k : ℕ) → position (λ n. id_of n == FILE_DATA) ns ≡ Some k → data_place ns ≡ k
-place-found ns k is = found-at is_data ns k is
-
-pub place-none : (ns : List Node) → position (λ n. id_of n == FILE_DATA) ns ≡ None → length ns ≤ data_place ns
-place-none ns is = found-none is_data ns is
 
 -- Without FileData, the first FileData doesn't matter.
 without-first : (ns : List Node) (d : Node) → data_place ns < length ns → without FILE_DATA (drop (data_place ns) ns) ≡ without FILE_DATA (drop (data_place ns + 1) ns)

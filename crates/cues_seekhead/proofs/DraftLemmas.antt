@@ -12,7 +12,7 @@ use Rattle.mkv_outputs.specs.Written.{PassesSome}
 use Rattle.output_model.specs.Duration.{duration_element}
 use Rattle.output_model.specs.Element.{octets_of}
 use Rattle.cues_seekhead.specs.Draft.{StandsDrafted, duration_patches, patches_at, patches_with}
-use Rattle.cues_seekhead.proofs.DurationLemmas.{length-duration}
+use Rattle.output_model.proofs.DurationLemmas.{length-duration}
 
 -- ---- names
 

@@ -1,64 +1,30 @@
 -- An Info with a Duration, and the write of the Duration over the Void in its place.
-use Rattle.std.proofs.Common.{◌≡◌, ◌≤◌, ◌<◌, ℕ, zero, suc, ◌+◌, Bool, true, false, List, [], ◌∷◌, ◌++◌, length, map, flat_map, take, drop, Option, None, Some, IfSome, unwrap_or, refl, sym, ap, append_assoc, ◌∙◌, arith}
+use Rattle.std.proofs.Common.{◌≡◌, ◌≤◌, ℕ, zero, suc, ◌+◌, Bool, true, false, List, [], ◌∷◌, ◌++◌, length, flat_map, take, drop, Option, None, Some, IfSome, unwrap_or, refl, sym, ap, append_assoc, ◌∙◌, arith}
 use Rattle.std.proofs.lemmas.List.{length-append}
 use Rattle.std.specs.Option.{option_map}
-use Rattle.ebml_numbers.specs.Number.{uint_width, least_size_width, size_octets, id_octets}
+use Rattle.ebml_numbers.specs.Number.{uint_width, least_size_width}
 use Rattle.mkv_io.specs.Contents.{overwritten}
 use Rattle.mkv_io.specs.LiveFiles.{LiveFiles}
 use Rattle.mkv_schema.specs.declared.ids.TheConstants.{INFO}
 use Rattle.mkv_outputs.specs.Drafts.{Patch, patched}
 use Rattle.tree_format.specs.Node.{Node, id_of, children}
 use Rattle.tree_format.specs.NormalForm.{octets, header_octets}
-use Rattle.tree_format.proofs.WrittenLemmas.{length-header_octets}
 use Rattle.output_model.specs.Duration.{duration_element, float_octets}
-use Rattle.output_model.specs.Element.{Element, octets_of, joined}
-use Rattle.output_model.specs.Document.{Front, attachments_elements, duration_place, ending_at, front_elements, info_element, info_with, lasting_if, tree_element}
+use Rattle.output_model.specs.Element.{octets_of, joined}
+use Rattle.output_model.specs.Document.{Front, attachments_elements, before_duration, children_after_duration, duration_place, ending_at, front_elements, info_element, info_with, lasting_if, tree_element}
 use Rattle.output_model.specs.Front.{front_with}
 use Rattle.output_model.specs.SeekHead.{seeks_from}
+use Rattle.output_model.proofs.DurationLemmas.{info-parts, length-duration}
 use Rattle.output_model.specs.declared.front.Front.{Front as GivenFront}
 use Rattle.cues_seekhead.specs.Draft.{duration_patches}
-use Rattle.cues_seekhead.specs.Front.{before_duration, place_of}
-use Rattle.cues_seekhead.proofs.PlacesLemmas.{length-void}
+use Rattle.cues_seekhead.specs.Front.{place_of}
 
 -- ---- lengths
-
-length-float : (n : ℕ) → length (float_octets n) ≡ 8
-length-float n = refl
-
--- A Duration has 11 bytes, as the Void in its place.
-pub length-duration : (end : ℕ) → length (octets_of (duration_element end)) ≡ 11
-unfolding uint_width least_size_width
-length-duration zero = length-void 11 (omega arith) (omega arith)
-length-duration (suc n) = refl
-
--- The length of an Info doesn't depend on the end.
-same-body : (info : Node) (a b : ℕ) → length (info_with info (octets_of (duration_element a))) ≡ length (info_with info (octets_of (duration_element b)))
-same-body info a b =
-    let first = flat_map octets (take (duration_place (children info)) (children info)) in
-    let others = flat_map octets (drop (duration_place (children info)) (children info)) in
-    omega (
-      arith,
-      length-duration a,
-      length-duration b,
-      length-append first (octets_of (duration_element a) ++ others),
-      length-append first (octets_of (duration_element b) ++ others),
-      length-append (octets_of (duration_element a)) others,
-      length-append (octets_of (duration_element b)) others,
-    )
-
--- The bytes of an Info are those before its Duration, the Duration, and the children after it.
-pub info-parts : (info : Node) (end : ℕ) → octets_of (info_element info (Some end)) ≡ before_duration info ++ (octets_of (duration_element end) ++ flat_map octets (drop (duration_place (children info)) (children info)))
-info-parts info end =
-    let first = flat_map octets (take (duration_place (children info)) (children info)) in
-    let others = flat_map octets (drop (duration_place (children info)) (children info)) in
-    let inside = octets_of (duration_element end) in
-    ap (λ n. header_octets (id_of info) n ++ (first ++ (inside ++ others))) (same-body info end 0)
-    ∙ sym (append_assoc (header_octets (id_of info) (length (info_with info (octets_of (duration_element 0))))) first (inside ++ others))
 
 pub length-info : (info : Node) (end : ℕ) (lasting : Option ℕ) → length (octets_of (info_element info (option_map (λ known. end) lasting))) ≡ length (octets_of (info_element info lasting))
 length-info info end None = refl
 length-info info end (Some known) =
-    let others = flat_map octets (drop (duration_place (children info)) (children info)) in
+    let others = children_after_duration info in
     omega (
       arith,
       ap length (info-parts info end),
@@ -85,7 +51,7 @@ pub void-written : (info : Node) (len : ℕ) (first others : List Node) (o0 o1 o
     → (o4 ≡ o0 ++ octets_of (info_element info (Some 0))) × (length o2 ≡ length (o0 ++ before_duration info))
 void-written info len first others o0 o1 o2 o3 o4 is one two long head front void back =
     let its_first = flat_map octets (take (duration_place (children info)) (children info)) in
-    let its_others = flat_map octets (drop (duration_place (children info)) (children info)) in
+    let its_others = children_after_duration info in
     let inside = octets_of (duration_element 0) in
     let size : len ≡ length (info_with info inside) =
     omega (
@@ -123,11 +89,6 @@ length-front f end =
       length-info f.info end f.lasting,
     )
 
--- An Info has its ID with a Duration, too.
-pub info-id : (info : Node) (lasting : Option ℕ) → (info_element info lasting).id ≡ id_of info
-info-id info None = refl
-info-id info (Some end) = refl
-
 same-id : (info : Node) (end : ℕ) (lasting : Option ℕ) → (info_element info (option_map (λ known. end) lasting)).id ≡ (info_element info lasting).id
 same-id info end None = refl
 same-id info end (Some known) = refl
@@ -162,7 +123,7 @@ place-ending info end (Some known) = refl
 pub place-inside : (info : Node) (asked : Bool) (len more : ℕ) → len ≡ 256 + (length (octets_of (info_element info (lasting_if asked))) + more) → IfSome (place_of info (lasting_if asked)) (λ at. at + 11 ≤ len)
 place-inside info false len more is = tt
 place-inside info true len more is =
-    let others = flat_map octets (drop (duration_place (children info)) (children info)) in
+    let others = children_after_duration info in
     omega (
       arith,
       is,

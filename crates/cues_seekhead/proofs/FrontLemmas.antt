@@ -21,7 +21,8 @@ use Rattle.cues_seekhead.specs.Front.{front_head, front_seeks, records_of}
 use Rattle.output_model.specs.Front.{front_with}
 use Rattle.cues_seekhead.specs.Places.{Adds, AreIds}
 use Rattle.cues_seekhead.proofs.AttachedLemmas.{attachments-long}
-use Rattle.cues_seekhead.proofs.DurationLemmas.{ending-begun, info-id}
+use Rattle.output_model.proofs.DurationLemmas.{info-id}
+use Rattle.cues_seekhead.proofs.DurationLemmas.{ending-begun}
 use Rattle.cues_seekhead.proofs.PlacesLemmas.{Adds-then, seeks_from-append}
 
 -- The parts of an open output are appended in sequence.

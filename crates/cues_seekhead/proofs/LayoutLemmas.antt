@@ -1,5 +1,5 @@
 -- The bytes of an output grow at their end, and are overwritten in the middle.
-use Rattle.std.proofs.Common.{◌≡◌, ℕ, zero, suc, ◌+◌, ◌-◌, Bool, true, false, List, ◌∷◌, ◌++◌, length, flat_map, drop, Option, None, Some, unwrap_or, refl, sym, ap, append_assoc, ◌∙◌, arith}
+use Rattle.std.proofs.Common.{◌≡◌, ℕ, zero, suc, ◌+◌, ◌-◌, Bool, true, false, List, ◌∷◌, ◌++◌, length, drop, Option, None, Some, unwrap_or, refl, sym, ap, append_assoc, ◌∙◌, arith}
 use Rattle.std.proofs.lemmas.List.{length-append, take_at, drop_at, drop-drop}
 use Rattle.std.specs.Option.{option_map}
 use Rattle.std.proofs.lemmas.List.Concat.{flat_map-append}
@@ -8,16 +8,16 @@ use Rattle.ebml_numbers.proofs.NumberLemmas.{length-size_octets}
 use Rattle.mkv_schema.specs.declared.ids.TheConstants.{SEGMENT}
 use Rattle.mkv_io.specs.Contents.{overwritten}
 use Rattle.mkv_outputs.specs.Drafts.{patched}
-use Rattle.tree_format.specs.Node.{Node, children}
-use Rattle.tree_format.specs.NormalForm.{octets}
+use Rattle.tree_format.specs.Node.{Node}
 use Rattle.output_model.specs.Duration.{duration_element}
 use Rattle.output_model.specs.Element.{joined, octets_of}
 use Rattle.output_model.specs.SeekHead.{open_area, area_elements}
-use Rattle.output_model.specs.Document.{Front, Document, attachments_elements, duration_place, ebml_element, ending_at, front_elements, info_element, tree_element, back_elements, clusters_elements, clusters_at, elements_behind_area, segment_size, seeks_of, unknown_size, opened_with, opened, layout}
-use Rattle.cues_seekhead.specs.Front.{before_duration, body_start, place_of}
+use Rattle.output_model.specs.Document.{Front, Document, attachments_elements, before_duration, children_after_duration, ebml_element, ending_at, front_elements, info_element, tree_element, back_elements, clusters_elements, clusters_at, elements_behind_area, segment_size, seeks_of, unknown_size, opened_with, opened, layout}
+use Rattle.cues_seekhead.specs.Front.{body_start, place_of}
 use Rattle.cues_seekhead.proofs.FrontLemmas.{file_with-append}
 use Rattle.cues_seekhead.specs.Draft.{draft_of, duration_patches, patches_at}
-use Rattle.cues_seekhead.proofs.DurationLemmas.{info-parts, length-duration, length-front, patched-append}
+use Rattle.output_model.proofs.DurationLemmas.{info-parts, length-duration}
+use Rattle.cues_seekhead.proofs.DurationLemmas.{length-front, patched-append}
 
 -- ---- at the end
 
@@ -141,7 +141,7 @@ duration-written webm info (Some (suc n)) rest =
     first = before_duration info
 
     others : List ℕ
-    others = flat_map octets (drop (duration_place (children info)) (children info))
+    others = children_after_duration info
 
     old : List ℕ
     old = octets_of (duration_element 0)

@@ -1,5 +1,5 @@
 -- An open output from call to call.
-use Rattle.std.proofs.Common.{◌≡◌, ℕ, ◌+◌, List, ◌++◌, length, sym, ap, ◌∙◌, arith}
+use Rattle.std.proofs.Common.{◌≡◌, ℕ, List, ◌++◌, length, sym, ap, ◌∙◌, arith}
 use Rattle.std.proofs.lemmas.List.{length-append}
 use Rattle.mkv_io.specs.Contents.{with_appended}
 use Rattle.mkv_io.specs.Names.{Names, with_change, with_content}
@@ -8,7 +8,7 @@ use Rattle.mkv_io.specs.declared.files.Files as writing
 use Rattle.output_model.specs.declared.places.CuePoint.{CuePoint}
 use Rattle.output_model.specs.Element.{joined}
 use Rattle.output_model.specs.SeekHead.{open_area}
-use Rattle.output_model.specs.Document.{Front, clusters_at, ending_at, file_with, front_elements, opened_with, unknown_size}
+use Rattle.output_model.specs.Document.{Front, ending_at, file_with, front_elements, opened_with, unknown_size}
 use Rattle.cues_seekhead.specs.OpenOutput.{OpenOutput, IsOpen, StandsOpen, grown, with_cue}
 use Rattle.cues_seekhead.proofs.DraftLemmas.{appended-to}
 use Rattle.cues_seekhead.proofs.DurationLemmas.{ending-twice, length-front, place-ending, seeks-front}

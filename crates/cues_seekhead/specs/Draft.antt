@@ -44,8 +44,8 @@ draft_of name d = record {
       (joined (area_elements (seeks_of d))) (segment_size (length (joined (elements_behind_area d))));
 }
 
--- From `old` to `new` the bytes `back` were appended to the live file `file`, and then the patches were written. After an error the content is one
--- that the draft may have.
+-- From `old` to `new` the bytes `back` were appended to the live file `file`, which had at least `least` bytes, and then the patches were written.
+-- After an error the content is one that the draft may have.
 abbrev pub Drafts : {S T E : Type 0} → Ghosts S → FileId → ℕ → List ℕ → List Patch → S → S → Result T E → Type 0
 Drafts f file least back patches old new (Ok _) =
     (before : Names) (content : List ℕ) → least ≤ length content → f.names old ≡ with_content before (f.holder old file.n) content
@@ -54,8 +54,8 @@ Drafts f file least back patches old new (Err _) =
     (before : Names) (content : List ℕ) → least ≤ length content → f.names old ≡ with_content before (f.holder old file.n) content
     → StandsDrafted before (f.names new) (record { name = f.holder old file.n; appended = content ++ back; patches = patches })
 
--- The last writes `e` of an output were done, whose Segment's body begins at byte `start`. It ends at the tick `end`, and its Duration is at the
--- offset `place` in that body, if it has one. All of its first `least` bytes were there before.
+-- The last writes `e` were done, from `old` to `new`, to the live file `file`, which had at least `least` bytes. Its Segment's body begins at byte
+-- `start`. The output ends at the tick `end`, and its Duration is at the offset `place` in that body, if it has one.
 abbrev pub DraftsEnd : {S T E : Type 0} → Ghosts S → FileId → ℕ → ℕ → Option ℕ → ℕ → Ending → S → S → Result T E → Type 0
 DraftsEnd f file least start place end e old new result =
     Drafts f file least e.back (patches_with start place end e.area (size_octets e.total 8)) old new result

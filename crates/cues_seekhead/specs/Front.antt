@@ -1,15 +1,13 @@
 -- The elements before the Clusters: an EBML header (RFC 8794, section 8.1, EBML Header), and the start of a Segment (RFC 9559, section 4.5, Data
 -- Layout).
-use Rattle.std.specs.Prelude.{◌≡◌, ℕ, ◌+◌, if◌then◌else◌, Bool, List, [], ◌∷◌, ◌++◌, length, flat_map, take, sum_by, Option}
+use Rattle.std.specs.Prelude.{◌≡◌, ℕ, ◌+◌, if◌then◌else◌, Bool, List, [], ◌∷◌, ◌++◌, length, sum_by, Option}
 use Rattle.std.specs.Option.{option_map}
-use Rattle.tree_format.specs.Node.{Node, children, id_of}
-use Rattle.tree_format.specs.NormalForm.{header_octets, octets}
-use Rattle.output_model.specs.Duration.{duration_element}
-use Rattle.output_model.specs.Element.{Element, joined, octets_of}
+use Rattle.tree_format.specs.Node.{Node}
+use Rattle.output_model.specs.Element.{Element, joined}
 use Rattle.output_model.specs.declared.TheConstants.{AREA}
 use Rattle.output_model.specs.declared.places.Seek.{Seek}
 use Rattle.output_model.specs.SeekHead.{open_area, seeks_from}
-use Rattle.output_model.specs.Document.{duration_place, info_element, info_with, lasting_if, tree_element, file_with, unknown_size}
+use Rattle.output_model.specs.Document.{before_duration, info_element, lasting_if, tree_element, file_with, unknown_size}
 use Rattle.cues_seekhead.specs.Attached.{attached_total, attachments_header, attachments_seeks}
 use Rattle.output_model.specs.declared.front.Front as given
 use Rattle.cues_seekhead.specs.declared.front.Opening.{Opening}
@@ -17,12 +15,6 @@ use Rattle.cues_seekhead.specs.declared.front.Opening.{Opening}
 -- the number of bytes before the Segment's content: an EBML header of 36 or 40 bytes, the Segment's ID and its size; `webm` is true for WebM
 abbrev pub body_start : Bool → ℕ
 body_start webm = if webm then 48 else 52
-
--- the bytes of the Info `info` before the place of its Duration: its header, which counts the Duration, and the children before it
-abbrev pub before_duration : Node → List ℕ
-before_duration info =
-    header_octets (id_of info) (length (info_with info (octets_of (duration_element 0))))
-    ++ flat_map octets (take (duration_place (children info)) (children info))
 
 -- the offset of the Duration from the start of the Segment's body. `info` is the Info, the first Element after the area, and `lasting` is the tick
 -- at which the output ends, if Info has a Duration.

@@ -1,8 +1,7 @@
 //! AttachedFile, before and after its data: RFC 9559, section 5.1.6 (Attachments).
 
-ghost use Rattle.std.specs.Prelude.{◌≡◌, ◌==◌, ◌^◌, ◌<◌, ◌≤◌, ◌++◌, length, flat_map, position, take, drop, OnOk, IfOk, MatchOption};
+ghost use Rattle.std.specs.Prelude.{◌≡◌, ◌^◌, ◌≤◌, ◌++◌, length, flat_map, OnOk, IfOk};
 ghost use Rattle.mkv_schema.specs.declared.ids.TheConstants.{FILE_DATA as FILE_DATA_ID};
-ghost use Rattle.tree_format.specs.Node.{id_of};
 ghost use Rattle.tree_format.specs.NormalForm.{octets, longest};
 ghost use Rattle.tree_format.specs.Changes.{without};
 ghost use Rattle.cues_seekhead.specs.Attached.{data_place, attached_body, attached_total, before_data, behind_data};
@@ -15,24 +14,14 @@ use mkv_schema::ids::{ATTACHED_FILE, FILE_DATA};
 use output_model::Attachment;
 use std::alloc::{AllocError, Global};
 
-// Returns the index of the first FileData in `children`, the children of an AttachedFile, or None if it has none. The
-// writer puts the data at this index.
-fn first_data(children: &[Tree]) -> Option<usize>
-    ensures exact { result ≡ position (λ n. id_of n == FILE_DATA_ID) children.now }
-    ensures inside { MatchOption result (Unit {0}) (λ k. k < length children.now) }
+// Returns the index of the first FileData in `children`, the children of an AttachedFile, counted from 0, or their number
+// if there is none. The writer puts the data there.
+fn data_index(children: &[Tree]) -> usize
+    ensures exact { result ≡ data_place children.now }
+    ensures inside { result ≤ length children.now }
 {
-    children.iter().position(|child| child.id() == FILE_DATA)
-}
-
-// Splits the children of an AttachedFile before its first FileData. The writer puts the data there.
-fn split_at_file_data(children: &[Tree]) -> (&[Tree], &[Tree])
-    ensures front { result.0.now ≡ take (data_place children.now) children.now }
-    ensures back { result.1.now ≡ drop (data_place children.now) children.now }
-{
-    match first_data(children) {
-        Some(k) => children.split_at(k),
-        None => (children, &[]),
-    }
+    let found = children.iter().position(|child| child.id() == FILE_DATA);
+    found.unwrap_or(children.len())
 }
 
 // Returns the length in bytes of the children of an AttachedFile, without FileData.
@@ -100,7 +89,8 @@ pub fn octets_before_data(alloc: Global, attachment: &Attachment) -> Result<Byte
     ensures { IfOk result (λ out. out ≡ before_data attachment.now) }
 {
     let mut out = Bytes::new(alloc);
-    let (front, _) = split_at_file_data(attachment.entry.children());
+    let children = attachment.entry.children();
+    let (front, _) = children.split_at(data_index(children));
     put_header(&mut out, ATTACHED_FILE, body_len(attachment)?)?;
     put_children(&mut out, front)?;
     put_header(&mut out, FILE_DATA, attachment.len)?;
@@ -112,7 +102,8 @@ pub fn octets_behind_data(alloc: Global, attachment: &Attachment) -> Result<Byte
     ensures { IfOk result (λ out. out ≡ behind_data attachment.now) }
 {
     let mut out = Bytes::new(alloc);
-    let (_, back) = split_at_file_data(attachment.entry.children());
+    let children = attachment.entry.children();
+    let (_, back) = children.split_at(data_index(children));
     put_others(&mut out, back)?;
     Ok(out)
 }

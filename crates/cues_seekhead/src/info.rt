@@ -1,14 +1,13 @@
 //! Info with a place for a Duration: RFC 9559, section 5.1.2 (Info).
 
-ghost use Rattle.std.specs.Prelude.{◌≡◌, ◌+◌, ◌^◌, ◌<◌, ◌≤◌, ◌++◌, not, length, flat_map, position, take, drop, Some, OnOk, IfOk, MatchOption};
+ghost use Rattle.std.specs.Prelude.{◌≡◌, ◌+◌, ◌^◌, ◌<◌, ◌≤◌, ◌++◌, length, flat_map, Some, OnOk, IfOk};
 ghost use Rattle.std.specs.Option.{option_map};
 ghost use Rattle.mkv_schema.specs.declared.ids.TheConstants.{INFO as INFO_ID};
 ghost use Rattle.tree_format.specs.Node.{id_of};
 ghost use Rattle.tree_format.specs.NormalForm.{longest, octets};
-ghost use Rattle.output_model.specs.Document.{duration_place, info_element, is_before_duration, lasting_if};
+ghost use Rattle.output_model.specs.Document.{before_duration, duration_place, info_element, is_before_duration, lasting_if};
 ghost use Rattle.output_model.specs.Duration.{duration_element};
 ghost use Rattle.output_model.specs.Element.{octets_of};
-ghost use Rattle.cues_seekhead.specs.Front.{before_duration};
 
 use crate::area::put_void;
 use crate::attached::put_children;
@@ -31,24 +30,13 @@ fn is_before_duration(child: &Tree) -> bool
     )
 }
 
-// Returns the index of the first child after a Duration in `children`, the children of an Info, counted from 0, or None if
-// a Duration comes last.
-fn first_behind(children: &[Tree]) -> Option<usize>
-    ensures exact { result ≡ position (λ n. not (is_before_duration n)) children.now }
-    ensures inside { MatchOption result (Unit {0}) (λ k. k < length children.now) }
+// Returns the index of the Duration among `children`, the children of an Info without one, counted from 0.
+fn duration_index(children: &[Tree]) -> usize
+    ensures exact { result ≡ duration_place children.now }
+    ensures inside { result ≤ length children.now }
 {
-    children.iter().position(|child| !is_before_duration(child))
-}
-
-// Splits the children of an Info at the place of its Duration.
-fn split_at_duration(children: &[Tree]) -> (&[Tree], &[Tree])
-    ensures front { result.0.now ≡ take (duration_place children.now) children.now }
-    ensures back { result.1.now ≡ drop (duration_place children.now) children.now }
-{
-    match first_behind(children) {
-        Some(k) => children.split_at(k),
-        None => (children, &[]),
-    }
+    let found = children.iter().position(|child| !is_before_duration(child));
+    found.unwrap_or(children.len())
 }
 
 // Returns the length of trees in their normal form.
@@ -71,7 +59,8 @@ fn put_with_void(out: &mut Bytes, info: &Tree) -> Result<usize, AllocError>
     ensures place { IfOk result (λ place. place ≡ length (out.old ++ before_duration info.now)) }
     ensures most { IfOk result (λ place. place < 2 ^ 63) }
 {
-    let (first, others) = split_at_duration(info.children());
+    let children = info.children();
+    let (first, others) = children.split_at(duration_index(children));
     let len = sized(children_len(first)? + DURATION_LEN + children_len(others)?)?;
     put_header(out, INFO, len)?;
     put_children(out, first)?;

@@ -1,23 +1,20 @@
 -- The Info of an output has the bytes of its Duration inside, and is otherwise the same.
-use Rattle.std.proofs.Common.{◌≡◌, ℕ, zero, suc, pos, ◌+◌, ◌-◌, ◌<◌, ◌≤◌, List, ◌++◌, length, flat_map, take, drop, Some, length-append, le_trans, le_of_eq, lt_of_le_of_lt, ◌*◌, ◌^◌, pow_mono, pow-add, refl, sym, ap, ◌∙◌, inl, inr, arith}
+use Rattle.std.proofs.Common.{◌≡◌, ℕ, ◌+◌, ◌-◌, ◌<◌, ◌≤◌, List, ◌++◌, length, flat_map, take, drop, Some, length-append, le_trans, le_of_eq, lt_of_le_of_lt, ◌*◌, ◌^◌, pow_mono, pow-add, refl, sym, ap, ◌∙◌, inl, inr, arith}
 use Rattle.std.proofs.lemmas.Bool.{cases_lt, le-ltb}
 use Rattle.std.proofs.lemmas.List.{take-append-drop}
 use Rattle.std.proofs.lemmas.List.Concat.{flat_map-append}
-use Rattle.std.specs.Float.{binary64}
-use Rattle.std.specs.Float.Ieee.{of_int, to_bits}
-use Rattle.byteorder.specs.Numbers.{length-bytes_high_first}
 use Rattle.ebml_numbers.specs.Number.{all_ones, least_size_width, uint_width}
 use Rattle.ebml_numbers.proofs.WidthLemmas.{least_size_width-IsLeast}
-use Rattle.mkv_schema.specs.declared.ids.TheConstants.{DURATION}
 use Rattle.tree_format.specs.Node.{Node, leaf, master, list_of, id_of, children, IsMaster}
 use Rattle.tree_format.specs.NormalForm.{octets, octets_all, content}
 use Rattle.tree_format.proofs.NodeLemmas.{nodes-list, octets_all-flat}
-use Rattle.output_model.specs.Element.{element, header_of, octets_of}
+use Rattle.output_model.specs.Element.{element, octets_of}
 use Rattle.output_model.specs.declared.TheConstants.{DURATION_LEN}
 use Rattle.output_model.proofs.ReadLemmas.{length-header_of, length-octets_of}
-use Rattle.output_model.specs.Duration.{duration_element, float_octets}
-use Rattle.output_model.specs.Document.{tree_element, duration_place, info_with, info_element}
-use Rattle.duration_laws.specs.Changes.{octets_before, octets_after, added_by, HasInserted}
+use Rattle.output_model.specs.Duration.{duration_element}
+use Rattle.output_model.specs.Document.{tree_element, children_after_duration, children_before_duration, duration_place, info_with, info_element}
+use Rattle.output_model.proofs.DurationLemmas.{length-duration}
+use Rattle.duration_laws.specs.Changes.{added_by, HasInserted}
 
 -- ---- the width of a size
 
@@ -79,17 +76,6 @@ width-grows v =
               ])
         ]
 
--- ---- the Duration
-
--- A Duration has eleven bytes, as the Void in its place.
-length-duration : (end : ℕ) → length (octets_of (duration_element end)) ≡ DURATION_LEN
-unfolding least_size_width uint_width
-length-duration zero = refl
-length-duration (suc n) =
-    let body : List ℕ = float_octets (suc n) in
-    let eight : length body ≡ 8 = length-bytes_high_first 8 (to_bits binary64 (of_int binary64 (pos (suc n)))) in
-    length-append (header_of (element DURATION body)) body ∙ ap (λ k. length (header_of (element DURATION body)) + k) eight
-
 -- ---- Info
 
 -- The content of a master is its children, in sequence.
@@ -97,7 +83,7 @@ content-children : (info : Node) → IsMaster info → content info ≡ flat_map
 content-children (leaf id at body) is = absurd (cc)
 content-children (master id at kids) is = ap octets_all (sym (nodes-list kids)) ∙ octets_all-flat (list_of kids)
 
-content-parts : (info : Node) → IsMaster info → content info ≡ octets_before info ++ octets_after info
+content-parts : (info : Node) → IsMaster info → content info ≡ children_before_duration info ++ children_after_duration info
 content-parts info is =
     let place : ℕ = duration_place (children info) in
     content-children info is ∙ ap (flat_map octets) (sym (take-append-drop place (children info)))
@@ -110,8 +96,8 @@ body_with info end = info_with info (octets_of (duration_element end))
 length-body : (info : Node) (end : ℕ) → IsMaster info → length (body_with info end) ≡ length (content info) + DURATION_LEN
 length-body info end is =
     let own : List ℕ = octets_of (duration_element end) in
-    let before : List ℕ = octets_before info in
-    let after : List ℕ = octets_after info in
+    let before : List ℕ = children_before_duration info in
+    let after : List ℕ = children_after_duration info in
     length-append before (own ++ after)
     ∙ omega (arith, length-append own after, length-duration end, ap (λ (o : List ℕ). length o) (content-parts info is), length-append before after)
 

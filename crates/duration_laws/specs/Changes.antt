@@ -1,7 +1,7 @@
 -- The difference that a Duration makes to an output: RFC 9559, sections 5.1.2 (Info Element) and 5.1.5 (Cues Element).
-use Rattle.std.specs.Prelude.{◌≡◌, ◌≤◌, ℕ, ◌+◌, ◌-◌, Bool, true, false, List, ◌++◌, length, map, flat_map, take, drop, Option, Some}
-use Rattle.tree_format.specs.Node.{Node, children, IsMaster}
-use Rattle.tree_format.specs.NormalForm.{octets, content}
+use Rattle.std.specs.Prelude.{◌≡◌, ◌≤◌, ℕ, ◌+◌, ◌-◌, Bool, true, false, List, ◌++◌, length, map, Option, Some}
+use Rattle.tree_format.specs.Node.{Node, IsMaster}
+use Rattle.tree_format.specs.NormalForm.{content}
 use Rattle.output_model.specs.Element.{octets_of}
 use Rattle.output_model.specs.declared.TheConstants.{DURATION_LEN}
 use Rattle.output_model.specs.declared.heads.ClusterLimits.{ClusterLimits}
@@ -9,18 +9,10 @@ use Rattle.output_model.specs.declared.places.CuePoint.{CuePoint}
 use Rattle.output_model.specs.declared.rule.CueRule.{CueRule}
 use Rattle.output_model.specs.OutputBlock.{OutputBlock}
 use Rattle.output_model.specs.Duration.{durations_of, end_of_blocks, duration_element}
-use Rattle.output_model.specs.Document.{Front, Document, tree_element, duration_place, info_element, lasting_if, clusters_at}
+use Rattle.output_model.specs.Document.{Front, Document, tree_element, children_after_duration, children_before_duration, info_element, lasting_if, clusters_at}
 use Rattle.output_model.specs.Cued.{document_of}
 
 -- ---- Info
-
--- the bytes of the children of `info` before the place of a Duration
-abbrev pub octets_before : Node → List ℕ
-octets_before info = flat_map octets (take (duration_place (children info)) (children info))
-
--- the bytes of the children of `info` after the place of a Duration
-abbrev pub octets_after : Node → List ℕ
-octets_after info = flat_map octets (drop (duration_place (children info)) (children info))
 
 -- the number of bytes that a Duration of the tick `end` adds to the Element `info`
 abbrev pub added_by : Node → ℕ → ℕ
@@ -29,8 +21,8 @@ added_by info end = length (octets_of (info_element info (Some end))) - length (
 -- With a Duration of the tick `end`, the content of `info` has 11 more bytes at the place of the Duration. They are the Duration, or a Void if
 -- `end` is 0. The Element is 11 bytes longer, or 12, since its size may take one more byte.
 pub record HasInserted (info : Node) (end : ℕ) : Type 0 where
-  pub without : content info ≡ octets_before info ++ octets_after info
-  pub inserted : (info_element info (Some end)).body ≡ octets_before info ++ (octets_of (duration_element end) ++ octets_after info)
+  pub without : content info ≡ children_before_duration info ++ children_after_duration info
+  pub inserted : (info_element info (Some end)).body ≡ children_before_duration info ++ (octets_of (duration_element end) ++ children_after_duration info)
   pub len : length (octets_of (duration_element end)) ≡ DURATION_LEN
   pub least : DURATION_LEN ≤ added_by info end
   pub most : added_by info end ≤ DURATION_LEN + 1

@@ -15,7 +15,7 @@ use Rattle.file_format.specs.FileBlocks.{file_events}
 use Rattle.block_format.specs.Block.{Block, nanoseconds}
 use Rattle.block_format.specs.Elements.{with_limits, without_limits}
 use Rattle.block_format.specs.Events.{blocks_of, damages_of, events_of}
-use Rattle.merge_model.specs.Ticks.{since_start}
+use Rattle.output_model.specs.Ticks.{since_start}
 use Rattle.output_model.specs.declared.TheConstants.{MAX_CUES}
 use Rattle.output_model.specs.declared.places.CuePoint.{CuePoint}
 use Rattle.output_laws.specs.Points.{PointsAt, PointsAtBlock}

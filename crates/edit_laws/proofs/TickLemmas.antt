@@ -10,7 +10,7 @@ use Rattle.mkv_schema.proofs.OutlineLemmas.{and_then-ok, unless-ok}
 use Rattle.block_format.specs.Block.{Block, nanoseconds, simple_block_with}
 use Rattle.block_format.specs.Content.{content_in}
 use Rattle.block_format.specs.Elements.{Rules, timestamp_for, at_place, in_time, simple_block, group_children, block_or, too_many_references, group_with, group_among, block_group}
-use Rattle.merge_model.specs.Ticks.{since_start}
+use Rattle.output_model.specs.Ticks.{since_start}
 use Rattle.output_laws.proofs.WalkLemmas.{each-block}
 use Rattle.edit_laws.specs.IndexLaws.{TimesAreTicks}
 

@@ -12,7 +12,7 @@ use Rattle.block_reader.specs.Lendable.{IsLendable}
 use Rattle.output_model.specs.OutputBlock.{IsLent}
 use Rattle.output_model.specs.declared.TheConstants.{MAX_PREFIX_LEN}
 use Rattle.output_model.specs.declared.heads.OutHead.{OutHead}
-use Rattle.merge_model.specs.Ticks.{ticks_to}
+use Rattle.output_model.specs.Ticks.{ticks_to}
 use Rattle.merge_model.specs.Links.{lace_for}
 use Rattle.merge_model.specs.declared.link.TrackLink.{TrackLink}
 

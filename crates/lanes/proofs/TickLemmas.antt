@@ -7,7 +7,7 @@ use Rattle.std.proofs.lemmas.Int.{to_z_pos}
 use Rattle.std.proofs.lemmas.Nat.{div_below, div-add-mod'}
 use Rattle.std.proofs.lemmas.Bool.{leb-true, leb-false}
 use Rattle.std.proofs.lemmas.Int.{ints}
-use Rattle.merge_model.specs.Ticks.{floor_div, tick_of, ticks_for, ticks_to}
+use Rattle.output_model.specs.Ticks.{floor_div, tick_of, ticks_for, ticks_to}
 use Rattle.lanes.specs.Times.{most_time, ticks_before, ticks_back}
 
 -- Adding `r` adds at most `r` to the quotient.

@@ -1,7 +1,7 @@
 -- Times of an output track's blocks, in nanoseconds of the output and in ticks: RFC 9559, section 11 (Timestamps). Delays and append offsets are
 -- this project's.
 use Rattle.std.specs.Prelude.{ℕ, ◌+◌, ◌-◌, ◌/◌, ◌*◌, ◌^◌, nat_le, if◌then◌else◌, ℤ, ◌+ℤ◌, Option, option_map}
-use Rattle.merge_model.specs.Ticks.{since_start}
+use Rattle.output_model.specs.Ticks.{since_start}
 
 -- the time in the output of a block at `time` in its file, or nothing before time 0. `delay` comes from the options, `shift` is the append offset;
 -- all are in nanoseconds.

@@ -8,7 +8,7 @@ ghost use Rattle.block_format.specs.declared.limits.TheConstants.{MAX_REFERENCES
 ghost use Rattle.block_reader.specs.Lendable.{IsLendable};
 ghost use Rattle.block_reader.specs.Time.{IsSmallTime};
 ghost use Rattle.output_model.specs.OutputBlock.{IsLent};
-ghost use Rattle.merge_model.specs.Ticks.{ticks_for, ticks_to};
+ghost use Rattle.output_model.specs.Ticks.{ticks_for, ticks_to};
 ghost use Rattle.merge_model.specs.Links.{lace_for};
 ghost use Rattle.lanes.specs.Lent.{HasFewTicks, EntryBecomes, TrackBecomes};
 ghost use Rattle.merge_model.specs.FileLinks.{CanMove, IsSmallEntry, IsSmallTrack};

@@ -2,7 +2,7 @@
 
 ghost use Rattle.std.specs.Prelude.{◌≡◌, ◌+◌, ◌+ℤ◌, ◌*◌, ◌<◌, ◌≤◌, ◌^◌, nat_abs, IfSome};
 ghost use Rattle.block_reader.specs.Time.{IsSmallTime};
-ghost use Rattle.merge_model.specs.Ticks.{since_start, tick_of, ticks_for, ticks_to};
+ghost use Rattle.output_model.specs.Ticks.{since_start, tick_of, ticks_for, ticks_to};
 ghost use Rattle.merge_model.specs.declared.limits.TheConstants.{MAX_SHIFT, TOO_LARGE_DELAY};
 ghost use Rattle.lanes.specs.Times.{output_time, most_time, ticks_back};
 

@@ -11,7 +11,7 @@ use Rattle.block_format.specs.Block.{Block}
 use Rattle.block_format.specs.declared.limits.TheConstants.{TOO_LARGE_TIME}
 use Rattle.merge_model.specs.Ends.{block_end, end_at, file_end, last_end, lasting}
 use Rattle.merge_model.specs.Links.{Given, Placing, delayed}
-use Rattle.merge_model.specs.Ticks.{since_start}
+use Rattle.output_model.specs.Ticks.{since_start}
 use Rattle.merge_model.specs.declared.limits.TheConstants.{MAX_LINKS, MAX_SHIFT}
 use Rattle.lanes.specs.declared.survey_result.TheConstants.{MAX_END}
 use Rattle.output_laws.specs.Read.{IsPlacing, IsReadBlock}

@@ -7,7 +7,7 @@ use Rattle.mkv_io.specs.declared.damage.Kind.TheVariants.{Truncated, ShortBlock}
 use Rattle.block_format.specs.Events.{Event, block, damaged, stopped}
 use Rattle.mkv_io.specs.declared.entry.Entry.{Entry}
 use Rattle.output_model.specs.OutputBlock.{OutputBlock}
-use Rattle.merge_model.specs.Ticks.{tick_of, tick_near, ticks_for, ticks_to}
+use Rattle.output_model.specs.Ticks.{tick_of, tick_near, ticks_for, ticks_to}
 use Rattle.merge_model.specs.Links.{Given, Placing, lace_for, text_given, track_given}
 use Rattle.merge_model.specs.Lanes.{lane_blocks, lane_damages}
 use Rattle.merge_model.specs.Ends.{file_end}

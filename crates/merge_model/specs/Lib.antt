@@ -3,6 +3,5 @@ pub mod Heads
 pub mod Lanes
 pub mod Links
 pub mod Merged
-pub mod Ticks
 pub mod FileLinks
 pub mod Timed

@@ -9,7 +9,7 @@ use Rattle.block_format.specs.Block.{Block}
 use Rattle.block_format.specs.Events.{Event, blocks_of, damages_of, last_of}
 use Rattle.mkv_io.specs.declared.entry.Entry.{Entry}
 use Rattle.output_model.specs.OutputBlock.{OutputBlock}
-use Rattle.merge_model.specs.Ticks.{since_start, tick_of, ticks_for, ticks_to}
+use Rattle.output_model.specs.Ticks.{since_start, tick_of, ticks_for, ticks_to}
 
 -- ---- a link
 

@@ -1,5 +1,5 @@
 -- The area has its length, and the last writes don't change the length of an output.
-use Rattle.std.proofs.Common.{◌≡◌, ℕ, suc, ◌+◌, ◌-◌, ◌*◌, ◌<◌, ◌≤◌, nat_le, Bool, true, false, if◌then◌else◌, List, [], ◌∷◌, ◌++◌, length, map, flat_map, take, drop, replicate, All, IfSome, append-nil, append_assoc, length-append, Option, None, Some, refl, sym, ap, ◌∙◌, arith}
+use Rattle.std.proofs.Common.{◌≡◌, ℕ, suc, ◌+◌, ◌-◌, ◌*◌, ◌<◌, ◌≤◌, nat_le, Bool, true, false, if◌then◌else◌, List, [], ◌∷◌, ◌++◌, length, map, replicate, All, IfSome, append-nil, append_assoc, length-append, Option, None, Some, refl, sym, ap, ◌∙◌, arith}
 use Rattle.std.specs.Option.{option_map}
 use Rattle.std.proofs.lemmas.Bool.Decides.{nat_tests}
 use Rattle.std.proofs.lemmas.List.{length-replicate}
@@ -11,8 +11,7 @@ use Rattle.ebml_numbers.specs.Number.{all_ones, id_octets, uint_width}
 use Rattle.ebml_numbers.proofs.NumberLemmas.{length-uint_octets, length-size_octets}
 use Rattle.ebml_numbers.proofs.WidthLemmas.{least_size_width-IsLeast}
 use Rattle.mkv_schema.specs.declared.ids.TheConstants.{VOID, SEEK_HEAD, SEEK, SEEK_ID, SEEK_POSITION, INFO, TRACKS, ATTACHMENTS, CUES, CHAPTERS, TAGS}
-use Rattle.tree_format.specs.Node.{Node, id_of, children}
-use Rattle.tree_format.specs.NormalForm.{header_octets, octets}
+use Rattle.tree_format.specs.Node.{Node, id_of}
 use Rattle.output_model.specs.Element.{Element, element, octets_of, joined, void_element}
 use Rattle.output_model.proofs.ReadLemmas.{length-header_of, length-octets_of}
 use Rattle.output_model.specs.declared.TheConstants.{AREA}
@@ -21,10 +20,11 @@ use Rattle.output_model.specs.declared.places.Seek.{Seek}
 use Rattle.output_model.specs.Cues.{cues_elements}
 use Rattle.output_model.specs.SeekHead.{seek_element, seek_head, area_elements, open_area, seeks_from}
 use Rattle.output_model.specs.Duration.{duration_element}
-use Rattle.output_model.specs.Document.{Document, ending_at, tree_element, tree_elements, duration_place, info_with, info_element, attachments_elements, front_elements, clusters_elements, back_elements, back_at, seeks_of, file_with, unknown_size}
+use Rattle.output_model.specs.Document.{Document, before_duration, children_after_duration, ending_at, tree_element, tree_elements, info_element, attachments_elements, front_elements, clusters_elements, back_elements, back_at, seeks_of, file_with, unknown_size}
 use Rattle.output_model.specs.Sound.{IsRecord, IsSoundDocument}
 use Rattle.output_laws.specs.Layouts.{behind_area, duration_octets, DifferInDuration, DifferInThree}
-use Rattle.output_laws.proofs.InfoLemmas.{told-id, info-id, length-duration}
+use Rattle.output_model.proofs.DurationLemmas.{info-id, info-parts, length-duration}
+use Rattle.output_laws.proofs.InfoLemmas.{told-id}
 use Rattle.output_laws.proofs.PartLemmas.{IsShortest, shortest-attachments, shortest-cues}
 
 -- ---- a Void
@@ -168,26 +168,6 @@ length-open_area = ap (λ (o : List ℕ). length o) (append-nil (octets_of (void
 
 -- ---- overwritten bytes
 
--- the bytes of an Info with a Duration before and after that Duration
-abbrev before_duration : Node → List ℕ
-before_duration info =
-    header_octets (id_of info) (length (info_with info (octets_of (duration_element 0)))) ++ flat_map octets (take (duration_place (children info)) (children info))
-
-abbrev after_duration : Node → List ℕ
-after_duration info = flat_map octets (drop (duration_place (children info)) (children info))
-
--- They are the same for each end.
-info-parts : (info : Node) (end : ℕ) → octets_of (info_element info (Some end)) ≡ before_duration info ++ (octets_of (duration_element end) ++ after_duration info)
-info-parts info end =
-    let own : List ℕ = octets_of (duration_element end) in
-    let void : List ℕ = octets_of (duration_element 0) in
-    let first : List ℕ = flat_map octets (take (duration_place (children info)) (children info)) in
-    let last : List ℕ = after_duration info in
-    let len : length (first ++ (own ++ last)) ≡ length (first ++ (void ++ last)) =
-    omega (arith, length-append first (own ++ last), length-append own last, length-append first (void ++ last), length-append void last, length-duration end, length-duration 0) in
-    ap (λ n. header_octets (id_of info) n ++ (first ++ (own ++ last))) len
-    ∙ sym (append_assoc (header_octets (id_of info) (length (info_with info void))) first (own ++ last))
-
 pub duration-differs : (d : Document) → DifferInDuration d
 duration-differs d =
     let rest : List Element = tree_element d.front.tracks ∷ (attachments_elements d.front.attachments ++ (clusters_elements d.clusters ++ back_elements d)) in
@@ -200,15 +180,15 @@ duration-differs d =
         (before : List ℕ) × (after : List ℕ) × (octets_of (info_element info lasting) ++ rest ≡ before ++ (duration_octets lasting ++ after))
         × (octets_of (info_element info now) ++ rest ≡ before ++ (duration_octets now ++ after)) × (length (duration_octets lasting) ≡ length (duration_octets now))
 
-    parts : (info : Node) (end : ℕ) (rest : List ℕ) → octets_of (info_element info (Some end)) ++ rest ≡ before_duration info ++ (octets_of (duration_element end) ++ (after_duration info ++ rest))
+    parts : (info : Node) (end : ℕ) (rest : List ℕ) → octets_of (info_element info (Some end)) ++ rest ≡ before_duration info ++ (octets_of (duration_element end) ++ (children_after_duration info ++ rest))
     parts info end rest =
         let own : List ℕ = octets_of (duration_element end) in
-        ap (λ o. o ++ rest) (info-parts info end) ∙ append_assoc (before_duration info) (own ++ after_duration info) rest
-        ∙ ap (λ o. before_duration info ++ o) (append_assoc own (after_duration info) rest)
+        ap (λ o. o ++ rest) (info-parts info end) ∙ append_assoc (before_duration info) (own ++ children_after_duration info) rest
+        ∙ ap (λ o. before_duration info ++ o) (append_assoc own (children_after_duration info) rest)
 
     of : (info : Node) (lasting : Option ℕ) (rest : List ℕ) → Differ info lasting rest
     of info None rest = ([], octets_of (info_element info None) ++ rest, refl, refl, refl)
-    of info (Some end) rest = (before_duration info, after_duration info ++ rest, parts info end rest, parts info 0 rest, length-duration end ∙ sym (length-duration 0))
+    of info (Some end) rest = (before_duration info, children_after_duration info ++ rest, parts info end rest, parts info 0 rest, length-duration end ∙ sym (length-duration 0))
 
 pub overwritten : (d : Document) → IsSoundDocument d → DifferInThree d
 overwritten d is =

@@ -26,7 +26,7 @@ use Rattle.tree_format.proofs.PlacedLemmas.{octets_all-placed, octets-placed_in}
 use Rattle.file_format.specs.Info.{scale_of, info_without_limits}
 use Rattle.output_model.specs.Element.{element, octets_of, void_element}
 use Rattle.output_model.specs.declared.TheConstants.{DURATION_LEN}
-use Rattle.output_model.specs.Duration.{duration_element, float_octets}
+use Rattle.output_model.specs.Duration.{float_octets}
 use Rattle.output_model.specs.Document.{tree_element, is_before_duration, duration_place, info_with, info_element, info_told}
 use Rattle.output_model.specs.Sound.{IsRecord}
 use Rattle.output_laws.specs.Reading.{FirstIs, placed_list, around_void, InfoIs}
@@ -38,10 +38,6 @@ pub told-id : (info : Node) (lasting : Option ℕ) → id_of (info_told info las
 told-id info None = refl
 told-id (leaf id at body) (Some end) = refl
 told-id (master id at kids) (Some end) = refl
-
-pub info-id : (info : Node) (lasting : Option ℕ) → (info_element info lasting).id ≡ id_of info
-info-id info None = refl
-info-id info (Some end) = refl
 
 pub told-master : (info : Node) (lasting : Option ℕ) → IsMaster (info_told info lasting) → IsMaster info
 told-master info None is = is
@@ -73,11 +69,6 @@ float-len n = length-bytes_high_first 8 (to_bits binary64 (of_int binary64 (pos 
 float-written : (body : List ℕ) → length body ≡ 8 → length (element_octets DURATION body) ≡ DURATION_LEN
 unfolding least_size_width uint_width
 float-written body eight = length-append (header_octets DURATION (length body)) body ∙ ap (λ n. length (header_octets DURATION n) + n) eight
-
--- A Duration has the length of the Void in its place.
-pub length-duration : (end : ℕ) → length (octets_of (duration_element end)) ≡ DURATION_LEN
-length-duration zero = ap length void-octets ∙ void-len
-length-duration (suc n) = float-written (float_octets (suc n)) (float-len (suc n))
 
 -- ---- a Duration
 

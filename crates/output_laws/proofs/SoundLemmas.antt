@@ -16,7 +16,7 @@ use Rattle.block_format.specs.Block.{Block}
 use Rattle.output_model.specs.OutputBlock.{prefixed}
 use Rattle.output_model.specs.Sound.{IsSoundBlock}
 use Rattle.output_laws.proofs.FrameLemmas.{frames-can}
-use Rattle.merge_model.specs.Ticks.{since_start, floor_div, tick_of, tick_near, ticks_for, ticks_to}
+use Rattle.output_model.specs.Ticks.{since_start, floor_div, tick_of, tick_near, ticks_for, ticks_to}
 use Rattle.merge_model.specs.Links.{Placing, lace_for, output_block, delayed, placed_at, placed}
 use Rattle.output_laws.specs.Read.{IsReadBlock, IsPlacing, LEAST_SCALE}
 use Rattle.lemmas.proofs.PlainLemmas.{abs-add as abs-sum, abs-sub as abs-less}

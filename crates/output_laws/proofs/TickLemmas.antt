@@ -12,7 +12,7 @@ use Rattle.block_format.specs.Block.{Block, nanoseconds}
 use Rattle.output_model.specs.OutputBlock.{OutputBlock}
 use Rattle.output_model.specs.Sound.{IsSoundBlock}
 use Rattle.output_laws.specs.Places.{block_in_place}
-use Rattle.merge_model.specs.Ticks.{since_start, floor_div, tick_of, tick_near, ticks_for, ticks_to}
+use Rattle.output_model.specs.Ticks.{since_start, floor_div, tick_of, tick_near, ticks_for, ticks_to}
 use Rattle.merge_model.specs.Links.{lace_for, output_block, delayed, placed_at, placed}
 use Rattle.merge_model.specs.Merged.{in_lane}
 use Rattle.output_laws.specs.Lanes.{as_it_stands}

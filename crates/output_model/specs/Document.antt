@@ -6,7 +6,7 @@ use Rattle.std.specs.Option.{option_map}
 use Rattle.ebml_numbers.specs.Number.{all_ones, id_octets, size_octets}
 use Rattle.mkv_schema.specs.declared.ids.TheConstants.{EBML, EBML_VERSION, EBML_READ_VERSION, EBML_MAX_ID_LENGTH, EBML_MAX_SIZE_LENGTH, DOC_TYPE, DOC_TYPE_VERSION, DOC_TYPE_READ_VERSION, SEGMENT, ATTACHMENTS, DURATION, TIMESTAMP_SCALE, SEGMENT_UUID, PREV_UUID, NEXT_UUID}
 use Rattle.tree_format.specs.Node.{Node, leaf, id_of, children, with_children}
-use Rattle.tree_format.specs.NormalForm.{content, octets}
+use Rattle.tree_format.specs.NormalForm.{content, header_octets, octets}
 use Rattle.output_model.specs.Element.{Element, element, uint_element, master_element, octets_of, joined}
 use Rattle.output_model.specs.declared.TheConstants.{AREA, MAX_CUES}
 use Rattle.output_model.specs.declared.places.CuePoint.{CuePoint}
@@ -61,11 +61,21 @@ is_before_duration n = id_of n == TIMESTAMP_SCALE || id_of n == SEGMENT_UUID || 
 abbrev pub duration_place : List Node → ℕ
 duration_place ns = position_or_len (λ n. not (is_before_duration n)) ns
 
+-- the bytes of the children of the Info `info` before the place of its Duration
+abbrev pub children_before_duration : Node → List ℕ
+children_before_duration info = flat_map octets (take (duration_place (children info)) (children info))
+
+-- the bytes of the children of the Info `info` after the place of its Duration
+abbrev pub children_after_duration : Node → List ℕ
+children_after_duration info = flat_map octets (drop (duration_place (children info)) (children info))
+
 -- the body of the Info `info` with the bytes `inside` at the place of its Duration
 abbrev pub info_with : Node → List ℕ → List ℕ
-info_with info inside =
-    flat_map octets (take (duration_place (children info)) (children info))
-    ++ (inside ++ flat_map octets (drop (duration_place (children info)) (children info)))
+info_with info inside = children_before_duration info ++ (inside ++ children_after_duration info)
+
+-- the bytes of the Info `info` before the place of its Duration: its header, which counts the Duration, and the children before it
+abbrev pub before_duration : Node → List ℕ
+before_duration info = header_octets (id_of info) (length (info_with info (octets_of (duration_element 0)))) ++ children_before_duration info
 
 -- the Info of an output as an Element; `lasting` is the tick at which the output ends, if the Info has a Duration
 abbrev pub info_element : Node → Option ℕ → Element

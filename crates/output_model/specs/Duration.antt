@@ -1,6 +1,6 @@
 -- The end of an output, and the Duration in its Info: RFC 9559, sections 5.1.2 (Info Element), 5.1.3 (Cluster Element) and 5.1.4 (Tracks
 -- Element), and RFC 8794, section 7.3 (Float). The rounding of a duration, and the Void in place of a Duration of 0, are this project's.
-use Rattle.std.specs.Prelude.{ℕ, zero, suc, ◌+◌, ◌-◌, ◌*◌, ◌/◌, max, pos, List, [], ◌∷◌, length, map, Option, Some, None, unwrap_or}
+use Rattle.std.specs.Prelude.{ℕ, zero, suc, ◌-◌, ◌*◌, max, pos, List, [], ◌∷◌, length, map, Option, Some, None, unwrap_or}
 use Rattle.std.specs.Float.{binary64}
 use Rattle.std.specs.Float.Ieee.{of_int, to_bits}
 use Rattle.std.specs.List.{slice_get}
@@ -11,6 +11,7 @@ use Rattle.tree_format.specs.Node.{Node}
 use Rattle.file_format.specs.Entry.{default_duration_of, entries_of}
 use Rattle.output_model.specs.Element.{Element, element, void_element}
 use Rattle.output_model.specs.OutputBlock.{OutputBlock}
+use Rattle.output_model.specs.Ticks.{tick_of}
 use Rattle.output_model.specs.declared.durations.Durations.{Durations}
 use Rattle.output_model.specs.declared.TheConstants.{DURATION_LEN}
 
@@ -24,10 +25,10 @@ durations_of scale tracks = record { scale = scale; frames = map default_duratio
 abbrev pub frame_duration : Durations → ℕ → Option ℕ
 frame_duration d lane = unwrap_or (slice_get d.frames (lane - 1)) None
 
--- the ticks that are nearest to `frames` frames of a known duration in nanoseconds, the greater number of two; 0 ticks if it isn't known
+-- the duration in ticks of `frames` frames, nearest to that in nanoseconds; 0 if the duration of a frame isn't known
 abbrev pub ticks_of_frames : ℕ → ℕ → Option ℕ → ℕ
 ticks_of_frames scale frames None = 0
-ticks_of_frames scale frames (Some duration) = (frames * duration + scale / 2) / scale
+ticks_of_frames scale frames (Some duration) = tick_of scale (frames * duration)
 
 -- the ticks that a block of `frames` frames on the output track `lane` is shown: its BlockDuration, if it has one, even if that is 0; and otherwise
 -- the ticks of its frames

@@ -3,6 +3,7 @@ pub mod Block
 pub mod Cluster
 pub mod Cues
 pub mod SeekHead
+pub mod Ticks
 pub mod Duration
 pub mod Document
 pub mod Front

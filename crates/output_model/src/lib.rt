@@ -28,8 +28,7 @@ pub const MAX_CLUSTER_LEN: u64 = 1 << 20;
 /// Length in bytes of the reserved area: a SeekHead and the Void after it.
 pub const AREA: u64 = 256;
 
-/// Length in bytes of a Duration, and of the Void in its place: an ID of two bytes or one, the size, and eight or nine
-/// bytes.
+/// Length in bytes of a Duration with its ID, size and float of eight bytes, and of the Void in its place
 pub const DURATION_LEN: u64 = 11;
 
 /// Maximum number of cue points of an output.

@@ -12,7 +12,7 @@ use Rattle.file_format.specs.FileBlocks.{file_events}
 use Rattle.file_format.specs.Info.{file_scale}
 use Rattle.block_format.specs.Block.{Block}
 use Rattle.block_format.specs.Events.{blocks_of}
-use Rattle.merge_model.specs.Ticks.{since_start}
+use Rattle.output_model.specs.Ticks.{since_start}
 use Rattle.output_model.specs.declared.TheConstants.{MAX_CUES}
 use Rattle.output_model.specs.declared.places.CuePoint.{CuePoint}
 use Rattle.mkv_schema.specs.declared.track_type.TheConstants.{VIDEO_TRACK, SUBTITLE_TRACK}

@@ -3,7 +3,7 @@
 ghost use Rattle.std.specs.Prelude.{◌≡◌, ◌≤◌, ◌==◌, is_some, not, unwrap_or};
 ghost use Rattle.std.specs.List.{list_any};
 ghost use Rattle.block_reader.specs.Buffered.{block_of};
-ghost use Rattle.merge_model.specs.Ticks.{since_start};
+ghost use Rattle.output_model.specs.Ticks.{since_start};
 ghost use Rattle.reindex.specs.Points as spec;
 ghost use Rattle.reindex.specs.Reading.{cue_of};
 

@@ -20,7 +20,8 @@ use Rattle.output_model.specs.SeekHead.{seek_head, area_elements}
 use Rattle.output_model.specs.Document.{info_element, Document, attachments_elements, back_elements, clusters_elements, ebml_element, elements_behind_area, layout, seeks_of, segment_size, tree_element, tree_elements}
 use Rattle.output_model.specs.Sound.{IsRecord, IsSoundDocument}
 use Rattle.output_model.proofs.HeldLemmas.{held-between, held-left, held-right}
-use Rattle.output_laws.proofs.InfoLemmas.{info-id, told-id}
+use Rattle.output_model.proofs.DurationLemmas.{info-id}
+use Rattle.output_laws.proofs.InfoLemmas.{told-id}
 use Rattle.output_laws.specs.Places.{segment_elements}
 use Rattle.output_laws.specs.Reading.{header_of_segment, level_1_of, outline_of_document, segment_of_document}
 use Rattle.output_laws.proofs.LayoutLemmas.{layout-read}

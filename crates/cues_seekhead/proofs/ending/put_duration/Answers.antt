@@ -1,6 +1,5 @@
 -- The bytes in the Duration's place may be anything.
-use Rattle.std.proofs.Common.{◌≡◌, ◌≤◌, ◌<◌, ◌+◌, ◌++◌, [], ◌∷◌, length, ℕ, List, IfSome, Option, inl, refl, ap, sym, subst, append-nil, ◌∙◌, arith}
-use Rattle.std.proofs.lemmas.List.{length-append}
+use Rattle.std.proofs.Common.{◌≡◌, ◌≤◌, ◌+◌, ◌++◌, [], ◌∷◌, length, ℕ, List, IfSome, Option, inl, refl, ap, sym, subst, append-nil, ◌∙◌, arith}
 use Rattle.std.proofs.lemmas.Result.{err_from_is_err_and}
 use Rattle.mkv_io.specs.Contents.{overwritten}
 use Rattle.mkv_io.specs.Names.{with_content}
@@ -10,7 +9,7 @@ use Rattle.output_model.specs.Duration.{duration_element}
 use Rattle.output_model.specs.Element.{octets_of}
 use Rattle.cues_seekhead.specs.Draft.{StandsDrafted}
 use Rattle.cues_seekhead.proofs.DraftLemmas.{IsPatched-none, IsPatched-over, StandsDrafted-patched, duration-some, overwrote}
-use Rattle.cues_seekhead.proofs.DurationLemmas.{length-duration}
+use Rattle.output_model.proofs.DurationLemmas.{length-duration}
 use Rattle.cues_seekhead.proofs.ending.put_duration.Goals as goal
 
 pub returns-in_err-overwrite-clause-drafts : goal.returns-in_err-overwrite-clause-drafts

@@ -5,9 +5,9 @@ use Rattle.std.specs.Option.{option_map}
 use Rattle.output_model.specs.Element.{joined, octets_of}
 use Rattle.output_model.specs.declared.places.Seek.{Seek}
 use Rattle.output_model.specs.SeekHead.{open_area}
-use Rattle.output_model.specs.Document.{file_with, info_element, lasting_if, tree_element, unknown_size}
+use Rattle.output_model.specs.Document.{before_duration, file_with, info_element, lasting_if, tree_element, unknown_size}
 use Rattle.cues_seekhead.specs.Attached.{attachments_header}
-use Rattle.cues_seekhead.specs.Front.{before_duration, place_of, records_of}
+use Rattle.cues_seekhead.specs.Front.{place_of, records_of}
 use Rattle.cues_seekhead.specs.Places.{AreIds}
 use Rattle.cues_seekhead.proofs.DurationLemmas.{place-inside}
 use Rattle.cues_seekhead.proofs.FrontLemmas.{front-added, front-ids, front-few, info-added}

@@ -4,7 +4,7 @@ use Rattle.std.specs.Prelude.{◌+ℤ◌, ℤ}
 use Rattle.merge_model.specs.FileLinks.{listing_of}
 use Rattle.merge_model.specs.Timed.{time_for}
 use Rattle.block_reader.specs.declared.head.BlockHead.{BlockHead}
-use Rattle.merge_model.specs.Ticks.{since_start}
+use Rattle.output_model.specs.Ticks.{since_start}
 use Rattle.lanes.specs.Ends.{lasting_for}
 use Rattle.lanes.proofs.EndLemmas.{end-taken}
 use Rattle.lanes.proofs.ends.track_end.Goals as goal

@@ -3,7 +3,7 @@ use Rattle.std.specs.Prelude.{ℕ, ℤ, List}
 use Rattle.block_format.specs.Content.{frames_cut}
 use Rattle.block_reader.specs.declared.head.BlockHead.{BlockHead}
 use Rattle.merge_model.specs.Links.{lace_for}
-use Rattle.merge_model.specs.Ticks.{ticks_to}
+use Rattle.output_model.specs.Ticks.{ticks_to}
 use Rattle.lanes.proofs.PlaceLemmas.{track-written}
 use Rattle.lanes.proofs.place.place_block.Goals as goal
 

@@ -1,7 +1,7 @@
 use Rattle.std.proofs.Common.{◌≡◌, map, take}
 use Rattle.std.specs.List.{All}
 use Rattle.block_reader.specs.Time.{IsSmallTime}
-use Rattle.merge_model.specs.Ticks.{ticks_to}
+use Rattle.output_model.specs.Ticks.{ticks_to}
 use Rattle.lanes.proofs.place.put_references.Given as goal
 
 abbrev pub invariant-loop-away : goal.invariant-loop-away

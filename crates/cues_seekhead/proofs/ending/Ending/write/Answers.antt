@@ -1,10 +1,9 @@
-use Rattle.std.proofs.Common.{◌≡◌, ◌≤◌, ◌<◌, ◌+◌, ◌-◌, [], ◌∷◌, ◌++◌, length, ℕ, List, Option, IfSome, inl, refl, ap, sym, subst, append-nil, ◌∙◌, arith}
+use Rattle.std.proofs.Common.{◌≡◌, ◌≤◌, ◌+◌, ◌-◌, [], ◌∷◌, ◌++◌, length, ℕ, List, refl, ap, sym, subst, ◌∙◌, arith}
 use Rattle.std.proofs.lemmas.List.{length-append}
 use Rattle.std.proofs.lemmas.Result.{err_from_is_err_and}
 use Rattle.ebml_numbers.specs.Number.{size_octets}
 use Rattle.ebml_numbers.proofs.NumberLemmas.{length-size_octets}
 use Rattle.mkv_io.specs.Contents.{overwritten}
-use Rattle.mkv_io.specs.Ends.{is_remux_write_fault}
 use Rattle.mkv_io.specs.Faults.{is_failure, is_make_failure}
 use Rattle.mkv_io.specs.Names.{with_content}
 use Rattle.mkv_io.specs.Sources.{file_size}
