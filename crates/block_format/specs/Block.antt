@@ -6,10 +6,10 @@ use Rattle.lacing.specs.declared.kind.Lace.{Lace}
 use Rattle.block_format.specs.declared.limits.TheConstants.{TOO_LARGE_TIME}
 use Rattle.block_format.specs.Content.{Content, is_key, is_invisible, is_discardable, lace_of}
 
--- A SimpleBlock or a BlockGroup. It has the number of its track and its timestamp in nanoseconds. Four flags follow: it is a keyframe, it isn't
--- shown, it may be discarded, it is a group. Then: the kind of its lacing, its frames, its duration if it has one, and its references. A
--- reference is the timestamp of another block minus its own. Durations and references are in nanoseconds. `kept` has the bytes of all other
--- Elements of the group, in their order, and `offset` is the place of its header in the file.
+-- A SimpleBlock or a BlockGroup, as `merge`, `extract` and `reindex` read it. It has the number of its track and its timestamp in nanoseconds. Four
+-- flags follow: it is a keyframe, it isn't shown, it may be discarded, it is a group. Then: the kind of its lacing, its frames, its duration if it
+-- has one, and its references. A reference is the timestamp of another block minus its own. Durations and references are in nanoseconds. `kept` has
+-- the bytes of all other Elements of the group, in their order, and `offset` is the place of its header in the file.
 pub record Block : Type 0 where
   pub track : ℕ
   pub time : ℤ
@@ -26,19 +26,21 @@ pub record Block : Type 0 where
 
 -- ---- timestamps
 
--- `ticks` ticks of `scale` nanoseconds each, in nanoseconds
+-- `ticks` ticks of `scale` nanoseconds each, in nanoseconds. Used for all times of blocks.
 abbrev pub nanoseconds : ℕ → ℤ → ℤ
 nanoseconds scale ticks = ticks *ℤ pos scale
 
--- the timestamp of a block in nanoseconds: the Cluster's Timestamp plus the block's own, in ticks of `scale` nanoseconds
+-- the timestamp of a block in nanoseconds: the Cluster's Timestamp plus the block's own, in ticks of `scale` nanoseconds. For the blocks of
+-- SimpleBlocks and BlockGroups.
 abbrev pub time_of : ℕ → ℕ → Content → ℤ
 time_of scale timestamp content = nanoseconds scale (pos timestamp +ℤ content.relative)
 
--- A time of `time` nanoseconds, before or after 0, is too large for a block: its absolute value is at least 2^56.
+-- A time of `time` nanoseconds, before or after 0, is too large for a block: its absolute value is at least 2^56. For `has_too_large_time`, when a
+-- file's blocks are read.
 abbrev pub is_too_large : ℤ → Bool
 is_too_large time = nat_le TOO_LARGE_TIME (nat_abs time)
 
--- The timestamp, the duration or a reference of the block `block` is too large.
+-- The timestamp, the duration or a reference of the block `block` is too large. A reader with limits refuses such a block. For `in_time`.
 abbrev pub has_too_large_time : Block → Bool
 has_too_large_time block =
     is_too_large block.time
@@ -48,7 +50,7 @@ has_too_large_time block =
 -- ---- blocks that are made of a content
 
 -- the block of a SimpleBlock with the content `content` at the offset `offset` of the file. Its Cluster has the Timestamp `timestamp`, in ticks of
--- `scale` nanoseconds.
+-- `scale` nanoseconds. For `simple_block`, when a file's blocks are read.
 abbrev pub simple_block_with : ℕ → ℕ → ℕ → Content → Block
 simple_block_with scale timestamp offset content = record {
   track = content.track;

@@ -5,8 +5,9 @@ use Rattle.block_format.specs.Content.{frames_cut}
 use Rattle.block_format.specs.Block.{Block}
 use Rattle.block_reader.specs.declared.head.BlockHead.{BlockHead}
 
--- the content of a block buffer. It has the bytes that were read, the head, and the number, bytes and sizes of the frames. It also has the
--- references, and the kept children of a group. A skipped block has no bytes or sizes of frames.
+-- the content of a block buffer. It has the bytes `octets` that were read, the head, and the number, bytes and sizes of the frames. It also has the
+-- references in nanoseconds, and the kept children of a group. A skipped block has no bytes or sizes of frames. Used by `block_of`, `HoldsFound` and
+-- others.
 pub record Buffered : Type 0 where
   pub octets : List ℕ
   pub head : BlockHead
@@ -16,7 +17,7 @@ pub record Buffered : Type 0 where
   pub references : List ℤ
   pub kept : List ℕ
 
--- the block that the buffer `b` holds, as the definitions have it
+-- the block that the buffer `b` holds, as the definitions of a file's blocks have it; for `HoldsFound`
 abbrev pub block_of : Buffered → Block
 block_of b = record {
   track = b.head.track;
@@ -33,7 +34,8 @@ block_of b = record {
   offset = b.head.offset;
 }
 
--- A reader's result agrees with the expected one, `found`: the buffer `b` holds its block, or both are the same damage.
+-- The result of parsing a block, the first argument, agrees with `found`, the one that the definitions expect: the buffer `b` holds its block, or
+-- both are the same damage. Used by `SpellsSimple` and `SpellsGroup`.
 abbrev pub HoldsFound : {T : Type 0} → Result T Damage → Buffered → Result Block Damage → Type 0
 HoldsFound (Ok done) b found = found ≡ Ok (block_of b)
 HoldsFound (Err d) b found = found ≡ Err d

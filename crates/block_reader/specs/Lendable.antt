@@ -11,12 +11,13 @@ use Rattle.block_reader.specs.declared.parts.Parts.{Parts}
 use Rattle.block_reader.specs.Buffered.{Buffered}
 use Rattle.block_reader.specs.Time.{IsSmallTime}
 
--- The time and the duration in `head` are below 2^56 nanoseconds in size.
+-- The time and the duration in `head`, the head of a block that was read or skipped, are below 2^56 nanoseconds in size.
 pub record HasSmallTimes (head : BlockHead) : Type 0 where
   pub time : IsSmallTime head.time
   pub duration : IfSome head.duration (λ d. d < TOO_LARGE_TIME)
 
--- The buffer `b` has no block that can be borrowed.
+-- The buffer `b` has no block whose frames can be borrowed: it is new, its block was skipped or damaged, or is only read and not parsed. Used by
+-- `new`, `read` and others.
 pub record LendsNothing (b : Buffered) : Type 0 where
   pub body : b.body ≡ []
   pub sizes : b.sizes ≡ []
@@ -24,7 +25,7 @@ pub record LendsNothing (b : Buffered) : Type 0 where
   pub kept : b.kept ≡ []
 
 -- The parts of the block in the buffer `b` are within their limits, also without a block. They are times, frame count, frames and sizes, references,
--- and kept children.
+-- and kept children. It is a condition of `IsLendable`.
 pub record LendsFew (b : Buffered) : Type 0 where
   pub times : HasSmallTimes b.head
   pub frames : b.frames ≤ 256
@@ -35,20 +36,21 @@ pub record LendsFew (b : Buffered) : Type 0 where
   pub most_references : length b.references ≤ MAX_REFERENCES
   pub kept : length b.kept ≤ MAX_BLOCK_LEN
 
--- The buffer `b` has a block that can be written. Its parts are within their limits, and its frames, one or more, suit its lacing.
+-- The buffer `b` has a block that `merge` can write. Its parts are within their limits, and its frames, one or more, suit its lacing.
 pub record IsLendable (b : Buffered) : Type 0 where
   pub few : LendsFew b
   pub some : 1 ≤ length b.sizes
   pub count : b.frames ≡ length b.sizes
   pub fits : FitsKind b.head.lace b.sizes
 
--- The buffer `b` has no block, or one that can be written.
+-- The buffer `b` has no block, or one that can be written. It is a condition of the buffer's invariant. Used by `AreParts`.
 abbrev pub Lends : Buffered → Type 0
 Lends b = LendsNothing b ⊎ IsLendable b
 
 -- ---- parts of a block
 
--- the content of a buffer with the bytes `octets` and the parts `p` of a block
+-- the content of a block buffer with the bytes `octets`, as they were read, and the parts `p` of a block. Used by `spell_simple`, `spell_group` and
+-- others.
 abbrev pub lent : List ℕ → Parts → Buffered
 lent octets p = record {
   octets = octets;
@@ -60,7 +62,7 @@ lent octets p = record {
   kept = p.gathered.kept.items;
 }
 
--- The parts `p` of a buffer belong to no block.
+-- The parts `p` of a block buffer belong to no block whose frames can be borrowed. Used by `new`, `forget` and others.
 pub record IsEmpty (p : Parts) : Type 0 where
   pub start : p.start ≡ 0
   pub end : p.end ≡ 0
@@ -68,31 +70,34 @@ pub record IsEmpty (p : Parts) : Type 0 where
   pub references : p.gathered.references.items ≡ []
   pub kept : p.gathered.kept.items ≡ []
 
--- The frames of the parts `p` are a range of the bytes `octets`.
+-- The frames of the parts `p` of a block buffer are a range of the bytes `octets` that were read. Used by `IsBlock` and `AreParts`.
 pub record IsWithin (octets : List ℕ) (p : Parts) : Type 0 where
   pub order : p.start ≤ p.end
   pub inside : p.end ≤ length octets
 
--- The parts `p` are of a block in the bytes `octets` that can be written.
+-- The parts `p` are of a block in the bytes `octets` that can be written, as `simple` and `group` promise after a success.
 pub record IsBlock (octets : List ℕ) (p : Parts) : Type 0 where
   pub within : IsWithin octets p
   pub lendable : IsLendable (lent octets p)
 
 -- The parts `p` are of no block in the bytes `octets`, or of one that can be written. Their times and frame count are within limits in either case.
+-- It is a condition of the buffer's invariant.
 pub record AreParts (octets : List ℕ) (p : Parts) : Type 0 where
   pub within : IsWithin octets p
   pub times : HasSmallTimes p.head
   pub frames : p.frames ≤ 256
   pub lends : Lends (lent octets p)
 
--- A buffer has the bytes `octets`, at most 32 MiB and 1,024 bytes. Its last block is the first `len` of them, and `p` are its parts.
+-- A block buffer has the bytes `octets`, at most 32 MiB and 1,024 bytes. Its last block is the first `len` of them, and `p` are its parts. It is the
+-- invariant of `BlockBuffer`.
 pub record IsBuffer (len : ℕ) (octets : List ℕ) (p : Parts) : Type 0 where
   pub within : len ≤ length octets
   pub few : len ≤ MAX_BLOCK_LEN
   pub most : length octets ≤ MAX_BLOCK_LEN + LITTLE
   pub parts : AreParts (take len octets) p
 
--- The times in `head` and the references `refs` can be written, and the lacing in `head` is the one that `flags` names.
+-- The times in `head` and the references `refs` of a block, in nanoseconds, can be written, and the lacing in `head` is the one that `flags` names.
+-- `simple_head` and `group_head` promise it.
 pub record CanLead (flags : ℕ) (refs : List ℤ) (head : BlockHead) : Type 0 where
   pub times : HasSmallTimes head
   pub references : All IsSmallTime refs

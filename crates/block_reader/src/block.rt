@@ -27,7 +27,8 @@ pub struct Times {
 }
 
 /// Returns the head of the SimpleBlock with the header `header` and the parsed content `spelled`, or damage if its time
-/// is too large. Its Cluster has the Timestamp `timestamp`, in ticks of `scale` nanoseconds.
+/// is too large (2^56 nanoseconds). Its Cluster has the Timestamp `timestamp`, in ticks of `scale` nanoseconds. Called
+/// for each SimpleBlock, whether it is read whole or only its first bytes.
 pub fn simple_head(
     scale: u64,
     timestamp: u64,
@@ -53,9 +54,9 @@ pub fn simple_head(
     })
 }
 
-// Returns the time and duration of a BlockGroup in nanoseconds, or nothing if one of its times is too large. Its
-// Cluster has the Timestamp `timestamp`, and its Block the time `relative` from there, in ticks of `scale` nanoseconds.
-// The references in `gathered` are in nanoseconds afterwards.
+// Returns the time and duration of a BlockGroup in nanoseconds, or None if its time, its duration or a reference is too
+// large. Its Cluster has the Timestamp `timestamp`, and its Block the time `relative` from there, in ticks of `scale`
+// nanoseconds. The references in `gathered` are in nanoseconds afterwards. Used by `group_head`.
 fn times_of(scale: u64, timestamp: u64, relative: i64, gathered: &mut Gathered) -> Option<Times>
     ensures exact { TellsTimes scale (pos timestamp +ℤ relative) gathered.old gathered.new result }
     ensures block { gathered.new.block ≡ gathered.old.block }
@@ -74,7 +75,8 @@ fn times_of(scale: u64, timestamp: u64, relative: i64, gathered: &mut Gathered) 
 
 /// Returns the head of the BlockGroup at the offset `offset` of the file, with the parsed Block `spelled` and the
 /// children `gathered`. Fails with the first damage: too many ReferenceBlocks, or a time that is too large. Its Cluster
-/// has the Timestamp `timestamp`, in ticks of `scale` nanoseconds. Afterwards the references are in nanoseconds.
+/// has the Timestamp `timestamp`, in ticks of `scale` nanoseconds. Afterwards the references in `gathered` are in
+/// nanoseconds. Called for each BlockGroup that is read.
 pub fn group_head(
     scale: u64,
     timestamp: u64,

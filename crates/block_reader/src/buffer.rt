@@ -48,7 +48,7 @@ impl Model for BlockBuffer {
 }
 
 impl BlockBuffer {
-    /// Returns a buffer without a block, which takes no memory.
+    /// Returns a buffer without a block, which takes no memory. A cursor over a file's blocks has one.
     pub fn new(alloc: Global) -> BlockBuffer
         ensures octets { result.octets ≡ [] }
         ensures nothing { LendsNothing result }
@@ -61,7 +61,8 @@ impl BlockBuffer {
     }
 
     /// Reads the content of the SimpleBlock or BlockGroup with the header `header` from `file`, through `window`. The
-    /// previous block is lost.
+    /// cursor does this before it parses the block with `spell_simple` or `spell_group`. The previous block is lost.
+    /// After a failure the buffer has no block.
     pub fn read<R: Reads>(
         &mut self,
         window: &mut Window,
@@ -93,7 +94,8 @@ impl BlockBuffer {
         Ok(())
     }
 
-    /// Skips the frames of a SimpleBlock: the buffer only keeps the head and frame count of it, `front`.
+    /// Skips the frames of a SimpleBlock: the buffer only keeps the head and frame count of it, `front`. The cursor
+    /// does this with a block that its caller doesn't want.
     pub fn pass(&mut self, front: BlockPreview)
         requires small { HasSmallTimes front.head }
         requires few { front.frames ≤ 256 }
@@ -106,8 +108,9 @@ impl BlockBuffer {
         self.parts.pass(front);
     }
 
-    /// Parses the bytes that were read as a SimpleBlock with the header `header`, or returns the first damage. Its
-    /// Cluster has the Timestamp `timestamp`, in ticks of `scale` nanoseconds.
+    /// Parses the bytes that `read` has read as a SimpleBlock with the header `header`. The inner Err is the first
+    /// damage, and the buffer has no block then. Its Cluster has the Timestamp `timestamp`, in ticks of `scale`
+    /// nanoseconds. Used by `read_block`.
     pub fn spell_simple(&mut self, scale: u64, timestamp: u64, header: &Header) -> Found
         requires few { known header.now.size ≤ MAX_BLOCK_LEN }
         requires length { length self.old.octets ≡ known header.now.size }
@@ -121,8 +124,9 @@ impl BlockBuffer {
         self.parts.settle(found)
     }
 
-    /// Parses the bytes that were read as a BlockGroup with the header `header` in a file of `total` bytes, or returns
-    /// the first damage. Its Cluster has the Timestamp `timestamp`, in ticks of `scale` nanoseconds.
+    /// Parses the bytes that `read` has read as a BlockGroup with the header `header` in a file of `total` bytes. The
+    /// inner Err is the first damage, and the buffer has no block then. Its Cluster has the Timestamp `timestamp`, in
+    /// ticks of `scale` nanoseconds. Used by `read_block`.
     pub fn spell_group(&mut self, scale: u64, timestamp: u64, header: &Header, total: u64) -> Found
         requires few { known header.now.size ≤ MAX_BLOCK_LEN }
         requires length { length self.old.octets ≡ known header.now.size }
@@ -138,7 +142,7 @@ impl BlockBuffer {
         self.parts.settle(found)
     }
 
-    /// Returns the head of the block.
+    /// Returns the head of the block that was read or skipped last. Used by the cursor, for all readers of blocks.
     pub fn head(&self) -> &BlockHead
         ensures exact { result.now ≡ self.now.head }
         ensures small { HasSmallTimes result.now }
@@ -146,7 +150,8 @@ impl BlockBuffer {
         &self.parts.head
     }
 
-    /// Returns the number of frames of the block. After `pass` the frames themselves aren't available.
+    /// Returns the number of frames of the block that was read or skipped last. After `pass` the frames themselves
+    /// aren't available. Used by the cursor, for all readers of blocks.
     pub fn frames(&self) -> u16
         ensures exact { result ≡ self.now.frames }
         ensures most { result ≤ 256 }
@@ -154,7 +159,8 @@ impl BlockBuffer {
         self.parts.frames
     }
 
-    /// Returns the bytes of the frames in sequence.
+    /// Returns the bytes of the frames of the block in sequence, or no bytes after `pass`. Used by the cursor, for all
+    /// readers of blocks.
     pub fn body(&self) -> &[u8]
         ensures exact { result.now ≡ self.now.body }
         ensures cut { sum self.now.sizes ≡ length result.now }
@@ -164,7 +170,8 @@ impl BlockBuffer {
         &octets[self.parts.start..self.parts.end]
     }
 
-    /// Returns the size of each frame in bytes; the slice is empty if there is no block.
+    /// Returns the size in bytes of each frame of the block; the slice is empty if there is no block or it was skipped.
+    /// Used by the cursor, for all readers of blocks.
     pub fn sizes(&self) -> &[u32]
         ensures exact { result.now ≡ self.now.sizes }
         ensures sum { sum result.now ≡ length self.now.body }
@@ -174,7 +181,8 @@ impl BlockBuffer {
         self.parts.sizes.as_slice()
     }
 
-    /// Returns the times of the referenced blocks relative to this block, in nanoseconds.
+    /// Returns the times of the referenced blocks relative to the block in the buffer, in nanoseconds. `merge` writes
+    /// them as ReferenceBlocks.
     pub fn references(&self) -> &[i64]
         ensures exact { result.now ≡ self.now.references }
         ensures small { All IsSmallTime result.now }
@@ -183,7 +191,8 @@ impl BlockBuffer {
         self.parts.gathered.references.as_slice()
     }
 
-    /// Returns the bytes of the kept children of the group, in file order.
+    /// Returns the bytes of the children of the BlockGroup in the buffer that `merge` keeps unchanged, in file order;
+    /// no bytes for a SimpleBlock.
     pub fn kept(&self) -> &[u8]
         ensures exact { result.now ≡ self.now.kept }
         ensures most { length result.now ≤ MAX_BLOCK_LEN }

@@ -37,14 +37,16 @@ pub struct Spelled {
     pub start: usize,
 }
 
-/// Checks whether the bit `flag` of `flags` is set.
+/// Checks whether the bit `flag` is set in `flags`, the flags in a Block's or SimpleBlock's header. Used by
+/// `simple_head` and `group_head`.
 pub fn has_flag(flag: u8, flags: u8) -> bool
     ensures { result ≡ has_flag flag flags }
 {
     flags & flag != 0
 }
 
-/// Returns the lacing that the flags of a block name.
+/// Returns the lacing that `flags`, the flags in a Block's or SimpleBlock's header, name. Used by `simple_head`,
+/// `group_head` and others.
 pub fn lace_of(flags: u8) -> Lace
     ensures { result ≡ lace_of flags }
 {
@@ -56,8 +58,8 @@ pub fn lace_of(flags: u8) -> Lace
     }
 }
 
-// Returns the track number that was read as a variable-size integer of `len` bytes. An unknown size is the number with
-// all bits 1.
+// Returns the track number that was read as a variable-size integer `size` of `len` bytes. If all its bits are 1, which
+// is an unknown size elsewhere, it is the number with all bits 1. Used by `header_in`.
 fn data_of(size: Size, len: u8) -> u64
     requires { len ≤ 8 }
     ensures { result ≡ data_of size len }
@@ -68,7 +70,8 @@ fn data_of(size: Size, len: u8) -> u64
     }
 }
 
-/// Returns the header at the start of `octets`, the content of a Block or SimpleBlock, or nothing if it is incomplete.
+/// Returns the header at the start of `octets`, the content of a Block or SimpleBlock or its first bytes, or None if it
+/// is incomplete. Called for each block that is read or skipped.
 pub fn header_in(octets: &[u8]) -> Option<BlockHeader>
     ensures { result ≡ header_in octets.now }
 {
@@ -87,8 +90,8 @@ pub fn header_in(octets: &[u8]) -> Option<BlockHeader>
     })
 }
 
-// Writes the length of `octets` to `sizes` as the size of the only frame of a block without lacing. Returns the length
-// of the lace's head, which is 0.
+// Adds the length of `octets` in bytes to `sizes`, as the size of the only frame of a block without lacing. Returns the
+// length of the lace's head, which is 0. Used by `cut`.
 fn one_frame(octets: &[u8], sizes: &mut SmallVec<u32, 8, Global>) -> Result<usize, AllocError>
     requires short { length octets.now ≤ MAX_BLOCK_LEN }
     requires empty { sizes.old.items ≡ [] }
@@ -99,8 +102,9 @@ fn one_frame(octets: &[u8], sizes: &mut SmallVec<u32, 8, Global>) -> Result<usiz
     Ok(0)
 }
 
-// Divides a lace of the kind `kind` into frames, and writes their sizes to `sizes`. `octets` begins with the number of
-// frames minus one and the head of the lace. Returns the number of bytes before the first frame, or the kind of damage.
+// Divides a lace of the kind `kind` into frames, and writes their sizes in bytes to `sizes`. `octets` begins with the
+// number of frames minus one and the head of the lace. Returns the number of bytes before the first frame, or as inner
+// Err the kind of damage. Used by `cut`.
 fn laced_frames(
     kind: Lace,
     octets: &[u8],
@@ -121,8 +125,8 @@ fn laced_frames(
     }
 }
 
-// Divides `octets`, the bytes after a block's header, into frames, and writes their sizes to `sizes`. Returns the
-// number of bytes before the first frame, or the kind of damage.
+// Divides `octets`, the bytes after a block's header, into frames by the lacing `kind`, and writes their sizes in bytes
+// to `sizes`. Returns the number of bytes before the first frame, or as inner Err the kind of damage. Used by `spell`.
 fn cut(
     kind: Lace,
     octets: &[u8],
@@ -139,8 +143,9 @@ fn cut(
     }
 }
 
-/// Parses `octets` as the content of a Block or SimpleBlock, and writes the sizes of its frames to `sizes`. Fails if
-/// the bytes end inside the header, or don't match the lacing that it names.
+/// Parses `octets` as the content of a Block or SimpleBlock that was read whole, and writes the sizes of its frames in
+/// bytes to `sizes`. The inner Err is the kind of damage: the bytes end inside the header, or don't match the lacing
+/// that it names. Used by `simple` and `group`.
 pub fn spell(
     octets: &[u8],
     sizes: &mut SmallVec<u32, 8, Global>,

@@ -25,8 +25,8 @@ pub struct BlockPreview {
     pub frames: u16,
 }
 
-// Returns the number of frames in a lace of `len` bytes that begins with `front`. Returns nothing if `front` isn't
-// enough to know that the lace is valid.
+// Returns the number of frames in a lace of the kind `kind`, whose `len` bytes begin with `front`, or None if `front`
+// isn't enough to know that the lace is valid. Used by `frame_count`.
 fn laced_count(kind: Lace, front: &[u8], len: usize) -> Option<u16>
     requires inside { length front.now ≤ len }
     requires short { len ≤ MAX_BLOCK_LEN }
@@ -42,8 +42,8 @@ fn laced_count(kind: Lace, front: &[u8], len: usize) -> Option<u16>
     }
 }
 
-// Returns the number of frames in the `len` bytes after a block's header, which begin with `front`. Returns None if
-// `front` is too short to know it, or the bytes can't be such frames.
+// Returns the number of frames in the `len` bytes after a SimpleBlock's header, which begin with `front`. `kind` is its
+// lacing. Returns None if `front` is too short to know it, or the bytes can't be such frames. Used by `front_head`.
 fn frame_count(kind: Lace, front: &[u8], len: usize) -> Option<u16>
     requires inside { length front.now ≤ len }
     requires short { len ≤ MAX_BLOCK_LEN }
@@ -56,8 +56,8 @@ fn frame_count(kind: Lace, front: &[u8], len: usize) -> Option<u16>
     }
 }
 
-/// Returns the TrackNumber of a SimpleBlock whose content begins with `front`, or nothing if its header is incomplete
-/// there.
+/// Returns the TrackNumber of a SimpleBlock whose content begins with `front`, or None if its header is incomplete
+/// there. The cursor decides by it whether the block can be skipped. Used by `settled` of `cluster_reader`.
 pub fn front_track(front: &[u8]) -> Option<u64>
     ensures { result ≡ front_track front.now }
 {
@@ -65,9 +65,9 @@ pub fn front_track(front: &[u8]) -> Option<u64>
     Some(header.track)
 }
 
-/// Returns the head and frame count of the SimpleBlock with the header `header`, whose content begins with `front`.
-/// Returns nothing if `front` isn't enough to know that the block is valid. Its Cluster has the Timestamp `timestamp`,
-/// in ticks of `scale` nanoseconds.
+/// Returns the head and frame count of the SimpleBlock with the header `header`, whose content begins with `front`, so
+/// that its frames needn't be read. Returns None if `front` isn't enough to know that the block is valid. Its Cluster
+/// has the Timestamp `timestamp`, in ticks of `scale` nanoseconds.
 pub fn front_head(scale: u64, timestamp: u64, header: &Header, front: &[u8]) -> Option<BlockPreview>
     requires few { known header.now.size ≤ MAX_BLOCK_LEN }
     requires front { length front.now ≤ known header.now.size }

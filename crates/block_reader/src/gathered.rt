@@ -33,8 +33,8 @@ pub struct Gathered {
     pub kept: Vec<u8>,
 }
 
-// Returns the bytes of `child` of a BlockGroup, header included. `body` is the content of the BlockGroup, at the offset
-// `base` of the file.
+// Returns the bytes of the child `child` of a BlockGroup, header included, which may be kept. `body` is the content of
+// the BlockGroup, at the offset `base` of the file. Used by `gather`.
 fn element_of<'a>(body: &'a [u8], base: u64, child: &Header) -> &'a [u8]
     requires short { base + length body.now ≤ LONGEST_FILE }
     requires from { base ≤ child.now.offset }
@@ -47,8 +47,8 @@ fn element_of<'a>(body: &'a [u8], base: u64, child: &Header) -> &'a [u8]
     &body[(child.offset - base) as usize..(end - base) as usize]
 }
 
-// Checks whether `value` is valid for a child of a BlockGroup with the ID `id`. A Block may have any bytes; a
-// BlockDuration or ReferenceBlock has at most eight.
+// Checks whether `value` is a valid content of a child of a BlockGroup with the ID `id`. A Block may have any bytes; a
+// BlockDuration or ReferenceBlock has at most eight. Used by `gather`.
 fn is_child_value(id: u32, value: &[u8]) -> bool
     ensures { result ≡ is_known_value GROUP_ID id value.now }
 {
@@ -71,7 +71,7 @@ enum Part {
     LeftOut,
 }
 
-// Returns the role that a child with the ID `id` has in its BlockGroup.
+// Returns the role that a child with the ID `id` has in its BlockGroup. Used by `add`.
 fn part_of(id: u32) -> Part
     ensures { IsPart id result }
 {
@@ -85,7 +85,7 @@ fn part_of(id: u32) -> Part
 }
 
 impl Gathered {
-    /// Returns empty data, which take no memory.
+    /// Returns empty data, which take no memory, for a new block buffer.
     pub fn new(alloc: Global) -> Gathered
         ensures exact { (bytes : List ℕ) → Gathers bytes [] result }
         ensures references { result.references.items ≡ [] }
@@ -100,7 +100,8 @@ impl Gathered {
         }
     }
 
-    /// Removes all data, without freeing memory.
+    /// Removes the data of the previous BlockGroup, without freeing memory, before the next block is parsed. Used by
+    /// `spell`, `gather` and others.
     pub fn clear(&mut self)
         ensures exact { (bytes : List ℕ) → Gathers bytes [] self.new }
         ensures block { self.new.block ≡ None }
@@ -115,8 +116,8 @@ impl Gathered {
     }
 
     /// Gathers the data of the children of a BlockGroup with the content `body`, which is at the offset `base` of a
-    /// file of `total` bytes. Fails with the first damage: an invalid value, or a place without a valid Element. If
-    /// memory runs out, only some children are gathered.
+    /// file of `total` bytes. The inner Err is the first damage: an invalid value, or a place without a valid Element.
+    /// If memory runs out, only some children are gathered. `Parts::group` does this first.
     pub fn gather(
         &mut self,
         body: &[u8],
@@ -146,7 +147,8 @@ impl Gathered {
         Ok(Ok(()))
     }
 
-    // Adds the data of `child`, which has the content `value` and the bytes `octets`, header included.
+    // Adds the data of the BlockGroup's child `child`, which has the content `value` and the bytes `octets`, header
+    // included. Used by `gather`.
     fn add(&mut self, child: &Header, value: &[u8], octets: &[u8]) -> Result<(), AllocError>
         requires { is_known_value GROUP_ID child.now.id value.now ≡ true }
         ensures exact { OnOk result (GathersChild child.now value.now octets.now self.old self.new) }
@@ -164,7 +166,8 @@ impl Gathered {
         Ok(())
     }
 
-    // Adds the ReferenceBlock `child`, for a block `ticks` ticks away.
+    // Adds the ReferenceBlock `child`, for a block `ticks` ticks away. After the first 64 it only notes the first
+    // surplus one. Used by `add`.
     fn add_reference(&mut self, child: &Header, ticks: i64)
         requires { child.now.id ≡ REFERENCE_BLOCK }
         ensures exact { GathersReference child.now ticks self.old self.new }

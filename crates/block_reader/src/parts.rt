@@ -41,7 +41,7 @@ pub struct Parts {
 }
 
 impl Parts {
-    /// Returns the parts of no block, which take no memory.
+    /// Returns the parts of no block, which take no memory, for a new block buffer.
     pub fn new(alloc: Global) -> Parts
         ensures empty { IsEmpty result }
         ensures times { HasSmallTimes result.head }
@@ -67,7 +67,8 @@ impl Parts {
         }
     }
 
-    /// Removes the block, without freeing memory.
+    /// Removes the block, without freeing memory; its head and frame count stay. Done before the next block is read or
+    /// parsed, and after damage. Used by `read`, `pass` and others.
     pub fn forget(&mut self)
         ensures empty { IsEmpty self.new }
         ensures head { self.new.head ≡ self.old.head }
@@ -79,7 +80,8 @@ impl Parts {
         self.gathered.clear();
     }
 
-    /// Removes the block, and keeps only the head and frame count of a skipped one, `front`.
+    /// Removes the block, and keeps only the head and frame count of a skipped one, `front`. Used by
+    /// `BlockBuffer::pass`.
     pub fn pass(&mut self, front: BlockPreview)
         ensures empty { IsEmpty self.new }
         ensures head { self.new.head ≡ front.head }
@@ -90,8 +92,8 @@ impl Parts {
         self.frames = front.frames;
     }
 
-    /// Parses `octets` as the SimpleBlock with the header `header`, or returns the first damage. Its Cluster has the
-    /// Timestamp `timestamp`, in ticks of `scale` nanoseconds.
+    /// Parses `octets` as the SimpleBlock with the header `header`. The inner Err is the first damage. Its Cluster has
+    /// the Timestamp `timestamp`, in ticks of `scale` nanoseconds. Used by `BlockBuffer::spell_simple`.
     pub fn simple(&mut self, octets: &[u8], scale: u64, timestamp: u64, header: &Header) -> Found
         requires few { known header.now.size ≤ MAX_BLOCK_LEN }
         requires length { length octets.now ≡ known header.now.size }
@@ -117,8 +119,9 @@ impl Parts {
         }
     }
 
-    /// Parses `octets` as the BlockGroup with the header `header` in a file of `total` bytes, or returns the first
-    /// damage. Its Cluster has the Timestamp `timestamp`, in ticks of `scale` nanoseconds.
+    /// Parses `octets` as the BlockGroup with the header `header` in a file of `total` bytes. The inner Err is the
+    /// first damage. Its Cluster has the Timestamp `timestamp`, in ticks of `scale` nanoseconds. Used by
+    /// `BlockBuffer::spell_group`.
     pub fn group(
         &mut self,
         octets: &[u8],
@@ -167,7 +170,8 @@ impl Parts {
         }
     }
 
-    /// Returns the result `found` of parsing a block. Unless a block was found, removes its partial results first.
+    /// Returns the result `found` of parsing a block with `simple` or `group`. After damage or without memory, removes
+    /// the partial results first, so that the buffer has no block.
     pub fn settle(&mut self, found: Found) -> Found
         ensures same { result ≡ found }
         ensures found { IfOk found (λ found. OnOk found (self.new ≡ self.old)) }

@@ -7,7 +7,8 @@ ghost use Rattle.block_reader.specs.Time.{scaled, scaled_duration, is_too_large_
 
 use block_format::TOO_LARGE_TIME;
 
-// Returns `ticks` ticks of `scale` nanoseconds in nanoseconds, or nothing if that is 2^56 or more in size.
+// Returns `ticks` ticks of `scale` nanoseconds in nanoseconds, or None if that is 2^56 or more in size. Used for a
+// block's time and its references.
 fn scaled(ticks: i128, scale: u64) -> Option<i64>
     ensures { result ≡ scaled scale ticks }
 {
@@ -19,16 +20,17 @@ fn scaled(ticks: i128, scale: u64) -> Option<i64>
     Some(if ticks < 0 { -nanoseconds } else { nanoseconds })
 }
 
-/// Returns the time of a block in nanoseconds, or nothing if it is too large. It is `relative` ticks after `timestamp`,
-/// the Timestamp of its Cluster; a tick has `scale` nanoseconds.
+/// Returns the time of a SimpleBlock or BlockGroup in nanoseconds, or None if it is 2^56 or more in size. It is
+/// `relative` ticks after `timestamp`, the Timestamp of its Cluster; a tick has `scale` nanoseconds. Used by
+/// `simple_head` and `times_of`.
 pub fn block_time(scale: u64, timestamp: u64, relative: i64) -> Option<i64>
     ensures { result ≡ scaled scale (pos timestamp +ℤ relative) }
 {
     scaled(i128::from(timestamp) + i128::from(relative), scale)
 }
 
-/// Converts the references `times` from ticks of `scale` nanoseconds to nanoseconds. Returns false if one is too large;
-/// some are converted then.
+/// Converts `times`, the references of a BlockGroup, from ticks of `scale` nanoseconds to nanoseconds. Returns false if
+/// one is 2^56 or more in size; some are converted then. Used by `times_of`.
 pub fn scale_all(times: &mut [i64], scale: u64) -> bool
     ensures fits { list_any (is_too_large_at scale) times.old ≡ not result }
     ensures scaled { IsTrue result → times.new ≡ map (nanoseconds scale) times.old }
@@ -42,8 +44,8 @@ pub fn scale_all(times: &mut [i64], scale: u64) -> bool
     true
 }
 
-/// Returns a duration of `ticks` ticks in nanoseconds, or nothing if it is too large. One tick is `scale`
-/// nanoseconds.
+/// Returns the duration of a BlockGroup of `ticks` ticks in nanoseconds, or None if it is 2^56 or more. One tick is
+/// `scale` nanoseconds. Used by `times_of`.
 pub fn scaled_duration(ticks: u64, scale: u64) -> Option<u64>
     ensures { result ≡ scaled_duration scale ticks }
 {

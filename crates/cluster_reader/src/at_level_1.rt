@@ -12,8 +12,8 @@ use elements::{Parent, ends_segment, id_of};
 use mkv_io::{ReadEnd, Reads};
 use mkv_schema::ids::CLUSTER;
 
-/// Advances `walk` by the Element of level 1 at its place: enters a Cluster, skips another Element, or finds damage or
-/// the end.
+/// Advances `walk` by the Element of level 1 at its place in `src`: enters a Cluster, skips another Element, or finds
+/// damage or the end. Returns None if neither damage nor the end was found. `turn` calls it outside of Clusters.
 pub fn turn_at_level_1<R: Reads>(walk: &mut Walk, src: &mut R) -> Result<Option<Step>, ReadEnd>
     requires ready { IsReady (live_files R.Reads src.old) walk.old }
     requires outside { walk.old.place.cluster ≡ None }

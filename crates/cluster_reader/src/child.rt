@@ -34,8 +34,8 @@ const LEAST_OF_FRONT: u64 = 12;
 const MAX_PREVIEW_LEN: u64 = 1024;
 
 /// Reads the child of a Cluster with the header `header`: a block, a Timestamp, or one to skip. `timestamp` is the
-/// Cluster's Timestamp before it, if any. `takes` chooses the blocks that are read whole. The place of the walk is
-/// unchanged.
+/// Cluster's Timestamp before it in ticks, if any. `takes` chooses the blocks that are read whole, into the buffer of
+/// `walk`. The place of the walk is unchanged. Used by `turn_child`.
 pub fn read_child<R: Reads>(
     walk: &mut Walk,
     src: &mut R,
@@ -66,7 +66,8 @@ pub fn read_child<R: Reads>(
     }
 }
 
-// Reads the Timestamp with the header `header`, unless the Cluster already had one, which is `timestamp` then.
+// Reads the Timestamp with the header `header`, unless the Cluster already had one, which is `timestamp` then, in
+// ticks. A Timestamp that is too long is damage. Used by `read_child`.
 fn timestamp_child<R: Reads>(
     walk: &mut Walk,
     src: &mut R,
@@ -97,8 +98,8 @@ fn timestamp_child<R: Reads>(
     }
 }
 
-// Returns the Timestamp of the Cluster for a block with the header `header`. Returns damage if the block is too long or
-// no Timestamp precedes it.
+// Returns the Timestamp `timestamp` of the Cluster in ticks, for a block with the header `header`. Returns damage if
+// the block is longer than 32 MiB or no Timestamp precedes it. Used by `read_block`.
 fn timestamp_for(timestamp: Option<u64>, header: &Header) -> Result<u64, Damage>
     ensures exact { (scale : ℕ) → result ≡ timestamp_for (with_limits scale) timestamp header.now }
     ensures few { IfOk result (λ _. known header.now.size ≤ MAX_BLOCK_LEN) }
@@ -112,7 +113,8 @@ fn timestamp_for(timestamp: Option<u64>, header: &Header) -> Result<u64, Damage>
     }
 }
 
-// Checks whether the filter `takes` wants the frames of a block of the track with the TrackNumber `track`.
+// Checks whether the filter `takes` of a cursor wants the frames of a block of the track with the TrackNumber `track`.
+// Used by `settled`.
 fn wants(takes: BlockFilter, track: u64) -> bool
     ensures { result ≡ wants takes track }
 {
@@ -123,9 +125,9 @@ fn wants(takes: BlockFilter, track: u64) -> bool
     }
 }
 
-// Returns the head and frame count of the SimpleBlock with the header `header`, if the filter `takes` doesn't want it.
-// Returns None if the bytes of it in `window` aren't enough to know them. `ticks` is its Cluster's Timestamp, in ticks
-// of `scale` nanoseconds.
+// Returns the head and frame count of the SimpleBlock with the header `header`, or None if the filter `takes` wants it.
+// Also returns None if the bytes of it in `window` aren't enough to know them. `ticks` is its Cluster's Timestamp, in
+// ticks of `scale` nanoseconds. Used by `passes`.
 fn settled(
     window: &Window,
     scale: u64,
@@ -149,8 +151,9 @@ fn settled(
     }
 }
 
-// Skips the frames of the SimpleBlock with the header `header` if the filter `takes` doesn't want it. Its first bytes
-// must be enough to know that it is valid. Returns true if it did. `ticks` is its Cluster's Timestamp.
+// Skips the frames of the SimpleBlock with the header `header` if the filter `takes` doesn't want it. Its first bytes,
+// up to 1,024, must be enough to know that it is valid. Returns true if it was skipped. `ticks` is its Cluster's
+// Timestamp. Used by `read_block`.
 fn passes<R: Reads>(
     walk: &mut Walk,
     src: &mut R,
@@ -184,8 +187,9 @@ fn passes<R: Reads>(
     }
 }
 
-// Reads the SimpleBlock or BlockGroup with the header `header` into the walk's buffer, or returns its first damage. The
-// frames of a block that the filter `takes` doesn't want may be skipped.
+// Reads the SimpleBlock or BlockGroup with the header `header` into the buffer of `walk`. The inner Err is its first
+// damage. The frames of a block that the filter `takes` doesn't want may be skipped. `timestamp` is its Cluster's, in
+// ticks, if it was read. Used by `read_child`.
 fn read_block<R: Reads>(
     walk: &mut Walk,
     src: &mut R,

@@ -54,8 +54,8 @@ impl Model for Cursor {
 }
 
 impl Cursor {
-    /// Starts at the first Cluster of the open file `file`, which has the outline `outline`. A tick has `scale`
-    /// nanoseconds.
+    /// Returns a cursor at the first Cluster of the open file `file`, which has the outline `outline`. A tick has
+    /// `scale` nanoseconds. `merge`, `extract` and `reindex` read a file's blocks with it.
     pub fn start<O: HasSegment>(
         alloc: Global,
         outline: &O,
@@ -84,8 +84,8 @@ impl Cursor {
         })
     }
 
-    /// Reads the next block or damaged place of the file. Returns `End` after the last one, at each call. After an
-    /// error the same block is due.
+    /// Reads the next block or damaged place of the file, with all frames. Returns `End` after the last one, at each
+    /// call. After an error the same block is due. Used by test programs; the commands call `advance_for`.
     pub fn advance<R: Reads>(&mut self, src: &mut R) -> Result<Step, ReadEnd>
         requires { CanRead (live_files R.Reads src.old) self.old }
         ensures gives { IfTold R.Reads src.old self.old.file (λ bytes. Gives bytes self.old self.new result) }
@@ -105,8 +105,8 @@ impl Cursor {
         Ok(step)
     }
 
-    /// Reads the next block or damaged place of the file, as `advance`. The frames of blocks that the filter `takes`
-    /// doesn't want may stay unread.
+    /// Reads the next block or damaged place of the file, as `advance`, but the frames of blocks that the filter
+    /// `takes` doesn't want may stay unread. `merge` wants one track, `reindex` none.
     pub fn advance_for<R: Reads>(
         &mut self,
         src: &mut R,
@@ -126,7 +126,7 @@ impl Cursor {
         Ok(step)
     }
 
-    // Adds the block or damaged place in `step` to the cursor's counts.
+    // Adds the block or damaged place in `step` to the cursor's counts. Used by `advance` and `advance_for`.
     fn count(&mut self, step: Step)
         ensures { self.new ≡ with_given step self.old }
     {
@@ -137,7 +137,7 @@ impl Cursor {
         }
     }
 
-    /// Returns the head of the last block.
+    /// Returns the head of the last block that the cursor read or skipped. Used by all readers of blocks.
     pub fn head(&self) -> &BlockHead
         ensures exact { result.now ≡ self.now.block.head }
         ensures small { HasSmallTimes result.now }
@@ -145,7 +145,7 @@ impl Cursor {
         self.walk.block.head()
     }
 
-    /// Returns the number of frames of the last block, even if the frames weren't read.
+    /// Returns the number of frames of the last block, even if the frames weren't read. Used by all readers of blocks.
     pub fn frames(&self) -> u16
         ensures exact { result ≡ self.now.block.frames }
         ensures most { result ≤ 256 }
@@ -153,7 +153,8 @@ impl Cursor {
         self.walk.block.frames()
     }
 
-    /// Returns the bytes of the frames of the last block, in sequence.
+    /// Returns the bytes of the frames of the last block, in sequence; they are empty if the frames weren't read.
+    /// `merge` and `extract` copy them.
     pub fn body(&self) -> &[u8]
         ensures exact { result.now ≡ self.now.block.body }
         ensures cut { sum self.now.block.sizes ≡ length result.now }
@@ -162,7 +163,8 @@ impl Cursor {
         self.walk.block.body()
     }
 
-    /// Returns the size of each frame of the last block in bytes; the slice is empty if no block is available.
+    /// Returns the size of each frame of the last block in bytes; the slice is empty if no block is available. `merge`
+    /// and `extract` cut the frames by it.
     pub fn sizes(&self) -> &[u32]
         ensures exact { result.now ≡ self.now.block.sizes }
         ensures sum { sum result.now ≡ length self.now.block.body }
@@ -172,7 +174,8 @@ impl Cursor {
         self.walk.block.sizes()
     }
 
-    /// Returns the bytes of the kept children of the last block, if it is a group, in file order.
+    /// Returns the bytes of the kept children of the last block, if it is a BlockGroup, in file order. `merge` copies
+    /// them unchanged.
     pub fn extra(&self) -> &[u8]
         ensures exact { result.now ≡ self.now.block.kept }
         ensures most { length result.now ≤ MAX_BLOCK_LEN }
@@ -180,7 +183,8 @@ impl Cursor {
         self.walk.block.kept()
     }
 
-    /// Returns the times of the blocks that the last block references, relative to its own, in nanoseconds.
+    /// Returns the times of the blocks that the last block references, relative to its own, in nanoseconds. `merge`
+    /// writes them as ReferenceBlocks.
     pub fn refs(&self) -> &[i64]
         ensures exact { result.now ≡ self.now.block.references }
         ensures small { All IsSmallTime result.now }
@@ -189,14 +193,15 @@ impl Cursor {
         self.walk.block.references()
     }
 
-    /// Returns the number of damaged places that were found in the file up to now.
+    /// Returns the number of damaged places that the cursor found in the file up to now.
     pub fn damages(&self) -> u64
         ensures { result ≡ self.now.damages }
     {
         self.damages
     }
 
-    /// Checks whether the last damaged place ended the reading of the file.
+    /// Checks whether the last damaged place ended the reading of the file, so that its later blocks are lost. `merge`
+    /// then by default also leaves out the files that are appended to it.
     pub fn stopped(&self) -> bool
         ensures { result ≡ self.now.stopped }
     {

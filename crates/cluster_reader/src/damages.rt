@@ -31,7 +31,8 @@ impl Model for Damages {
 }
 
 impl Damages {
-    /// Returns an empty report with room for a hundred places.
+    /// Returns an empty report with room for a hundred damaged places. `merge` and `extract` make one for each file
+    /// whose blocks they read.
     pub fn new(alloc: Global) -> Result<Damages, AllocError>
         ensures { IfOk result (λ damages. damages ≡ told_damages []) }
     {
@@ -41,7 +42,8 @@ impl Damages {
         })
     }
 
-    /// Adds `damage`, or only counts it after the first hundred.
+    /// Adds the damaged place `damage` to the report, or only counts it after the first hundred. `merge` and `extract`
+    /// add each damaged place and each bad frame that they meet.
     pub fn add(&mut self, damage: Damage)
         ensures { self.new ≡ with_damage self.old damage }
     {
@@ -52,14 +54,14 @@ impl Damages {
         }
     }
 
-    /// Returns the first hundred damaged places, in file order.
+    /// Returns the first hundred damaged places, in file order, for the warnings of `merge` and `extract`.
     pub fn first(&self) -> &[Damage]
         ensures { result.now ≡ self.now.first }
     {
         self.first.as_slice()
     }
 
-    /// Returns the number of damaged places after the first hundred.
+    /// Returns the number of damaged places after the first hundred, at most 2^64 - 1, for a last warning.
     pub fn more(&self) -> u64
         ensures { result ≡ self.now.more }
     {

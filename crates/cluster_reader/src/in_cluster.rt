@@ -17,15 +17,17 @@ use elements::{Parent, ends_cluster, id_of};
 use mkv_io::{ReadEnd, Reads};
 use mkv_schema::Header;
 
-// Checks whether an Element with the ID `id` ends the children of a Cluster; only one of `unknown` size ends this way.
+// Checks whether an Element with the ID `id` ends the children of a Cluster. Only a Cluster of unknown size (`unknown`)
+// ends this way, at an Element of level 1 or 0. Used by `turn_in_cluster`.
 fn ends_children(unknown: bool, id: u32) -> bool
     ensures { result ≡ ends_children unknown id }
 {
     unknown && ends_cluster(id)
 }
 
-/// Advances `walk` by the Element at its place in `cluster`: reads a child, leaves the Cluster, or finds damage.
-/// `takes` chooses the blocks that are read whole.
+/// Advances `walk` by the Element at its place in `cluster` in `src`: reads a child, leaves the Cluster, or finds
+/// damage. `takes` chooses the blocks that are read whole. Returns None unless a block or damage was found. `turn`
+/// calls it inside of Clusters.
 pub fn turn_in_cluster<R: Reads>(
     walk: &mut Walk,
     src: &mut R,
@@ -61,6 +63,7 @@ pub fn turn_in_cluster<R: Reads>(
 }
 
 // Advances `walk` by the child of `cluster` with the header `header`. `takes` chooses the blocks that are read whole.
+// Returns None for a child that isn't a block. Used by `turn_in_cluster`.
 fn turn_child<R: Reads>(
     walk: &mut Walk,
     src: &mut R,

@@ -13,8 +13,8 @@ use crate::step::Step;
 use crate::walk::Walk;
 use mkv_io::{ReadEnd, Reads};
 
-/// Advances `walk` to the next block or damaged place, or to the end of the file. `takes` chooses the blocks that are
-/// read whole.
+/// Advances `walk` to the next block or damaged place of its file in `src`, or to the end of the Segment. `takes`
+/// chooses the blocks that are read whole. `advance` and `advance_for` of a cursor call it.
 pub fn next_step<R: Reads>(
     walk: &mut Walk,
     src: &mut R,
@@ -35,8 +35,8 @@ pub fn next_step<R: Reads>(
     }
 }
 
-// Advances `walk` by the Element at its place, in a Cluster or at level 1. Returns nothing unless a block, damage or
-// the end was found.
+// Advances `walk` by the Element at its place, in a Cluster or at level 1. Returns None unless a block, damage or the
+// end was found. Used by `next_step`.
 fn turn<R: Reads>(walk: &mut Walk, src: &mut R, takes: BlockFilter) -> Result<Option<Step>, ReadEnd>
     requires { IsReady (live_files R.Reads src.old) walk.old }
     ensures gives { IfTold R.Reads src.old walk.old.file (λ bytes. Turns takes bytes walk.old walk.new result) }

@@ -37,7 +37,7 @@ pub struct OpenCluster {
 }
 
 impl Place {
-    /// Returns the place of the first Element in `segment`, in a file of `total` bytes.
+    /// Returns the place of the first Element in `segment`, in a file of `total` bytes, where a cursor starts.
     pub fn first(segment: &Header, total: u64) -> Place
         ensures { result ≡ first_place segment.now total }
     {
@@ -49,7 +49,8 @@ impl Place {
         }
     }
 
-    /// Returns the place after the Element of level 1 with the header `header`, which isn't entered.
+    /// Returns the place after the Element of level 1 with the header `header`, which isn't a Cluster and is skipped.
+    /// Used by `turn_at_level_1`.
     pub fn behind(self, header: &Header) -> Place
         ensures { result ≡ record self { at = end_in self.end header.now } }
     {
@@ -59,7 +60,8 @@ impl Place {
         }
     }
 
-    /// Returns the place of the first child of the Cluster with the header `header`, in a file of `total` bytes.
+    /// Returns the place of the first child of the Cluster with the header `header`, in a file of `total` bytes, when a
+    /// walk enters it. Used by `turn_at_level_1`.
     pub fn entered(self, header: &Header, total: u64) -> Place
         requires { total ≤ LONGEST_FILE }
         ensures { result ≡ record self { at = header.now.body; cluster = Some (cluster_in total self.end header.now) } }
@@ -77,7 +79,8 @@ impl Place {
         }
     }
 
-    /// Returns the place after the child `child` of `cluster`. `timestamp` is the Cluster's Timestamp, if it was read.
+    /// Returns the place after the child with the header `child` of `cluster`, which a walk has read or skipped.
+    /// `timestamp` is the Cluster's Timestamp in ticks, if it was read.
     pub fn passed(self, cluster: OpenCluster, child: &Header, timestamp: Option<u64>) -> Place
         ensures { result ≡ behind_child self cluster child.now timestamp }
     {
@@ -91,7 +94,7 @@ impl Place {
         }
     }
 
-    /// Returns the place at the offset `at` of the file, outside any Cluster.
+    /// Returns the place at the offset `at` of the file, outside any Cluster, when a walk leaves a Cluster or ends.
     pub fn outside(self, at: u64) -> Place
         ensures { result ≡ record self { at = at; cluster = None } }
     {
@@ -103,8 +106,8 @@ impl Place {
     }
 }
 
-// Returns the greatest offset that the Element with the header `header` may reach, in a parent that ends at the offset
-// `end`.
+// Returns the greatest offset in the file that the Segment or Cluster with the header `header` may reach, in a parent
+// that ends at the offset `end`. Used by `first` and `entered`.
 fn bound_in(header: &Header, end: u64) -> u64
     ensures { result ≡ bound_in end header.now }
 {
@@ -115,7 +118,7 @@ fn bound_in(header: &Header, end: u64) -> u64
 }
 
 // Checks whether the Cluster with the header `header` has a known size and ends within a file of `total` bytes. Reading
-// can go on after damage in it.
+// can go on after damage in it. Used by `entered`.
 fn is_closed(header: &Header, total: u64) -> bool
     requires { total ≤ LONGEST_FILE }
     ensures { result ≡ is_closed total header.now }

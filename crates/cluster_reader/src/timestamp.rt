@@ -15,7 +15,8 @@ use elements::{Window, known};
 use mkv_io::{Failed, FileId, Reads};
 use mkv_schema::Header;
 
-/// Reads the value of the Timestamp with the header `header`, in ticks, from `file` through `window`.
+/// Reads the value of a Cluster's Timestamp with the header `header`, in ticks, from `file` in `src` through `window`.
+/// A walk does this for the first Timestamp of each Cluster. Used by `timestamp_child`.
 pub fn read_timestamp<R: Reads>(
     window: &mut Window,
     src: &mut R,

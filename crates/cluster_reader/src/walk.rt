@@ -33,8 +33,8 @@ pub struct Walk {
 }
 
 impl Walk {
-    /// Reads the header of the Element at the place of the walk, or its damage. Its parent is `parent`, and ends at the
-    /// offset `end`.
+    /// Reads the header of the Element at the place of the walk from `src`; the inner Err is its damage. Its parent is
+    /// `parent`, and ends at the offset `end`. Each turn begins with it.
     pub fn element<R: Reads>(
         &mut self,
         src: &mut R,
@@ -62,7 +62,7 @@ impl Walk {
     }
 
     /// Leaves `cluster` after damage in it: moves after the Cluster if it is closed, and otherwise to the end of the
-    /// file.
+    /// Segment, which ends the reading. Used by `turn_in_cluster` and `turn_child`.
     pub fn break_off(&mut self, cluster: &OpenCluster)
         ensures { self.new ≡ broken_off cluster.now self.old }
     {
@@ -75,7 +75,8 @@ impl Walk {
         self.stopped = !cluster.closed;
     }
 
-    /// Moves to the end of the file: the last damage ends the reading.
+    /// Moves to the end of the Segment after damage at level 1: the last damage ends the reading. Used by
+    /// `turn_at_level_1`.
     pub fn stop(&mut self)
         ensures { self.new ≡ ended self.old }
     {

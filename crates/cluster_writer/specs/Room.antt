@@ -4,11 +4,13 @@ use Rattle.std.specs.Vec.{vec_capacity}
 use Rattle.std.specs.declared.alloc.Global.{Global}
 use Rattle.std.specs.declared.vec.Vec.{Vec}
 
--- The buffer `v` has free capacity for `n` more bytes.
+-- The vector `v` has free capacity for `n` more bytes. A condition of all functions that append to a buffer without allocating. Used by
+-- `add_headers`, `add_block_element` and others.
 abbrev pub HasRoom : Vec ℕ Global → ℕ → Type 0
 HasRoom v n = vec_len v + n ≤ vec_capacity v
 
--- The buffer `new` is `old` with `octets` appended, and at least the same capacity.
+-- The vector `new` is `old` with `octets` appended, and at least the same capacity. The functions that append to a buffer without allocating state
+-- it.
 pub record Adds (old new : Vec ℕ Global) (octets : List ℕ) : Type 0 where
   pub items : new.items ≡ old.items ++ octets
   pub len : vec_len new ≡ vec_len old + length octets

@@ -21,7 +21,7 @@ use mkv_schema::ids::{BLOCK, BLOCK_GROUP, SIMPLE_BLOCK};
 use output_model::OutHead;
 
 /// Returns the length in bytes of a Block whose frames have the sizes `sizes`, each after a prefix of `prefix` bytes.
-/// The lacing is `kind`.
+/// The lacing is `kind`. `lengths_of` calls it before a block is put into a Cluster.
 pub(crate) fn block_len(kind: Lace, prefix: u32, sizes: &[u32]) -> u64
     requires { CanLace kind (prefixed_sizes prefix sizes.now) }
     ensures exact { result ≡ block_len kind (prefixed_sizes prefix sizes.now) }
@@ -30,7 +30,8 @@ pub(crate) fn block_len(kind: Lace, prefix: u32, sizes: &[u32]) -> u64
     4 + lace_octets_len(kind, prefix, sizes) + prefixed_total(prefix, sizes)
 }
 
-// Returns the total length in bytes of frames of the sizes `sizes`, each after a prefix of `prefix` bytes.
+// Returns for `block_len` the total length in bytes of frames of the sizes `sizes`, each after a prefix of `prefix`
+// bytes. The block is measured so before `merge` puts it into a Cluster.
 fn prefixed_total(prefix: u32, sizes: &[u32]) -> u64
     requires { sum (prefixed_sizes prefix sizes.now) ≤ 2 ^ 26 }
     ensures { result ≡ sum (prefixed_sizes prefix sizes.now) }
@@ -38,7 +39,8 @@ fn prefixed_total(prefix: u32, sizes: &[u32]) -> u64
     u64::from(prefix) * sizes.len() as u64 + total(sizes)
 }
 
-// Returns the sum of the frame sizes `sizes` in bytes.
+// Returns the sum of the frame sizes `sizes`, in bytes, without prefixes. For `prefixed_total`, while `merge` fills a
+// Cluster.
 fn total(sizes: &[u32]) -> u64
     requires { sum sizes.now ≤ 2 ^ 26 }
     ensures { result ≡ sum sizes.now }
@@ -52,14 +54,16 @@ fn total(sizes: &[u32]) -> u64
 
 // ---- the header of a Block
 
-// Returns the flag `value` of a block's header if `set`, and 0 otherwise.
+// Returns the bit `value` for the flags of a block's header if `set`, and 0 otherwise. For `flags_of`, while `merge`
+// fills a Cluster.
 fn flag(value: u8, set: bool) -> u8
     ensures { result ≡ flag value set }
 {
     if set { value } else { 0 }
 }
 
-// Returns the bits of the lacing `kind` in the flags of a block: RFC 9559, section 10.1 (Block Structure).
+// Returns the bits of the lacing `kind` in the flags of a block: RFC 9559, section 10.1 (Block Structure). For
+// `flags_of`, while `merge` fills a Cluster.
 fn lace_bits(kind: Lace) -> u8
     ensures exact { result ≡ lace_bits kind }
     ensures most { result ≤ 0x06 }
@@ -72,7 +76,8 @@ fn lace_bits(kind: Lace) -> u8
     }
 }
 
-// Returns the flags of `block` for its header. A Block in a group only has the flags of invisibility and lacing.
+// Returns the flags byte of `block` for its header. A Block in a group only has the flags of invisibility and lacing.
+// `add_headers` writes it, while `merge` fills a Cluster.
 fn flags_of(block: &BlockRef<'_>) -> u8
     ensures { result ≡ flags_of (block_of block.now) }
 {
@@ -86,7 +91,7 @@ fn flags_of(block: &BlockRef<'_>) -> u8
 }
 
 // Returns the signed distance in ticks from the Timestamp of the Cluster, `timestamp`, to the block's `tick`, as 16
-// bits for its header.
+// bits for its header. For `add_headers`, while `merge` fills a Cluster.
 fn relative(timestamp: u64, tick: u64) -> u16
     requires { is_near timestamp tick ≡ true }
     ensures { big_bytes 2 result ≡ int_octets_in 2 (pos tick -ℤ pos timestamp) }
@@ -100,8 +105,9 @@ fn relative(timestamp: u64, tick: u64) -> u16
 
 // ---- the Element
 
-// Appends the Element header with the ID `id` and `len` bytes of content, and the header of the Block. `timestamp` is
-// the Cluster's Timestamp.
+// Appends to `out` an Element header with the ID `id` for `len` bytes of content, and the header of the Block of
+// `block`. `out` is the buffer of a Cluster with the Timestamp `timestamp`, in ticks. The first step of
+// `add_block_element`.
 fn add_headers(out: &mut Vec<u8>, id: u32, timestamp: u64, block: &BlockRef<'_>, len: u64)
     requires id { IsTrue (is_id id) }
     requires near { is_near timestamp block.now.tick ≡ true }
@@ -121,8 +127,9 @@ fn add_headers(out: &mut Vec<u8>, id: u32, timestamp: u64, block: &BlockRef<'_>,
     }
 }
 
-// Appends `block` as an Element with the ID `id` and `len` bytes of content: a SimpleBlock, or the Block of a group.
-// `timestamp` is the Cluster's Timestamp.
+// Appends `block` to `out` as an Element with the ID `id` and `len` bytes of content: a SimpleBlock, or the Block of a
+// group. `out` is the buffer of a Cluster with the Timestamp `timestamp`, in ticks. For `add_element` and `add_group`,
+// while `merge` fills a Cluster.
 fn add_block_element(out: &mut Vec<u8>, id: u32, timestamp: u64, block: &BlockRef<'_>, len: u64)
     requires id { IsTrue (is_id id) }
     requires block { CanStand timestamp block.now }
@@ -136,8 +143,8 @@ fn add_block_element(out: &mut Vec<u8>, id: u32, timestamp: u64, block: &BlockRe
     add_frames(out, block.prefix, block.body, block.sizes);
 }
 
-// Appends `block` as a BlockGroup with `body` bytes of content, with a Block of `len` bytes. `timestamp` is the
-// Cluster's Timestamp.
+// Appends `block` to `out` as a BlockGroup with `body` bytes of content, with a Block of `len` bytes. `out` is the
+// buffer of a Cluster with the Timestamp `timestamp`, in ticks. For `add_element`, while `merge` fills a Cluster.
 #[tactic(auto, unfolding(ebml_numbers::specs::Number::is_id))]
 fn add_group(out: &mut Vec<u8>, timestamp: u64, block: &BlockRef<'_>, len: u64, body: u64)
     requires block { CanStand timestamp block.now }
@@ -152,8 +159,8 @@ fn add_group(out: &mut Vec<u8>, timestamp: u64, block: &BlockRef<'_>, len: u64, 
     add_behind(out, block);
 }
 
-/// Appends `block` as a SimpleBlock or BlockGroup, whose lengths are `lengths`, to a Cluster with the Timestamp
-/// `timestamp`. Allocates no memory.
+/// Appends `block`, whose lengths are `lengths`, to `out` as a SimpleBlock or BlockGroup. `out` is the buffer of the
+/// Cluster with the Timestamp `timestamp`, in ticks. Allocates no memory. `put_measured` adds each block so.
 #[tactic(auto, unfolding(ebml_numbers::specs::Number::is_id))]
 pub(crate) fn add_element(
     out: &mut Vec<u8>,

@@ -50,7 +50,8 @@ impl Model for ClusterBuf {
 }
 
 impl ClusterBuf {
-    /// Returns a buffer without a block, for Clusters within `limits`.
+    /// Returns a buffer without a block, for Clusters within `limits`. `merge` makes one for each output. Fails if
+    /// memory runs out.
     pub fn new(alloc: Global, limits: ClusterLimits) -> Result<ClusterBuf, AllocError>
         ensures empty { IfOk result (Holds None) }
         ensures limits { IfOk result (λ b. b.limits ≡ limits) }
@@ -66,8 +67,8 @@ impl ClusterBuf {
         })
     }
 
-    /// Checks whether a block at `tick`, whose Element has `len` bytes, may join the Cluster in the buffer. A first
-    /// block always may.
+    /// Checks whether a block at the tick `tick`, whose Element has `len` bytes, may join the Cluster in the buffer. A
+    /// first block always may. If not, `merge` writes the Cluster to its file before it puts the block.
     pub fn fits(&self, tick: u64, len: u64) -> bool
         ensures exact { result ≡ has_place self.now tick len }
         ensures joins { TellsJoining self.now tick len result }
@@ -86,6 +87,7 @@ impl ClusterBuf {
     }
 
     /// Reserves memory for the Element of the next block, of `len` bytes, so that it is added without allocating.
+    /// `merge` calls it before it puts a block.
     pub fn reserve(&mut self, len: u64) -> Result<(), AllocError>
         ensures ok { OnOk result (len ≤ self.new.spare) }
         ensures same { self.new ≡ record self.old { spare = self.new.spare } }
@@ -94,10 +96,11 @@ impl ClusterBuf {
         self.octets.reserve(len as usize)
     }
 
-    /// Appends a block that fits, of the output track number `lane`, counted from 1, at the tick `tick` of its part. It
-    /// has the head `head`, and frames with the bytes `body` and the sizes `sizes`, each after `prefix`. Its references
-    /// `refs` are in ticks, and `extra` has the bytes of kept children. Returns the offset of its Element in the
-    /// Cluster's content, for its cue point. Allocates no memory.
+    /// Appends a block that fits to the Cluster, of the output track number `lane`, counted from 1, at the tick `tick`
+    /// of its part. It has the head `head`, and frames with the bytes `body` and the sizes `sizes` in bytes, each after
+    /// `prefix`. Its references `refs` are in ticks from the block, and `extra` has the bytes of kept children. Returns
+    /// the offset of its Element in the Cluster's content, for its cue point. Allocates no memory. It is for callers
+    /// that have the parts of a block; `put_block` takes a `BlockRef`.
     pub fn put(
         &mut self,
         lane: u8,
@@ -127,8 +130,9 @@ impl ClusterBuf {
         })
     }
 
-    /// Appends `block`, which fits, and returns the offset of its Element in the Cluster's content. Allocates no
-    /// memory.
+    /// Appends `block`, which fits, to the Cluster, and returns the offset of its Element in the Cluster's content, for
+    /// its cue point. Measures the block first; `put_measured` takes lengths that are known. Allocates no memory. For
+    /// callers that haven't measured it.
     pub fn put_block(&mut self, block: &BlockRef<'_>) -> u64
         requires { CanPut self.old block.now.lane block.now.tick (lent_of block.now) }
         ensures added { AddsBlock (block_of block.now) self.old self.new }
@@ -139,8 +143,8 @@ impl ClusterBuf {
         self.put_measured(block, block.lengths())
     }
 
-    /// Appends `block`, which fits and whose lengths are `lengths`, and returns the offset of its Element in the
-    /// Cluster's content. Allocates no memory.
+    /// Appends `block`, which fits and whose lengths are `lengths`, to the Cluster. Returns the offset of its Element
+    /// in the Cluster's content, for its cue point. Allocates no memory. `merge` puts each block into its output so.
     pub fn put_measured(&mut self, block: &BlockRef<'_>, lengths: BlockLengths) -> u64
         requires can { CanPut self.old block.now.lane block.now.tick (lent_of block.now) }
         requires lengths { AreLengths block.now lengths }
@@ -158,7 +162,8 @@ impl ClusterBuf {
         place
     }
 
-    /// Removes all blocks for the next Cluster, without freeing memory.
+    /// Removes all blocks for the next Cluster, without freeing memory. `merge` calls it when it has written the
+    /// Cluster to its file.
     pub fn clear(&mut self)
         ensures empty { Holds None self.new }
         ensures limits { self.new.limits ≡ self.old.limits }
@@ -169,15 +174,15 @@ impl ClusterBuf {
         self.count = 0;
     }
 
-    /// Checks whether the buffer has no block.
+    /// Checks whether the buffer has no block. `merge` asks it before it puts a block, to count Clusters.
     pub fn is_empty(&self) -> bool
         ensures { result ≡ is_empty self.now }
     {
         self.timestamp.is_none()
     }
 
-    /// Returns the bytes of the Cluster, or none without a block. Writes the Cluster's header and Timestamp before the
-    /// blocks for this.
+    /// Returns the bytes of the Cluster, or none without a block, which `merge` writes to its file. Writes the
+    /// Cluster's header and Timestamp before the blocks in the buffer for this.
     pub fn octets(&mut self) -> &[u8]
         ensures* stays { sem 𝓛 (StaysAsItIs self.entry) }
         ensures exact { result.now ≡ cluster_with self.old.timestamp self.old.elements }
@@ -188,7 +193,8 @@ impl ClusterBuf {
         &self.octets[start..]
     }
 
-    // Returns the length in bytes of the Timestamp Element, if the next block is at `tick`.
+    // Returns the length in bytes of the Cluster's Timestamp Element after a block at the tick `tick` is added: a first
+    // block sets the Timestamp. For `place` and `put_measured`, while `merge` fills a Cluster.
     fn timestamp_len_at(&self, tick: u64) -> u64
         ensures exact { result ≡ length (octets_of (timestamp_element (timestamp_for self.now tick))) }
         ensures most { result ≤ 24 }
@@ -199,7 +205,8 @@ impl ClusterBuf {
         }
     }
 
-    // Returns the length of the Cluster's content before the next block, which is at `tick`: the offset of that block.
+    // Returns the length in bytes of the Cluster's content before the next block, which is at the tick `tick`: the
+    // offset of that block. For `fits` and `put_measured`, while `merge` fills a Cluster.
     fn place(&self, tick: u64) -> u64
         ensures exact { result ≡ place_in self.now tick }
         ensures most { result ≤ 2 ^ 40 }

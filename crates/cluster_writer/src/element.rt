@@ -9,7 +9,8 @@ ghost use Rattle.cluster_writer.specs.Room.{Adds, HasRoom};
 
 use ebml_numbers::{put_id, put_size, put_uint, size_width};
 
-/// Appends the bytes `octets` to `out`, which has the capacity for them. Allocates no memory.
+/// Appends the bytes `octets` to `out`, which has the capacity for them. Allocates no memory. Used by all functions
+/// that append to the buffer of a Cluster.
 pub fn add(out: &mut Vec<u8>, octets: &[u8])
     requires { HasRoom out.old (length octets.now) }
     ensures { Adds out.old out.new octets.now }
@@ -18,7 +19,7 @@ pub fn add(out: &mut Vec<u8>, octets: &[u8])
 }
 
 /// Checks whether an Element header with the ID `id`, for `len` bytes of content, has two bytes, one for ID and size
-/// each. This is so for most Elements in a Cluster.
+/// each. The functions that measure or append a header take a quicker way then, as for most Elements in a Cluster.
 pub(crate) fn is_short(id: u32, len: u64) -> bool
     ensures { result ≡ nat_lt id 256 && nat_lt len 127 }
 {
@@ -26,6 +27,7 @@ pub(crate) fn is_short(id: u32, len: u64) -> bool
 }
 
 /// Returns the length in bytes of an Element with the ID `id` and `len` bytes of content, with the shortest header.
+/// Used for the lengths of blocks and groups before they are written.
 pub fn element_len(id: u32, len: u64) -> u64
     requires id { IsTrue (is_id id) }
     requires len { len < all_ones 8 }
@@ -38,7 +40,8 @@ pub fn element_len(id: u32, len: u64) -> u64
     u64::from(put_id(id).len) + u64::from(size_width(len)) + len
 }
 
-/// Appends the shortest header of an Element with the ID `id` and `len` bytes of content. Allocates no memory.
+/// Appends to `out` the shortest header of an Element with the ID `id` and `len` bytes of content. Allocates no memory.
+/// Used for the blocks and groups of a Cluster.
 pub fn add_header(out: &mut Vec<u8>, id: u32, len: u64)
     requires id { IsTrue (is_id id) }
     requires len { len < all_ones 8 }
@@ -52,14 +55,16 @@ pub fn add_header(out: &mut Vec<u8>, id: u32, len: u64)
     add(out, put_size(len, size_width(len)).as_slice());
 }
 
-// Checks whether an unsigned integer Element has three bytes: one each for ID, size and value.
+// Checks whether an unsigned integer Element has three bytes: one each for ID, size and value. `uint_len` and
+// `add_uint` take a quicker way then.
 fn is_small(id: u32, value: u64) -> bool
     ensures { result ≡ nat_lt id 256 && nat_lt value 256 }
 {
     id < 256 && value < 256
 }
 
-/// Returns the length in bytes of the unsigned integer Element with the ID `id` and the value `value`.
+/// Returns the length in bytes of the unsigned integer Element with the ID `id` and the value `value`. Used for the
+/// Timestamp and the BlockDuration.
 pub fn uint_len(id: u32, value: u64) -> u64
     requires { IsTrue (is_id id) }
     ensures exact { result ≡ length (octets_of (uint_element id value)) }
@@ -71,7 +76,8 @@ pub fn uint_len(id: u32, value: u64) -> u64
     element_len(id, u64::from(put_uint(value).len))
 }
 
-/// Appends the unsigned integer Element with the ID `id` and the value `value`. Allocates no memory.
+/// Appends to `out` the unsigned integer Element with the ID `id` and the value `value`. Allocates no memory. A
+/// BlockDuration is written so.
 pub fn add_uint(out: &mut Vec<u8>, id: u32, value: u64)
     requires id { IsTrue (is_id id) }
     requires room { HasRoom out.old (length (octets_of (uint_element id value))) }

@@ -13,7 +13,7 @@ use mkv_schema::ids::{CLUSTER, TIMESTAMP};
 pub(crate) const FRONT: usize = 40;
 
 // Writes `part` into `octets` so that it ends before the offset `at`, and returns its offset. The start of a Cluster is
-// written so, backwards.
+// written so, backwards, by `put_timestamp` and `put_header`. `octets` is the buffer of the Cluster.
 fn put_before(octets: &mut [u8], at: usize, part: &[u8]) -> usize
     requires inside { at ≤ length octets.old }
     requires room { length part.now ≤ at }
@@ -26,7 +26,8 @@ fn put_before(octets: &mut [u8], at: usize, part: &[u8]) -> usize
     start
 }
 
-/// Returns the length in bytes of the Timestamp Element with the value `timestamp`.
+/// Returns the length in bytes of the Timestamp Element with the value `timestamp`. The buffer calls it for the first
+/// block of a Cluster and keeps it. Used by `timestamp_len_at`.
 #[tactic(auto, unfolding(ebml_numbers::specs::Number::is_id))]
 pub(crate) fn timestamp_len(timestamp: u64) -> u64
     ensures exact { result ≡ length (octets_of (timestamp_element timestamp)) }
@@ -35,8 +36,8 @@ pub(crate) fn timestamp_len(timestamp: u64) -> u64
     uint_len(TIMESTAMP, timestamp)
 }
 
-// Writes the Timestamp Element with the value `timestamp` directly before the blocks, which begin at `FRONT`. Returns
-// its offset.
+// Writes the Timestamp Element with the value `timestamp`, in ticks, into the Cluster's buffer `octets`, directly
+// before the blocks, which begin at `FRONT`. Returns its offset. For `put_header`, while `merge` fills a Cluster.
 #[tactic(auto, unfolding(ebml_numbers::specs::Number::is_id))]
 fn put_timestamp(octets: &mut [u8], timestamp: u64) -> usize
     requires { FRONT ≤ length octets.old }
@@ -52,8 +53,9 @@ fn put_timestamp(octets: &mut [u8], timestamp: u64) -> usize
     put_before(octets, at, put_id(TIMESTAMP).as_slice())
 }
 
-// Writes the header of a Cluster and its Timestamp directly before the blocks, which begin at `FRONT`. Returns the
-// offset of the header.
+// Writes the header of a Cluster and its Timestamp, `timestamp` ticks, into the Cluster's buffer `octets`, directly
+// before the blocks, which begin at `FRONT`. Returns the offset of the header. For `put_front`, while `merge` fills a
+// Cluster.
 #[tactic(auto, unfolding(ebml_numbers::specs::Number::is_id))]
 fn put_header(octets: &mut [u8], timestamp: u64) -> usize
     requires front { FRONT ≤ length octets.old }
@@ -68,8 +70,9 @@ fn put_header(octets: &mut [u8], timestamp: u64) -> usize
     put_before(octets, at, put_id(CLUSTER).as_slice())
 }
 
-/// Writes the header of a Cluster and its Timestamp directly before the blocks, which begin at `FRONT`. Returns the
-/// offset of the header. Without a `timestamp` there is no block, and nothing is written.
+/// Writes the header of a Cluster and its Timestamp, in ticks, into the Cluster's buffer `octets`, directly before the
+/// blocks, which begin at `FRONT`. Returns the offset of the header. Without a `timestamp` there is no block, and
+/// nothing is written. `ClusterBuf::octets` calls it before the Cluster is written to a file.
 pub(crate) fn put_front(octets: &mut [u8], timestamp: Option<u64>) -> usize
     requires front { FRONT ≤ length octets.old }
     requires most { length octets.old ≤ 2 ^ 29 }

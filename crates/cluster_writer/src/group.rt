@@ -14,7 +14,7 @@ use mkv_schema::ids::{BLOCK, BLOCK_DURATION, REFERENCE_BLOCK};
 use output_model::OutHead;
 
 /// Returns the length in bytes of a BlockGroup's content. It has a Block of `block` bytes, the BlockDuration of `head`,
-/// the references `references`, and `kept` bytes of kept children.
+/// the references `references`, and `kept` bytes of kept children. `lengths_of` measures a block of a group so.
 #[tactic(auto, unfolding(ebml_numbers::specs::Number::is_id))]
 pub(crate) fn group_len(head: &OutHead, block: u64, references: &[i64], kept: u64) -> u64
     requires block { block ≤ 2 ^ 26 + 2 ^ 21 }
@@ -26,7 +26,8 @@ pub(crate) fn group_len(head: &OutHead, block: u64, references: &[i64], kept: u6
     element_len(BLOCK, block) + duration_len(head.duration) + references_len(references) + kept
 }
 
-// Returns the length in bytes of the BlockDuration Element, or 0 without a duration.
+// Returns the length in bytes of the BlockDuration Element for a duration in ticks, or 0 without one. For `group_len`,
+// while `merge` fills a Cluster.
 #[tactic(auto, unfolding(ebml_numbers::specs::Number::is_id))]
 fn duration_len(duration: Option<u64>) -> u64
     ensures exact { result ≡ duration_len duration }
@@ -38,7 +39,8 @@ fn duration_len(duration: Option<u64>) -> u64
     }
 }
 
-/// Appends the children of the BlockGroup of `block` after its Block: BlockDuration, ReferenceBlocks and kept children.
+/// Appends to `out`, the buffer of the Cluster, the children of the BlockGroup of `block` after its Block:
+/// BlockDuration, ReferenceBlocks and kept children. `add_group` calls it after the Block.
 pub(crate) fn add_behind(out: &mut Vec<u8>, block: &BlockRef<'_>)
     requires { HasRoom out.old (behind_put block.now) }
     ensures { Adds out.old out.new (behind_octets (block_of block.now)) }
@@ -48,7 +50,7 @@ pub(crate) fn add_behind(out: &mut Vec<u8>, block: &BlockRef<'_>)
     add(out, block.kept);
 }
 
-// Appends a BlockDuration of `duration` ticks, if there is one.
+// Appends a BlockDuration of `duration` ticks, if there is one. For `add_behind`, while `merge` fills a Cluster.
 #[tactic(auto, unfolding(ebml_numbers::specs::Number::is_id))]
 fn add_duration(out: &mut Vec<u8>, duration: Option<u64>)
     requires { HasRoom out.old (duration_len duration) }
@@ -59,7 +61,8 @@ fn add_duration(out: &mut Vec<u8>, duration: Option<u64>)
     }
 }
 
-// Returns the length in bytes of the ReferenceBlock Element for a block `ticks` ticks away.
+// Returns the length in bytes of the ReferenceBlock Element with the value `ticks`, the signed distance in ticks to the
+// referenced block. For `references_len`, while `merge` fills a Cluster.
 #[tactic(auto, unfolding(ebml_numbers::specs::Number::is_id))]
 fn reference_len(ticks: i64) -> u64
     ensures exact { result ≡ length (octets_of (reference_element ticks)) }
@@ -68,7 +71,8 @@ fn reference_len(ticks: i64) -> u64
     element_len(REFERENCE_BLOCK, u64::from(put_int(ticks).len))
 }
 
-// Appends the ReferenceBlock for a block `ticks` ticks away to `out`, which has room for it.
+// Appends the ReferenceBlock with the value `ticks`, the signed distance in ticks to the referenced block, to `out`,
+// which has room for it. For `add_references`, while `merge` fills a Cluster.
 #[tactic(auto, unfolding(ebml_numbers::specs::Number::is_id))]
 fn add_reference(out: &mut Vec<u8>, ticks: i64)
     requires { HasRoom out.old (length (octets_of (reference_element ticks))) }
@@ -79,7 +83,8 @@ fn add_reference(out: &mut Vec<u8>, ticks: i64)
     add(out, octets.as_slice());
 }
 
-// Returns the length in bytes of the ReferenceBlock Elements for all `references` of a group.
+// Returns the length in bytes of the ReferenceBlock Elements for all `references` of a group, in ticks. For
+// `group_len`, while `merge` fills a Cluster.
 fn references_len(references: &[i64]) -> u64
     requires { length references.now ≤ 64 }
     ensures exact { result ≡ references_len references.now }
@@ -92,7 +97,8 @@ fn references_len(references: &[i64]) -> u64
     total
 }
 
-// Appends a ReferenceBlock for each of the `references`, which are in ticks from the block.
+// Appends to `out` a ReferenceBlock for each of the `references`, which are in ticks from the block. For `add_behind`,
+// while `merge` fills a Cluster.
 fn add_references(out: &mut Vec<u8>, references: &[i64])
     requires { HasRoom out.old (references_len references.now) }
     ensures { Adds out.old out.new (joined (map reference_element references.now)) }

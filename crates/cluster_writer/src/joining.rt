@@ -5,7 +5,8 @@ ghost use Rattle.output_model.specs.Cluster.{is_near, may_have};
 
 use output_model::{ClusterLimits, MAX_CLUSTER_LEN};
 
-// Checks whether the distance in ticks from the Cluster's Timestamp to a block's `tick` fits in 16 signed bits.
+// Checks whether the distance in ticks from the Cluster's Timestamp to a block's `tick` fits in 16 signed bits. A Block
+// stores it in them: RFC 9559, section 10.1. For `may_have`, while `merge` fills a Cluster.
 fn is_near(timestamp: u64, tick: u64) -> bool
     ensures { result ≡ is_near timestamp tick }
 {
@@ -16,8 +17,9 @@ fn is_near(timestamp: u64, tick: u64) -> bool
     }
 }
 
-/// Checks whether a block at `tick`, whose Element has `len` bytes, may join a Cluster within `limits`. The Cluster has
-/// the Timestamp `timestamp`, `count` blocks, and `size` bytes of content.
+/// Checks whether a block at the tick `tick`, whose Element has `len` bytes, may join a Cluster within `limits`. The
+/// Cluster has the Timestamp `timestamp` in ticks, `count` blocks, and `size` bytes of content. `ClusterBuf::fits` asks
+/// it for each block that `merge` writes.
 pub(crate) fn may_have(
     limits: ClusterLimits,
     timestamp: u64,

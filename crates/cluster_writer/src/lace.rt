@@ -13,8 +13,9 @@ use crate::element::add;
 use arrayvec::ArrayVec;
 use lacing::{Lace, lace_len, put_lace};
 
-// Returns the sizes in bytes of frames that have the sizes `sizes` without a prefix of `prefix` bytes each. They are
-// the sizes that a lace stores.
+// Returns the sizes in bytes of frames with their prefixes, as a lace stores them. `sizes` are the frames' sizes
+// without the prefix of `prefix` bytes each. For laces whose frames have a prefix. Used by `prefixed_head_len` and
+// `add_prefixed`.
 fn prefixed_sizes(prefix: u32, sizes: &[u32]) -> ArrayVec<u32, 256>
     requires few { length sizes.now ≤ 256 }
     requires total { sum (prefixed_sizes prefix sizes.now) ≤ 2 ^ 26 }
@@ -27,8 +28,8 @@ fn prefixed_sizes(prefix: u32, sizes: &[u32]) -> ArrayVec<u32, 256>
     all
 }
 
-/// Returns the number of bytes of a lace before its frames: their number, and the head with their sizes. `sizes` are
-/// the frames' sizes without the prefix of `prefix` bytes each.
+/// Returns the number of bytes of the lace `kind` before its frames: their number, and the head with their sizes.
+/// `sizes` are the frames' sizes without the prefix of `prefix` bytes each. For the length of a Block.
 pub(crate) fn lace_octets_len(kind: Lace, prefix: u32, sizes: &[u32]) -> u64
     requires { CanLace kind (prefixed_sizes prefix sizes.now) }
     ensures exact { result ≡ length (lace_octets kind (prefixed_sizes prefix sizes.now)) }
@@ -41,7 +42,7 @@ pub(crate) fn lace_octets_len(kind: Lace, prefix: u32, sizes: &[u32]) -> u64
 }
 
 // Returns the length in bytes of the head of a lace, which stores the sizes of frames. `sizes` are without the prefix
-// of `prefix` bytes each.
+// of `prefix` bytes each. For `lace_octets_len`, while `merge` fills a Cluster.
 fn head_len(kind: Lace, prefix: u32, sizes: &[u32]) -> u32
     requires { CanLace kind (prefixed_sizes prefix sizes.now) }
     ensures exact { result ≡ length (lace_head kind (prefixed_sizes prefix sizes.now)) }
@@ -53,8 +54,8 @@ fn head_len(kind: Lace, prefix: u32, sizes: &[u32]) -> u32
     prefixed_head_len(kind, prefix, sizes)
 }
 
-// Returns the length in bytes of the head of a lace whose frames have a prefix. It is a function of its own, so that
-// memory for 256 sizes is used only then.
+// Returns the length in bytes of the head of a lace whose frames of the sizes `sizes` have a prefix of `prefix` bytes
+// each. For `head_len`; it is a function of its own, so that memory for 256 sizes is used only then.
 fn prefixed_head_len(kind: Lace, prefix: u32, sizes: &[u32]) -> u32
     requires { CanLace kind (prefixed_sizes prefix sizes.now) }
     ensures exact { result ≡ length (lace_head kind (prefixed_sizes prefix sizes.now)) }
@@ -63,8 +64,9 @@ fn prefixed_head_len(kind: Lace, prefix: u32, sizes: &[u32]) -> u32
     lace_len(kind, &prefixed_sizes(prefix, sizes))
 }
 
-/// Appends the bytes of a Block before its frames: their number, and the head of the lace `kind`. Without lacing there
-/// are none. `sizes` are without the prefix of `prefix` bytes each.
+/// Appends to `out`, the buffer of the Cluster, the bytes of a Block before its frames: their number, and the head of
+/// the lace `kind`. Without lacing there are none. `sizes` are the frames' sizes in bytes, without the prefix of
+/// `prefix` bytes each. A step of `add_block_element`.
 pub(crate) fn add_lace(out: &mut Vec<u8>, kind: Lace, prefix: u32, sizes: &[u32])
     requires can { CanLace kind (prefixed_sizes prefix sizes.now) }
     requires room { HasRoom out.old (length (lace_octets kind (prefixed_sizes prefix sizes.now))) }
@@ -77,7 +79,7 @@ pub(crate) fn add_lace(out: &mut Vec<u8>, kind: Lace, prefix: u32, sizes: &[u32]
 }
 
 // Appends the number of frames minus one, and the head of their lace, to `out`, which has room for them. `sizes` are
-// without the prefix of `prefix` bytes each.
+// without the prefix of `prefix` bytes each. For `add_lace`, if there is lacing.
 fn add_laced(out: &mut Vec<u8>, kind: Lace, prefix: u32, sizes: &[u32])
     requires can { CanLace kind (prefixed_sizes prefix sizes.now) }
     requires room { HasRoom out.old (length (count_and_head kind (prefixed_sizes prefix sizes.now))) }
@@ -89,8 +91,9 @@ fn add_laced(out: &mut Vec<u8>, kind: Lace, prefix: u32, sizes: &[u32])
     add_prefixed(out, kind, prefix, sizes);
 }
 
-// Appends the number of frames minus one, and the head of their lace, if frames have a prefix of `prefix` bytes each.
-// It is a function of its own, so that memory for 256 sizes is used only then.
+// Appends to `out` the number of frames minus one, and the head of their lace. The frames have the sizes `sizes`, each
+// without its prefix of `prefix` bytes. For `add_laced`; it is a function of its own, so that memory for 256 sizes is
+// used only then.
 fn add_prefixed(out: &mut Vec<u8>, kind: Lace, prefix: u32, sizes: &[u32])
     requires can { CanLace kind (prefixed_sizes prefix sizes.now) }
     requires room { HasRoom out.old (length (count_and_head kind (prefixed_sizes prefix sizes.now))) }
@@ -100,7 +103,7 @@ fn add_prefixed(out: &mut Vec<u8>, kind: Lace, prefix: u32, sizes: &[u32])
 }
 
 // Appends the number of frames minus one, and the head of their lace, to `out`, which has room for them. The frames
-// have the sizes `sizes`.
+// have the sizes `sizes` in bytes, prefixes included. For `add_laced`, while `merge` fills a Cluster.
 fn add_count_and_head(out: &mut Vec<u8>, kind: Lace, sizes: &[u32])
     requires can { CanLace kind sizes.now }
     requires room { HasRoom out.old (length (count_and_head kind sizes.now)) }
@@ -110,7 +113,8 @@ fn add_count_and_head(out: &mut Vec<u8>, kind: Lace, sizes: &[u32])
     add_head(out, kind, sizes);
 }
 
-// Appends the head of the lace `kind` for frames of the sizes `sizes` to `out`, which has room for it.
+// Appends the head of the lace `kind` for frames of the sizes `sizes`, in bytes, to `out`, which has room for it. For
+// `add_count_and_head`, while `merge` fills a Cluster.
 fn add_head(out: &mut Vec<u8>, kind: Lace, sizes: &[u32])
     requires can { CanLace kind sizes.now }
     requires room { HasRoom out.old (length (lace_head kind sizes.now)) }
@@ -121,7 +125,8 @@ fn add_head(out: &mut Vec<u8>, kind: Lace, sizes: &[u32])
     fill_head(out, at, kind, sizes);
 }
 
-// Writes the head of the lace `kind` for frames of the sizes `sizes` over `out`, from the offset `at` to its end.
+// Writes the head of the lace `kind` for frames of the sizes `sizes` over `out`, from the offset `at` to its end. For
+// `add_head`, while `merge` fills a Cluster.
 fn fill_head(out: &mut [u8], at: usize, kind: Lace, sizes: &[u32])
     requires can { CanLace kind sizes.now }
     requires room { length out.old ≡ at + length (lace_head kind sizes.now) }
@@ -130,7 +135,8 @@ fn fill_head(out: &mut [u8], at: usize, kind: Lace, sizes: &[u32])
     put_lace(kind, sizes, &mut out[at..]);
 }
 
-/// Appends the frames in `body`, which have the sizes `sizes`, each after `prefix`.
+/// Appends to `out`, the buffer of the Cluster, the frames in `body`, which have the sizes `sizes` in bytes, each after
+/// `prefix`. The last step of `add_block_element`.
 pub(crate) fn add_frames(out: &mut Vec<u8>, prefix: &[u8], body: &[u8], sizes: &[u32])
     requires whole { length body.now ≡ sum sizes.now }
     requires room { HasRoom out.old (length (concat (prefixed prefix.now (frames_cut sizes.now body.now)))) }
@@ -143,7 +149,8 @@ pub(crate) fn add_frames(out: &mut Vec<u8>, prefix: &[u8], body: &[u8], sizes: &
     }
 }
 
-// Appends the frames in `body`, which have the sizes `sizes`, one by one after `prefix`.
+// Appends to `out` the frames in `body`, which have the sizes `sizes` in bytes, one by one after `prefix`. For
+// `add_frames`, if there is a prefix.
 fn add_each(out: &mut Vec<u8>, prefix: &[u8], body: &[u8], sizes: &[u32])
     requires whole { length body.now ≡ sum sizes.now }
     requires room { HasRoom out.old (length (concat (prefixed prefix.now (frames_cut sizes.now body.now)))) }

@@ -36,7 +36,8 @@ pub struct BlockLengths {
 }
 
 impl BlockRef<'_> {
-    /// Returns the lengths of the block's Element and its parts, which are the same in each Cluster.
+    /// Returns the lengths of the block's Element and its parts, which are the same in each Cluster. `merge` measures a
+    /// block before it asks whether the block fits in the Cluster.
     pub fn lengths(&self) -> BlockLengths
         requires { IsLent (lent_of self.now) }
         ensures { AreLengths self.now result }
@@ -51,9 +52,10 @@ impl BlockRef<'_> {
     }
 }
 
-/// Returns the length in bytes of the SimpleBlock or BlockGroup for a block. It has the head `head`, frames of the
-/// sizes `sizes` after prefixes of `prefix` bytes, the references `refs`, and `extra` bytes of kept children. It is the
-/// same in each output track and Cluster.
+/// Returns the length in bytes of the SimpleBlock or BlockGroup for a block. It has the head `head`, and frames of the
+/// sizes `sizes`, in bytes, after prefixes of `prefix` bytes. `refs` are its references, and `extra` is the number of
+/// bytes of kept children. It is the same in each output track and Cluster. `merge` divides parts by size with it,
+/// before blocks are written.
 pub fn element_len(head: &OutHead, prefix: usize, sizes: &[u32], refs: &[i64], extra: usize) -> u64
     requires { CanBeLent head.now.lace prefix sizes.now (length refs.now) extra }
     ensures exact { IsLenOf head.now prefix sizes.now refs.now extra result }
@@ -62,8 +64,9 @@ pub fn element_len(head: &OutHead, prefix: usize, sizes: &[u32], refs: &[i64], e
     lengths_of(head, prefix, sizes, refs, extra).whole
 }
 
-// Returns the lengths of a block's Element and its parts. The frames have the sizes `sizes` after prefixes of `prefix`
-// bytes, and `kept` is the number of bytes of kept children.
+// Returns the lengths in bytes of a block's Element and its parts. The frames have the sizes `sizes` after prefixes of
+// `prefix` bytes, `references` are in ticks, and `kept` is the number of bytes of kept children. For `lengths` and
+// `element_len`, while `merge` fills a Cluster.
 #[tactic(auto, unfolding(ebml_numbers::specs::Number::is_id))]
 fn lengths_of(
     head: &OutHead,

@@ -12,29 +12,31 @@ use Rattle.cues_seekhead.specs.Attached.{attached_total, attachments_header, att
 use Rattle.output_model.specs.declared.front.Front as given
 use Rattle.cues_seekhead.specs.declared.front.Opening.{Opening}
 
--- the number of bytes before the Segment's content: an EBML header of 36 or 40 bytes, the Segment's ID and its size; `webm` is true for WebM
+-- the number of bytes of an output before its Segment's content: an EBML header of 36 or 40 bytes, the Segment's ID and its size; `webm` is true for
+-- WebM. Used by `draft_of`.
 abbrev pub body_start : Bool → ℕ
 body_start webm = if webm then 48 else 52
 
--- the offset of the Duration from the start of the Segment's body. `info` is the Info, the first Element after the area, and `lasting` is the tick
--- at which the output ends, if Info has a Duration.
+-- the offset in bytes of the Duration from the start of an output's Segment's body, or None without a Duration. `info` is the Info, the first Element
+-- after the area, and `lasting` is the tick at which the output ends, if Info has a Duration.
 abbrev pub place_of : Node → Option ℕ → Option ℕ
 place_of info lasting = option_map (λ end. AREA + length (before_duration info)) lasting
 
--- the Info and the Tracks of an output as Elements, with a Void in the place of a Duration
+-- the Info and the Tracks of an output with the front `f` as Elements, with a Void in the place of a Duration, as they are written first; for
+-- `front_head` and `front_seeks`
 abbrev pub records_of : given.Front → List Element
 records_of f = info_element f.info (lasting_if f.duration) ∷ tree_element f.tracks ∷ []
 
--- the bytes of Info and Tracks, and the header of Attachments, if there are attached files
+-- the bytes of Info and Tracks of an output with the front `f`, and the header of its Attachments, if there are attached files. Used by `IsOpening`.
 abbrev pub front_head : given.Front → List ℕ
 front_head f = joined (records_of f) ++ attachments_header f.attachments
 
--- the Seeks of the Elements before the Clusters: Info, Tracks, and Attachments if there are any
+-- the Seeks of the Elements of an output before its Clusters, by its front `f`: Info, Tracks, and Attachments if there are any. Used by `IsOpening`.
 abbrev pub front_seeks : given.Front → List Seek
 front_seeks f = seeks_from AREA (records_of f) ++ attachments_seeks (AREA + length (joined (records_of f))) f.attachments
 
--- `o` has the first bytes of an open output up to its first AttachedFile, the Seeks of the elements before the Clusters, their length, and the place
--- of the Duration, if there is one.
+-- `o` is the start of an output with the front `f`, as `open_octets` returns it: its first bytes up to its first AttachedFile, the Seeks of the
+-- Elements before the Clusters, their length, and the place of the Duration, if there is one
 pub record IsOpening (f : given.Front) (o : Opening) : Type 0 where
   pub octets : o.octets ≡ file_with f.webm unknown_size open_area (front_head f)
   pub seeks : o.seeks.items ≡ front_seeks f

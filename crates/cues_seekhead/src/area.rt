@@ -13,7 +13,7 @@ use mkv_schema::ids::{SEEK, SEEK_HEAD, SEEK_ID, SEEK_POSITION, VOID};
 use output_model::{AREA, Seek};
 use std::alloc::{AllocError, Global};
 
-// Appends the Seek Element for `seek`, with its position in eight bytes.
+// Appends to `out` the Seek Element of a SeekHead for `seek`, with its position in eight bytes. Used by `put_seeks`.
 #[tactic(auto, unfolding(ebml_numbers::specs::Number::is_id))]
 fn put_seek(out: &mut Bytes, seek: &Seek) -> Result<(), AllocError>
     requires { IsTrue (is_id seek.now.id) }
@@ -33,7 +33,8 @@ fn put_seek(out: &mut Bytes, seek: &Seek) -> Result<(), AllocError>
     Ok(())
 }
 
-/// Appends the Seek Elements for all `seeks`, in sequence.
+/// Appends to `out` the Seek Elements for all `seeks`, in sequence: the content of the SeekHead that `merge` writes
+/// last, or that an edit writes.
 pub fn put_seeks(out: &mut Bytes, seeks: &[Seek]) -> Result<(), AllocError>
     requires { AreIds seeks.now }
     ensures ok { OnOk result (out.new ≡ out.old ++ joined (map seek_element seeks.now)) }
@@ -44,7 +45,7 @@ pub fn put_seeks(out: &mut Bytes, seeks: &[Seek]) -> Result<(), AllocError>
     Ok(())
 }
 
-// Returns the length in bytes of the Element ID `id`.
+// Returns the length in bytes of the Element ID `id`. Used by `seek_len`.
 fn id_len(id: u32) -> u64
     requires { IsTrue (is_id id) }
     ensures exact { result ≡ length (id_octets id) }
@@ -53,7 +54,7 @@ fn id_len(id: u32) -> u64
     u64::from(put_id(id).len)
 }
 
-// Returns the length in bytes of the Seek Element for `seek`.
+// Returns the length in bytes of the Seek Element for `seek`, header included. Used by `seeks_len`.
 #[tactic(auto, unfolding(ebml_numbers::specs::Number::is_id))]
 fn seek_len(seek: &Seek) -> u64
     requires { IsTrue (is_id seek.now.id) }
@@ -67,7 +68,7 @@ fn seek_len(seek: &Seek) -> u64
     )
 }
 
-// Returns the length in bytes of the Seek Elements for `seeks`.
+// Returns the length in bytes of the Seek Elements for `seeks`, for the size of the SeekHead. Used by `area_octets`.
 fn seeks_len(seeks: &[Seek]) -> u64
     requires few { length seeks.now ≤ 6 }
     requires ids { AreIds seeks.now }
@@ -81,7 +82,8 @@ fn seeks_len(seeks: &[Seek]) -> u64
     total
 }
 
-/// Appends a Void of `total` bytes, header included.
+/// Appends to `out` a Void of `total` bytes, header included: the rest of the area after a SeekHead, the whole area of
+/// an output that is being written, or the place of its Duration. Used by `area_octets`, `head_octets` and others.
 pub(crate) fn put_void(out: &mut Bytes, total: u64) -> Result<(), AllocError>
     requires some { 2 ≤ total }
     requires most { total ≤ AREA }
@@ -94,7 +96,7 @@ pub(crate) fn put_void(out: &mut Bytes, total: u64) -> Result<(), AllocError>
     }
 }
 
-// Appends a Void with `len` zeros as content and a size of `width` bytes.
+// Appends to `out` a Void with `len` zeros as content and a size field of `width` bytes. Used by `put_void`.
 #[tactic(auto, unfolding(ebml_numbers::specs::Number::is_id))]
 fn put_filled(out: &mut Bytes, len: u64, width: u8) -> Result<(), AllocError>
     requires some { 1 ≤ width }
@@ -108,7 +110,7 @@ fn put_filled(out: &mut Bytes, len: u64, width: u8) -> Result<(), AllocError>
     put_zeros(out, len)
 }
 
-// Appends `count` zero bytes.
+// Appends `count` zero bytes to `out`, the content of a Void. Used by `put_filled`.
 fn put_zeros(out: &mut Bytes, count: u64) -> Result<(), AllocError>
     requires { count ≤ AREA }
     ensures ok { OnOk result (out.new ≡ out.old ++ replicate count 0) }
@@ -118,8 +120,8 @@ fn put_zeros(out: &mut Bytes, count: u64) -> Result<(), AllocError>
     Ok(())
 }
 
-/// Returns the bytes of the area at the start of a Segment. It has the SeekHead with at most six `seeks`, and a Void
-/// that fills the rest.
+/// Returns the bytes of the area at the start of a Segment, which `finish` writes over the Void there. It has the
+/// SeekHead with at most six `seeks`, and a Void that fills the rest.
 #[tactic(auto, unfolding(ebml_numbers::specs::Number::is_id))]
 pub fn area_octets(alloc: Global, seeks: &[Seek]) -> Result<Bytes, AllocError>
     requires few { length seeks.now ≤ 6 }

@@ -14,8 +14,8 @@ use mkv_schema::ids::{ATTACHED_FILE, FILE_DATA};
 use output_model::Attachment;
 use std::alloc::{AllocError, Global};
 
-// Returns the index of the first FileData in `children`, the children of an AttachedFile, counted from 0, or their number
-// if there is none. The writer puts the data there.
+// Returns the index of the first FileData in `children`, the children of an AttachedFile, counted from 0, or their
+// number if there is none. `octets_before_data` and `octets_behind_data` split the children there.
 fn data_index(children: &[Tree]) -> usize
     ensures exact { result ≡ data_place children.now }
     ensures inside { result ≤ length children.now }
@@ -24,7 +24,8 @@ fn data_index(children: &[Tree]) -> usize
     found.unwrap_or(children.len())
 }
 
-// Returns the length in bytes of the children of an AttachedFile, without FileData.
+// Returns the length in bytes of `children`, the children of an AttachedFile, without FileData. Fails as if memory ran
+// out if a size can't express it. Used by `body_len`.
 #[tactic(auto, using(ebml_tree::proofs::LoopLemmas::others))]
 fn others_len(children: &[Tree]) -> Result<u64, AllocError>
     ensures exact { IfOk result (λ len. len ≡ length (flat_map octets (without FILE_DATA_ID children.now))) }
@@ -39,7 +40,8 @@ fn others_len(children: &[Tree]) -> Result<u64, AllocError>
     Ok(total)
 }
 
-/// Appends trees in their normal form.
+/// Appends the trees `children` to `out`, in their normal form: children of an AttachedFile before its data, or of an
+/// Info around its Duration. Used by `octets_before_data` and `put_with_void`.
 pub(crate) fn put_children(out: &mut Bytes, children: &[Tree]) -> Result<(), AllocError>
     ensures { OnOk result (out.new ≡ out.old ++ flat_map octets children.now) }
 {
@@ -49,7 +51,8 @@ pub(crate) fn put_children(out: &mut Bytes, children: &[Tree]) -> Result<(), All
     Ok(())
 }
 
-// Appends the children of an AttachedFile, except FileData.
+// Appends `children` to `out`, the children of an AttachedFile after its data, except other FileData. Used by
+// `octets_behind_data`.
 fn put_others(out: &mut Bytes, children: &[Tree]) -> Result<(), AllocError>
     ensures { OnOk result (out.new ≡ out.old ++ flat_map octets (without FILE_DATA_ID children.now)) }
 {
@@ -61,7 +64,8 @@ fn put_others(out: &mut Bytes, children: &[Tree]) -> Result<(), AllocError>
     Ok(())
 }
 
-// Returns the length in bytes of the content of an AttachedFile, with its data.
+// Returns the length in bytes of the content of the AttachedFile of `attachment`, with its data, for the size in its
+// header. Fails as if memory ran out if a size can't express it. Used by `attached_len` and `octets_before_data`.
 #[tactic(auto, unfolding(ebml_numbers::specs::Number::is_id))]
 fn body_len(attachment: &Attachment) -> Result<u64, AllocError>
     ensures exact { IfOk result (λ len. len ≡ attached_body attachment.now) }
@@ -73,7 +77,8 @@ fn body_len(attachment: &Attachment) -> Result<u64, AllocError>
     sized(others + data)
 }
 
-/// Returns the length in bytes of the AttachedFile of `attachment`, with its data.
+/// Returns the length in bytes of the AttachedFile of `attachment`, with its data, for the size of the Attachments.
+/// Fails as if memory ran out if a size can't express it. Used by `attachments_len`.
 #[tactic(auto, unfolding(ebml_numbers::specs::Number::is_id))]
 pub fn attached_len(attachment: &Attachment) -> Result<u64, AllocError>
     ensures exact { IfOk result (λ len. len ≡ attached_total attachment.now) }
@@ -83,7 +88,8 @@ pub fn attached_len(attachment: &Attachment) -> Result<u64, AllocError>
     Ok(element_len(ATTACHED_FILE, len))
 }
 
-/// Returns the bytes of the AttachedFile of `attachment` before its data.
+/// Returns the bytes of the AttachedFile of `attachment` before its data, with the headers of AttachedFile and
+/// FileData. `merge` writes them before it copies the data from their file.
 #[tactic(auto, unfolding(ebml_numbers::specs::Number::is_id))]
 pub fn octets_before_data(alloc: Global, attachment: &Attachment) -> Result<Bytes, AllocError>
     ensures { IfOk result (λ out. out ≡ before_data attachment.now) }
@@ -97,7 +103,8 @@ pub fn octets_before_data(alloc: Global, attachment: &Attachment) -> Result<Byte
     Ok(out)
 }
 
-/// Returns the bytes of the AttachedFile of `attachment` after its data.
+/// Returns the bytes of the AttachedFile of `attachment` after its data, which `merge` writes once it has copied the
+/// data.
 pub fn octets_behind_data(alloc: Global, attachment: &Attachment) -> Result<Bytes, AllocError>
     ensures { IfOk result (λ out. out ≡ behind_data attachment.now) }
 {

@@ -18,8 +18,8 @@ use std::alloc::Global;
 // Number of bytes of data that are copied at once
 const CHUNK: usize = 65_536;
 
-/// Appends the AttachedFile of `attachment` to the output `file`. Its data are copied from the input that has them,
-/// through `buffer`.
+/// Appends the AttachedFile of `attachment` to the output `file`. Its data are copied from the input in `files` that
+/// has them, through `buffer`. Used by `add_each`.
 fn add_attachment<F: Files>(
     alloc: Global,
     files: &mut F,
@@ -46,7 +46,8 @@ fn add_attachment<F: Files>(
     append(files, file, behind.as_slice())
 }
 
-// Appends the AttachedFiles of all `attachments`, with their data, to the output `file`, through `buffer`.
+// Appends the AttachedFiles of all `attachments`, with their data, to the output `file`, through `buffer`. Used by
+// `add_attachments`.
 fn add_each<F: Files>(
     alloc: Global,
     files: &mut F,
@@ -65,7 +66,8 @@ fn add_each<F: Files>(
     Ok(())
 }
 
-/// Appends the AttachedFiles of all `attachments`, with their data, in sequence, to the output `file`.
+/// Appends the AttachedFiles of all `attachments`, with their data, in sequence, to the output `file`. `merge` does
+/// this after the header of Attachments. The data are copied from their files in `files`, 64 KiB at once.
 pub(crate) fn add_attachments<F: Files>(
     alloc: Global,
     files: &mut F,

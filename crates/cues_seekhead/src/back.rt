@@ -17,8 +17,8 @@ use mkv_schema::ids::CUES;
 use output_model::{CuePoint, Seek};
 use std::alloc::{AllocError, Global};
 
-// Appends the Cues with `points`, if there are any, to `out`, and their Seek to `seeks`. `out` begins `at` bytes inside
-// the Segment.
+// Appends the Cues with `points` to `out`, and their Seek to `seeks`, or nothing without points. `out` has the Elements
+// of an output after its Clusters, and begins `at` bytes inside the Segment's content. Used by `back_octets`.
 fn add_cues(
     out: &mut Bytes,
     seeks: &mut Vec<Seek>,
@@ -36,8 +36,8 @@ fn add_cues(
     Ok(())
 }
 
-// Appends the record `tree` with the ID `id`, if present, to `out`, and its Seek to `seeks`. `out` begins `at` bytes
-// inside the Segment.
+// Appends `tree`, the Chapters or Tags with the ID `id`, if present, to `out`, and its Seek to `seeks`. `out` has the
+// Elements of an output after its Clusters, and begins `at` bytes inside the Segment's content. Used by `back_octets`.
 fn add_tree_of(
     out: &mut Bytes,
     seeks: &mut Vec<Seek>,
@@ -55,8 +55,8 @@ fn add_tree_of(
     Ok(())
 }
 
-/// Returns the bytes of the Elements after the Clusters: the Cues with `points`, Chapters and Tags, if present. The
-/// first one begins `at` bytes inside the Segment. Appends their Seeks to `seeks`.
+/// Returns the bytes that `finish` appends after the Clusters of an output: the Cues with `points`, Chapters and Tags,
+/// if present. They begin `at` bytes inside the Segment's content. Appends their Seeks to `seeks`.
 pub fn back_octets(
     alloc: Global,
     at: u64,

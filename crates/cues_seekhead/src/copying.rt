@@ -7,7 +7,8 @@ ghost use Rattle.cues_seekhead.specs.Appending.{AppendsCopy, AppendsOnly};
 
 use mkv_io::{FileId, Files, Reads, RemuxEnd as OutEnd};
 
-/// Appends `octets` to the open file `file`.
+/// Appends `octets` to the open file `file`. The writers of an output's front and of attached files use it, so that a
+/// failure ends them. After a failure `file` may have a prefix of `octets`.
 pub fn append<F: Files>(files: &mut F, file: FileId, octets: &[u8]) -> Result<(), OutEnd>
     requires { IsLive F.Reads files.old file }
     ensures { AppendsOnly F.Reads F.Files.own file octets.now 0 files.old files.new result }
@@ -16,7 +17,8 @@ pub fn append<F: Files>(files: &mut F, file: FileId, octets: &[u8]) -> Result<()
     Ok(())
 }
 
-// Fills `chunk` from the file `from`, starting at the offset `at`, and appends it to the file `to`.
+// Fills `chunk` from the file `from`, starting at the offset `at` in bytes, and appends it to the file `to`. Used by
+// `copy_data`.
 fn copy_chunk<F: Files>(
     files: &mut F,
     from: FileId,
@@ -35,8 +37,8 @@ fn copy_chunk<F: Files>(
     }
 }
 
-/// Copies `len` bytes of the file `from`, starting at the offset `at`, to the end of the file `to`. The length of
-/// `buffer` limits the bytes that are copied at once.
+/// Copies `len` bytes of the file `from`, starting at the offset `at`, to the end of the file `to`, through `buffer`.
+/// `merge` copies the data of attached files so, and `extract` writes them to their own files.
 pub fn copy_data<F: Files>(
     files: &mut F,
     from: FileId,

@@ -13,7 +13,8 @@ use mkv_schema::ids::{
 use output_model::CuePoint;
 use std::alloc::AllocError;
 
-// Returns the length in bytes of the content of the CueTrackPositions for `point`.
+// Returns the length in bytes of the content of the CueTrackPositions for `point`, for its header. Used by
+// `point_body_len` and `put_positions`.
 #[tactic(auto, unfolding(ebml_numbers::specs::Number::is_id))]
 fn positions_len(point: &CuePoint) -> u64
     ensures exact { result ≡ length (positions_element point.now).body }
@@ -24,7 +25,8 @@ fn positions_len(point: &CuePoint) -> u64
         + uint_len(CUE_RELATIVE_POSITION, point.relative)
 }
 
-// Returns the length in bytes of the content of the CuePoint for `point`.
+// Returns the length in bytes of the content of the CuePoint for `point`, for its header. Used by `point_len` and
+// `put_point`.
 #[tactic(auto, unfolding(ebml_numbers::specs::Number::is_id))]
 fn point_body_len(point: &CuePoint) -> u64
     ensures exact { result ≡ length (point_element point.now).body }
@@ -33,7 +35,7 @@ fn point_body_len(point: &CuePoint) -> u64
     uint_len(CUE_TIME, point.tick) + element_len(CUE_TRACK_POSITIONS, positions_len(point))
 }
 
-// Returns the length in bytes of the CuePoint Element for `point`.
+// Returns the length in bytes of the CuePoint Element for `point`, header included. Used by `points_len`.
 #[tactic(auto, unfolding(ebml_numbers::specs::Number::is_id))]
 fn point_len(point: &CuePoint) -> u64
     ensures exact { result ≡ length (octets_of (point_element point.now)) }
@@ -42,7 +44,7 @@ fn point_len(point: &CuePoint) -> u64
     element_len(CUE_POINT, point_body_len(point))
 }
 
-// Appends the CueTrackPositions for `point`.
+// Appends to `out` the CueTrackPositions for `point`, the second child of its CuePoint. Used by `put_point`.
 #[tactic(auto, unfolding(ebml_numbers::specs::Number::is_id))]
 fn put_positions(out: &mut Bytes, point: &CuePoint) -> Result<(), AllocError>
     ensures ok { OnOk result (out.new ≡ out.old ++ octets_of (positions_element point.now)) }
@@ -54,7 +56,8 @@ fn put_positions(out: &mut Bytes, point: &CuePoint) -> Result<(), AllocError>
     Ok(())
 }
 
-// Appends the CuePoint Element for `point`.
+// Appends to `out` the CuePoint Element for `point`, with its time in ticks and its CueTrackPositions. Used by
+// `put_points`.
 #[tactic(auto, unfolding(ebml_numbers::specs::Number::is_id))]
 fn put_point(out: &mut Bytes, point: &CuePoint) -> Result<(), AllocError>
     ensures ok { OnOk result (out.new ≡ out.old ++ octets_of (point_element point.now)) }
@@ -65,7 +68,7 @@ fn put_point(out: &mut Bytes, point: &CuePoint) -> Result<(), AllocError>
     Ok(())
 }
 
-// Returns the length in bytes of the CuePoint Elements for `points`.
+// Returns the length in bytes of the CuePoint Elements for `points`, for the size of the Cues. Used by `put_cues`.
 fn points_len(points: &[CuePoint]) -> u64
     requires { length points.now ≤ 2 ^ 20 }
     ensures exact { result ≡ length (joined (map point_element points.now)) }
@@ -78,7 +81,7 @@ fn points_len(points: &[CuePoint]) -> u64
     total
 }
 
-// Appends the CuePoint Elements for `points`, in sequence.
+// Appends to `out` the CuePoint Elements for `points`, in sequence. Used by `put_cues`.
 fn put_points(out: &mut Bytes, points: &[CuePoint]) -> Result<(), AllocError>
     ensures ok { OnOk result (out.new ≡ out.old ++ joined (map point_element points.now)) }
 {
@@ -88,7 +91,8 @@ fn put_points(out: &mut Bytes, points: &[CuePoint]) -> Result<(), AllocError>
     Ok(())
 }
 
-/// Appends the Cues with `points`, or nothing if there are none.
+/// Appends to `out` the Cues with `points`, or nothing if there are none, when an output is finished. Used by
+/// `add_cues`.
 #[tactic(auto, unfolding(ebml_numbers::specs::Number::is_id))]
 pub(crate) fn put_cues(out: &mut Bytes, points: &[CuePoint]) -> Result<(), AllocError>
     requires { length points.now ≤ 2 ^ 20 }

@@ -26,8 +26,9 @@ use mkv_io::{Bytes, FileId, Files, Reads, RemuxEnd as OutEnd};
 use output_model::{CuePoint, Seek};
 use std::alloc::{AllocError, Global};
 
-// Writes the Duration of an output that ends at the tick `end` over the Void in its place, which is `place` bytes after
-// the offset `start` of the file. Nothing is written without a place, nor if `end` is 0.
+// Writes the Duration of an output that ends at the tick `end` over the Void in its place. The Segment's body begins at
+// byte `start` of `file`, and the Void `place` bytes after that. Writes nothing if there is no place or `end` is 0.
+// Used by `write`.
 fn put_duration<F: Files>(
     files: &mut F,
     file: FileId,
@@ -62,8 +63,9 @@ pub(crate) struct Ending {
 }
 
 impl Ending {
-    /// Computes the bytes after the Clusters, the area at the Segment's start, and the Segment's size. The first byte
-    /// is `len` bytes inside the Segment. An output longer than a size can express fails as if memory ran out.
+    /// Computes the bytes of the Elements after the Clusters, the area at the Segment's start, and the size of the
+    /// Segment, whose content has `len` bytes before them. `seeks` are of the Elements before the Clusters. An output
+    /// longer than a size can express fails as if memory ran out. Used by `write_end`, for `finish`.
     pub(crate) fn new(
         alloc: Global,
         len: u64,
@@ -86,9 +88,9 @@ impl Ending {
         Ok(Ending { back, area, total })
     }
 
-    /// Appends the elements after the Clusters, and then writes the Duration, the area and the size. The Segment's body
-    /// begins at byte `start` of the file. The Duration is at the offset `place` from there, if there is one, and the
-    /// output ends at the tick `end`.
+    /// Appends the Elements after the Clusters to `file`, and then overwrites the Duration, the area and the Segment's
+    /// size, in this order. The Segment's body begins at byte `start` of the file. The Duration is at the offset
+    /// `place` from there, if there is one, and the output ends at the tick `end`. Used by `write_end`, for `finish`.
     pub(crate) fn write<F: Files>(
         &self,
         files: &mut F,

@@ -52,7 +52,8 @@ const SEGMENT_HEADER: [u8; 12] = [
     0x18, 0x53, 0x80, 0x67, 0x01, 0xFF, 0xFF, 0xFF, 0xFF, 0xFF, 0xFF, 0xFF,
 ];
 
-// Appends the EBML header of a WebM or Matroska file.
+// Appends to `out` the EBML header of an output, which is WebM if `webm` is true, and otherwise Matroska. Used by
+// `head_octets`.
 #[tactic(auto, unfolding(ebml_numbers::specs::Number::uint_width, ebml_numbers::specs::Number::least_size_width))]
 fn put_ebml(out: &mut Bytes, webm: bool) -> Result<(), AllocError>
     ensures ok { OnOk result (out.new ≡ out.old ++ octets_of (ebml_element webm)) }
@@ -65,7 +66,8 @@ fn put_ebml(out: &mut Bytes, webm: bool) -> Result<(), AllocError>
     Ok(())
 }
 
-// Appends the ID of a Segment and an unknown size in eight bytes, over which the size is written at the end.
+// Appends to `out`, the first bytes of an output of `merge`, the ID of its Segment and an unknown size in eight bytes.
+// `finish` later writes the size over these. Used by `open_octets`.
 #[tactic(auto, unfolding(ebml_numbers::specs::Number::uint_width))]
 fn put_segment(out: &mut Bytes) -> Result<(), AllocError>
     ensures ok { OnOk result (out.new ≡ out.old ++ (id_octets SEGMENT ++ unknown_size)) }
@@ -74,8 +76,8 @@ fn put_segment(out: &mut Bytes) -> Result<(), AllocError>
     Ok(())
 }
 
-/// Returns the number of bytes before the Segment's content: the EBML header, the Segment's ID and its size. `webm` is
-/// true if the output is WebM.
+/// Returns the number of bytes of an output before its Segment's content: the EBML header, the Segment's ID and its
+/// size. `webm` is true if the output is WebM. `finish` adds it to the offsets of its last writes.
 pub fn body_start(webm: bool) -> u64
     ensures { result ≡ body_start webm }
 {
@@ -83,7 +85,8 @@ pub fn body_start(webm: bool) -> u64
     (ebml + SEGMENT_HEADER.len()) as u64
 }
 
-// Returns the length in bytes of all AttachedFiles of `attachments`, with their data.
+// Returns the length in bytes of the AttachedFiles of all `attachments`, with their data, for the size of the
+// Attachments. Fails as if memory ran out if a size can't express it. Used by `add_attachments`.
 fn attachments_len(attachments: &[Attachment]) -> Result<u64, AllocError>
     ensures exact { IfOk result (λ len. len ≡ sum_by attached_total attachments.now) }
     ensures most { IfOk result (λ len. len ≤ longest) }
@@ -95,8 +98,9 @@ fn attachments_len(attachments: &[Attachment]) -> Result<u64, AllocError>
     Ok(total)
 }
 
-// Appends the header of Attachments, if there are any, to `out`, and its Seek to `seeks`. `out` begins `at` bytes
-// inside the Segment. Returns the length in bytes of the AttachedFiles, which follow.
+// Appends the header of Attachments to `out`, and its Seek to `seeks`, or nothing without `attachments`. `out` has the
+// Elements of an output before its Clusters, and begins `at` bytes inside the Segment's content. Returns the length in
+// bytes of the AttachedFiles, which are written later. Used by `open_octets`.
 #[tactic(auto, unfolding(ebml_numbers::specs::Number::is_id))]
 fn add_attachments(
     out: &mut Bytes,
@@ -118,8 +122,9 @@ fn add_attachments(
     Ok(len)
 }
 
-// Returns the bytes of an output before its first Cluster, whose size isn't known yet, with `rest` after the area for
-// its SeekHead.
+// Returns the first bytes of an output while it is being written: the EBML header, the Segment's ID with an unknown
+// size, a Void in the area for the SeekHead, and then `rest`. `webm` is true if the output is WebM. Used by
+// `open_octets`.
 fn head_octets(alloc: Global, webm: bool, rest: &Bytes) -> Result<Bytes, AllocError>
     ensures { IfOk result (λ out. out ≡ file_with webm unknown_size open_area rest.now) }
 {
@@ -131,8 +136,8 @@ fn head_octets(alloc: Global, webm: bool, rest: &Bytes) -> Result<Bytes, AllocEr
     Ok(out)
 }
 
-/// Returns the start of an output with the Elements `front` before its first Cluster. An output longer than a size can
-/// express fails as if memory ran out.
+/// Returns the start of an output with the Elements `front` before its first Cluster, without the AttachedFiles. An
+/// output longer than a size can express fails as if memory ran out. Used by `begin`.
 pub fn open_octets(alloc: Global, front: &Front) -> Result<Opening, AllocError>
     requires info { id_of front.now.info ≡ INFO_ID }
     requires tracks { id_of front.now.tracks ≡ TRACKS_ID }

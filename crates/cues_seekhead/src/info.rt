@@ -20,7 +20,8 @@ use output_model::{AREA, DURATION_LEN};
 use std::alloc::AllocError;
 use std::num::{f64_to_bits_with_nan, nearest_u64_to_f64};
 
-// Checks whether the child `child` of an Info comes before its Duration.
+// Checks whether the child `child` of an output's Info comes before its Duration: the TimestampScale, or an identifier
+// of the Segment or of one beside it. Used by `first_behind`.
 fn is_before_duration(child: &Tree) -> bool
     ensures { result ≡ is_before_duration child.now }
 {
@@ -30,7 +31,8 @@ fn is_before_duration(child: &Tree) -> bool
     )
 }
 
-// Returns the index of the Duration among `children`, the children of an Info without one, counted from 0.
+// Returns the index at which a Duration comes among `children`, the children of an output's Info, counted from 0. It is
+// their number if it comes last. `put_with_void` splits the children there.
 fn duration_index(children: &[Tree]) -> usize
     ensures exact { result ≡ duration_place children.now }
     ensures inside { result ≤ length children.now }
@@ -39,7 +41,8 @@ fn duration_index(children: &[Tree]) -> usize
     found.unwrap_or(children.len())
 }
 
-// Returns the length of trees in their normal form.
+// Returns the length in bytes of the trees `children` in their normal form, for the size of an Info. Fails as if memory
+// ran out if a size can't express it. Used by `put_with_void`.
 fn children_len(children: &[Tree]) -> Result<u64, AllocError>
     ensures exact { IfOk result (λ len. len ≡ length (flat_map octets children.now)) }
     ensures most { IfOk result (λ len. len ≤ longest) }
@@ -51,7 +54,8 @@ fn children_len(children: &[Tree]) -> Result<u64, AllocError>
     Ok(total)
 }
 
-// Appends an Info with a Void in the place of its Duration. Returns the number of bytes of `out` before the Void.
+// Appends the Info `info` to `out`, with a Void in the place of its Duration, which `finish` overwrites. Returns the
+// number of bytes of `out` before the Void.
 #[tactic(auto, unfolding(ebml_numbers::specs::Number::is_id))]
 fn put_with_void(out: &mut Bytes, info: &Tree) -> Result<usize, AllocError>
     requires { id_of info.now ≡ INFO_ID }
@@ -70,8 +74,9 @@ fn put_with_void(out: &mut Bytes, info: &Tree) -> Result<usize, AllocError>
     Ok(place)
 }
 
-/// Appends the Info `info` to `out`, the bytes after the area. If `duration` is set, a Void is in the place of its
-/// Duration. Returns the offset of the Void in bytes from the start of the Segment's body, if there is one.
+/// Appends the Info `info` of an output to `out`, which has the bytes after the area. If `duration` is set, a Void is
+/// in the place of its Duration. Returns the offset of the Void in bytes from the start of the Segment's body, or None
+/// without a Void.
 pub(crate) fn put_info(
     out: &mut Bytes,
     info: &Tree,
@@ -90,7 +95,7 @@ pub(crate) fn put_info(
 }
 
 /// Returns the Duration of an output that ends at the tick `end`, which is above 0: the ID, the size, and a float of
-/// eight bytes.
+/// eight bytes. `finish` writes it over the Void in its place.
 pub(crate) fn duration_octets(end: u64) -> [u8; DURATION_LEN as usize]
     requires { 1 ≤ end }
     ensures { result ≡ octets_of (duration_element end) }

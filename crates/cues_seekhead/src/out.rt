@@ -57,8 +57,9 @@ impl Model for OutFile {
 }
 
 impl OutFile {
-    /// Creates the output `name`, and writes the Elements before its first Cluster. Only the data of attached files are
-    /// read, 64 KiB at once. If it fails, no file of the output is open.
+    /// Creates the output `name` for `merge` or `generate`, and writes the Elements `front` before its first Cluster.
+    /// Of other files only the data of attached files are read, 64 KiB at once. If it fails, no file of the output is
+    /// open.
     pub fn begin<F: Files>(
         alloc: Global,
         files: &mut F,
@@ -102,7 +103,7 @@ impl OutFile {
 
     /// Adds a cue point for a block of the next Cluster, at the tick `tick` of the output track `lane`, counted from 1.
     /// The block's Element begins `relative` bytes after the Cluster's header. Only the first 1,048,576 points are
-    /// kept.
+    /// kept. `merge` calls it for each block that its rules choose, before it writes the Cluster.
     pub fn cue(&mut self, tick: u64, lane: u8, relative: u64) -> Result<(), AllocError>
         ensures ok { OnOk result (KeepsPoint tick lane relative self.old self.new) }
         ensures err { OnErr result (self.new ≡ self.old) }
@@ -120,7 +121,8 @@ impl OutFile {
         Ok(())
     }
 
-    /// Appends a Cluster, whose bytes are `bytes`, to the output.
+    /// Appends a complete Cluster, whose bytes are `bytes`, to the output. `merge` calls it for each Cluster once no
+    /// more blocks join it. After a failure the file may have a prefix of the Cluster.
     pub fn cluster<F: Files>(&mut self, files: &mut F, bytes: &[u8]) -> Result<(), OutEnd>
         requires { IsOpen F.Reads files.old self.old }
         ensures appended { AppendsToLive F.Files.own self.old.file bytes.now files.old files.new result }
@@ -135,9 +137,9 @@ impl OutFile {
         Ok(())
     }
 
-    /// Appends Cues, Chapters and Tags, writes the Duration, the SeekHead and the Segment's size into their room, and
-    /// closes the file. The last block ends at the tick `end`, which is the Duration, if the output has one. Returns the
-    /// file's length. The file is closed also if it fails.
+    /// Finishes the output after its last Cluster. Appends Cues, `chapters` and `tags`, writes the Duration, the
+    /// SeekHead and the Segment's size into their room, and closes the file, also if it fails. The last block ends at
+    /// the tick `end`, which is the Duration, if the output has one. Returns the file's length in bytes.
     pub fn finish<F: Files>(
         self,
         files: &mut F,
@@ -155,7 +157,8 @@ impl OutFile {
         self.finish_with(files, end, &chapters, &tags)
     }
 
-    /// Finishes the output, like `finish`, with borrowed Chapters and Tags, which several outputs can share.
+    /// Finishes the output, like `finish`, with borrowed Chapters and Tags, which several outputs can share. `merge`
+    /// ends each part so.
     pub fn finish_with<F: Files>(
         self,
         files: &mut F,
@@ -176,7 +179,8 @@ impl OutFile {
         done
     }
 
-    // Appends Chapters, Tags and Cues and does the last writes, as `finish`, but doesn't close the file.
+    // Appends Cues, `chapters` and `tags` and does the last writes, as `finish`, but doesn't close the file. Returns
+    // the file's length in bytes. Used by `finish_with`.
     fn write_end<F: Files>(
         self,
         files: &mut F,
@@ -206,7 +210,8 @@ impl OutFile {
         Ok(start + ending.total)
     }
 
-    /// Closes the file unchanged. It is for an output that can't be finished.
+    /// Closes the file and leaves its content. `merge` does this with an output whose Clusters can't be written to the
+    /// end.
     pub fn abandon<F: Files>(self, files: &mut F)
         requires { IsLive F.Reads files.old self.file }
         ensures { EndsOnly F.Reads F.Files.own files.old files.new (self.file ∷ []) }
@@ -215,8 +220,8 @@ impl OutFile {
     }
 }
 
-// Writes the Elements `front` before the first Cluster to `file`. `octets` has their bytes up to the first
-// AttachedFile.
+// Writes the Elements `front` before the first Cluster to the output `file`. `octets` has their bytes up to the first
+// AttachedFile. The attached files follow, with their data. Used by `begin`.
 fn write_front<F: Files>(
     alloc: Global,
     files: &mut F,

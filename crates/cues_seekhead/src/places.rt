@@ -15,7 +15,8 @@ use std::alloc::AllocError;
 // Maximum number that a size of eight bytes can express: RFC 8794, section 6.2 (Unknown Data Size)
 const LONGEST: u64 = 0xFF_FFFF_FFFF_FFFE;
 
-/// Returns the length `len`, or fails as if memory ran out if a size can't express it.
+/// Returns the length `len` in bytes if an Element's size field of eight bytes can express it. Otherwise fails as if
+/// memory ran out. All lengths of an output's Elements pass it. Used by `others_len`, `body_len` and others.
 pub fn sized(len: u64) -> Result<u64, AllocError>
     ensures { IfOk result (λ same. (same ≡ len) × (same ≤ longest)) }
 {
@@ -25,16 +26,16 @@ pub fn sized(len: u64) -> Result<u64, AllocError>
     Ok(len)
 }
 
-// Returns the position of the next Element in the Segment: after `out`, which begins `at` bytes inside it. Fails as if
-// memory ran out if the position is too large.
+// Returns the position of the next Element in the Segment's content, in bytes: after `out`, which begins `at` bytes
+// inside it. Fails as if memory ran out if the position is too large. Used by `add_seek`.
 fn place_behind(at: u64, out: &Bytes) -> Result<u64, AllocError>
     ensures { IfOk result (λ place. place ≡ at + length out.now) }
 {
     at.checked_add(out.len() as u64).ok_or(AllocError)
 }
 
-/// Appends to `seeks` the Seek of the next Element, which has the ID `id` and follows `out`. `out` begins `at` bytes
-/// inside the Segment.
+/// Appends to `seeks` the Seek of the next Element of an output, which has the ID `id` and follows `out`. `out` begins
+/// `at` bytes inside the Segment's content.
 pub(crate) fn add_seek(
     seeks: &mut Vec<Seek>,
     id: u32,
@@ -48,8 +49,8 @@ pub(crate) fn add_seek(
     Ok(())
 }
 
-/// Appends the record `tree` with the ID `id` to `out`, and its Seek to `seeks`. `out` begins `at` bytes inside the
-/// Segment.
+/// Appends `tree`, the Tracks, Chapters or Tags of an output with the ID `id`, to `out`, and its Seek to `seeks`. `out`
+/// begins `at` bytes inside the Segment's content. Used by `add_tree_of` and `open_octets`.
 pub(crate) fn add_tree(
     out: &mut Bytes,
     seeks: &mut Vec<Seek>,

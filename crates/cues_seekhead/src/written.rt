@@ -12,7 +12,8 @@ use ebml_tree::Tree;
 use mkv_io::Bytes;
 use std::alloc::AllocError;
 
-/// Appends the shortest header of an Element with the ID `id` and `len` bytes of content.
+/// Appends to `out` the shortest header of an Element with the ID `id` and `len` bytes of content. Used for all
+/// Elements of an output outside its Clusters.
 pub(crate) fn put_header(out: &mut Bytes, id: u32, len: u64) -> Result<(), AllocError>
     requires id { IsTrue (is_id id) }
     requires len { len < all_ones 8 }
@@ -24,6 +25,7 @@ pub(crate) fn put_header(out: &mut Bytes, id: u32, len: u64) -> Result<(), Alloc
 }
 
 /// Returns the length in bytes of an Element with the ID `id` and `len` bytes of content, with the shortest header.
+/// Used for the sizes of all masters of an output outside its Clusters.
 pub(crate) fn element_len(id: u32, len: u64) -> u64
     requires id { IsTrue (is_id id) }
     requires len { len < all_ones 8 }
@@ -34,7 +36,8 @@ pub(crate) fn element_len(id: u32, len: u64) -> u64
     u64::from(put_id(id).len) + u64::from(size_width(len)) + len
 }
 
-/// Returns the length of the element `id` with the unsigned integer `value` in its fewest bytes.
+/// Returns the length in bytes of the Element `id` with the unsigned integer `value` in its fewest bytes, for the sizes
+/// in Cues. Used by `positions_len` and `point_body_len`.
 pub(crate) fn uint_len(id: u32, value: u64) -> u64
     requires { IsTrue (is_id id) }
     ensures exact { result ≡ length (octets_of (uint_element id value)) }
@@ -43,7 +46,8 @@ pub(crate) fn uint_len(id: u32, value: u64) -> u64
     element_len(id, u64::from(put_uint(value).len))
 }
 
-/// Appends the element `id` with the unsigned integer `value` in its fewest bytes.
+/// Appends to `out` the Element `id` of a Cues with the unsigned integer `value` in its fewest bytes. Used by
+/// `put_positions` and `put_point`.
 pub(crate) fn put_uint_element(out: &mut Bytes, id: u32, value: u64) -> Result<(), AllocError>
     requires { IsTrue (is_id id) }
     ensures ok { OnOk result (out.new ≡ out.old ++ octets_of (uint_element id value)) }
@@ -54,7 +58,8 @@ pub(crate) fn put_uint_element(out: &mut Bytes, id: u32, value: u64) -> Result<(
     Ok(())
 }
 
-/// Appends a tree in its normal form.
+/// Appends to `out` the tree `tree` in its normal form: the Info, Tracks, Chapters or Tags of an output. Used by
+/// `put_info` and `add_tree`.
 pub(crate) fn put_tree(out: &mut Bytes, tree: &Tree) -> Result<(), AllocError>
     requires { is_filler (id_of tree.now) ≡ false }
     ensures ok { OnOk result (out.new ≡ out.old ++ octets_of (tree_element tree.now)) }

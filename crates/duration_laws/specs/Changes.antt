@@ -14,12 +14,13 @@ use Rattle.output_model.specs.Cued.{document_of}
 
 -- ---- Info
 
--- the number of bytes that a Duration of the tick `end` adds to the Element `info`
+-- the number of bytes that a Duration of the tick `end` adds to the Element of the Info `info`. All later Elements and cue points move by it, as
+-- `DiffersOnlyInInfo` requires.
 abbrev pub added_by : Node → ℕ → ℕ
 added_by info end = length (octets_of (info_element info (Some end))) - length (octets_of (tree_element info))
 
--- With a Duration of the tick `end`, the content of `info` has 11 more bytes at the place of the Duration. They are the Duration, or a Void if
--- `end` is 0. The Element is 11 bytes longer, or 12, since its size may take one more byte.
+-- With a Duration of `end` ticks, the content of the Info `info` has 11 more bytes at the place of the Duration. They are the Duration, or a Void if
+-- `end` is 0. The Element is 11 bytes longer, or 12, since its size may take one more byte. `DiffersOnlyInInfo` requires it.
 pub record HasInserted (info : Node) (end : ℕ) : Type 0 where
   pub without : content info ≡ children_before_duration info ++ children_after_duration info
   pub inserted : (info_element info (Some end)).body ≡ children_before_duration info ++ (octets_of (duration_element end) ++ children_after_duration info)
@@ -29,12 +30,12 @@ pub record HasInserted (info : Node) (end : ℕ) : Type 0 where
 
 -- ---- the output
 
--- the cue point `p` with its Cluster `k` bytes later in the Segment
+-- the cue point `p` with its Cluster `k` bytes later in the Segment, as a Duration moves it. Used by `DiffersOnlyInInfo`.
 abbrev pub later_by : ℕ → CuePoint → CuePoint
 later_by k p = record p { cluster = p.cluster + k }
 
--- The document `lasting` is the document `without` with a Duration of the tick `end`. The Clusters are the same. They begin later by the bytes that
--- Info has gained, and so do the Clusters of the cue points.
+-- The document `lasting` of an output is the document `without` with a Duration of `end` ticks, as `DurationChangesOnlyInfo` requires. The Clusters
+-- are the same. They begin later by the bytes that Info has gained, and so do the Clusters of the cue points.
 pub record DiffersOnlyInInfo (end : ℕ) (without lasting : Document) : Type 0 where
   pub front : lasting.front ≡ record without.front { lasting = Some end }
   pub info : HasInserted without.front.info end
@@ -44,13 +45,16 @@ pub record DiffersOnlyInInfo (end : ℕ) (without lasting : Document) : Type 0 w
   pub chapters : lasting.chapters ≡ without.chapters
   pub tags : lasting.tags ≡ without.tags
 
--- the output that is made of the blocks, with a Duration only if `duration` is true
+-- the output of the blocks `blocks` with the Chapters `chapters` and the Tags `tags`, and with a Duration only if `duration` is true. `limits`,
+-- `rules` and `f` are the limits of its Clusters, its rules for cue points, and the part before its Clusters. The law `a_duration_changes_only_info`
+-- compares the two.
 abbrev pub document_lasting : Bool → ClusterLimits → List CueRule → Front → Option Node → Option Node → List OutputBlock → Document
 document_lasting duration limits rules f chapters tags blocks =
     document_of limits rules (record f { lasting = lasting_if duration }) chapters tags blocks
 
--- An output with a Duration is the output of the same blocks without it, except for Info, which is a master, and for positions. The Duration is the
--- end of the blocks.
+-- An output with a Duration is the output of the same blocks without it, except for Info, which must be a master, and for positions. The Duration is
+-- the end of the blocks in ticks. `limits`, `rules`, `f`, `chapters` and `tags` are as in `document_lasting`. It is the law
+-- `a_duration_changes_only_info`.
 abbrev pub DurationChangesOnlyInfo : Type 0
 DurationChangesOnlyInfo =
     (limits : ClusterLimits) (rules : List CueRule) (f : Front) (chapters tags : Option Node) (blocks : List OutputBlock) → IsMaster f.info

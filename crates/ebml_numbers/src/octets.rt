@@ -19,14 +19,15 @@ pub struct Octets {
 impl Octets {
     ghost use Rattle.ebml_numbers.specs.Octets.{octets_of};
 
-    /// Returns the bytes of the number, without the zeros after them.
+    /// Returns the bytes of the written number, without the zeros after them. Writers append them to an output.
     pub fn as_slice(&self) -> &[u8]
         ensures { result.now ≡ octets_of self.now }
     {
         &self.bytes[..usize::from(self.len)]
     }
 
-    /// Returns the number `value` in `width` bytes, the highest first.
+    /// Returns the number `value` in `width` bytes, the highest first. The functions that write sizes and integers end
+    /// with it. Used by `put_size`, `put_uint` and others.
     pub(crate) fn big_endian(value: u64, width: u8) -> Octets
         requires some { 1 ≤ width }
         requires most { width ≤ 8 }

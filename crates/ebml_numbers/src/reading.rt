@@ -7,7 +7,9 @@ use crate::number::{IdRead, NumFault, Size, SizeRead};
 use crate::vint::all_ones;
 use byteorder::{BigEndian, ByteOrder};
 
-/// Reads the Element ID at the start of `bytes`: RFC 8794, section 5 (Element ID).
+/// Reads the Element ID at the start of `bytes`, the header of an Element in a file: RFC 8794, section 5 (Element ID).
+/// `More` has the number of bytes that the ID takes in all, if some are missing. Readers of headers call it for each
+/// Element.
 pub fn read_id(bytes: &[u8]) -> Result<IdRead, NumFault>
     ensures exact { result ≡ id_at bytes.now }
     ensures found { IfOk result (IsIdWithin (length bytes.now)) }
@@ -20,7 +22,9 @@ pub fn read_id(bytes: &[u8]) -> Result<IdRead, NumFault>
     first_id(bytes)
 }
 
-/// Reads the Element Data Size at the start of `bytes`: RFC 8794, section 6 (Element Data Size).
+/// Reads the Element Data Size at the start of `bytes`, after an Element's ID: RFC 8794, section 6 (Element Data Size).
+/// Also reads the track number of a block and the sizes of an EBML lace. `More` has the number of bytes that the size
+/// takes in all, if some are missing.
 pub fn read_size(bytes: &[u8]) -> Result<SizeRead, NumFault>
     ensures exact { result ≡ size_at bytes.now }
     ensures found { IfOk result (IsSizeWithin (length bytes.now)) }
@@ -35,7 +39,7 @@ pub fn read_size(bytes: &[u8]) -> Result<SizeRead, NumFault>
 }
 
 /// Returns the number that all of `bytes` encode, or 0 if `bytes` is empty: RFC 8794, section 7.2 (Unsigned Integer
-/// Element).
+/// Element). `bytes` is the content of a leaf, such as a Timestamp.
 pub fn read_uint(bytes: &[u8]) -> u64
     requires { length bytes.now ≤ 8 }
     ensures exact { result ≡ uint_of bytes.now }
@@ -48,7 +52,7 @@ pub fn read_uint(bytes: &[u8]) -> u64
 }
 
 /// Returns the two's complement value of all of `bytes`, or 0 if `bytes` is empty: RFC 8794, section 7.1 (Signed
-/// Integer Element).
+/// Integer Element). `bytes` is the content of a leaf, or the relative timestamp in a block's header.
 pub fn read_int(bytes: &[u8]) -> i64
     requires { length bytes.now ≤ 8 }
     ensures exact { result ≡ int_of bytes.now }
@@ -60,8 +64,8 @@ pub fn read_int(bytes: &[u8]) -> i64
     }
 }
 
-// Reads the Element ID at the start of `bytes`. Fails with the number of bytes that it has in all if some are missing,
-// or if no ID begins so.
+// Reads the Element ID at the start of `bytes` for `read_id`. Fails with the number of bytes that it has in all if some
+// are missing, or with `Bad` if no ID begins so.
 #[tactic(auto, unfolding(crate::specs::Number::id_at))]
 fn first_id(bytes: &[u8]) -> Result<IdRead, NumFault>
     ensures { result ≡ id_at bytes.now }
@@ -79,8 +83,8 @@ fn first_id(bytes: &[u8]) -> Result<IdRead, NumFault>
     id_of_width(bytes, width)
 }
 
-// Reads the Element Data Size at the start of `bytes`. Fails with the number of bytes that it has in all if some are
-// missing, or if no size begins so.
+// Reads the Element Data Size at the start of `bytes` for `read_size`. Fails with the number of bytes that it has in
+// all if some are missing, or with `Bad` if no size begins so.
 #[tactic(auto, unfolding(crate::specs::Number::size_at))]
 fn first_size(bytes: &[u8]) -> Result<SizeRead, NumFault>
     ensures { result ≡ size_at bytes.now }
@@ -102,14 +106,16 @@ fn first_size(bytes: &[u8]) -> Result<SizeRead, NumFault>
     })
 }
 
-// Returns the length in bytes of a variable-size integer with the first byte `first`.
+// Returns the length in bytes of a variable-size integer with the first byte `first`, an ID or a size that is being
+// read. `first_id` and `first_size` call it.
 fn width_of(first: u8) -> u8
     ensures { result ≡ width first }
 {
     first.leading_zeros() as u8 + 1
 }
 
-// Returns the Element ID in the first `width` of `bytes`, or `Bad` if they aren't a valid one.
+// Returns the Element ID in the first `width` of `bytes`, or `Bad` if they aren't a valid one. `first_id` does this
+// after it has found the width.
 fn id_of_width(bytes: &[u8], width: u8) -> Result<IdRead, NumFault>
     requires some { 1 ≤ width }
     requires most { width ≤ 4 }
@@ -126,7 +132,8 @@ fn id_of_width(bytes: &[u8], width: u8) -> Result<IdRead, NumFault>
     })
 }
 
-// Checks whether `value` can be the data of an Element ID of `width` bytes, and doesn't fit in fewer.
+// Checks whether `value` can be the data of an Element ID of `width` bytes, and doesn't fit in fewer. `id_of_width`
+// calls it.
 fn is_id_data(width: u8, value: u64) -> bool
     requires some { 1 ≤ width }
     requires most { width ≤ 8 }
@@ -137,6 +144,7 @@ fn is_id_data(width: u8, value: u64) -> bool
 }
 
 // Returns the Element Data Size with the data `value` in `width` bytes: unknown if all bits of the data are 1.
+// `first_size` does this with the bits that it has read.
 fn size_of_data(width: u8, value: u64) -> Size
     requires { width ≤ 8 }
     ensures { result ≡ size_of_data width value }
@@ -148,7 +156,8 @@ fn size_of_data(width: u8, value: u64) -> Size
     }
 }
 
-// Returns the data bits of `number`, a variable-size integer of `width` bytes with its marker.
+// Returns the data bits of `number`, a variable-size integer of `width` bytes with its marker: an ID or a size that is
+// being read. `first_size` and `id_of_width` call it.
 fn without_marker(number: u64, width: u8) -> u64
     requires { width ≤ 8 }
     ensures { result ≡ number % marker width }
@@ -156,7 +165,8 @@ fn without_marker(number: u64, width: u8) -> u64
     number & all_ones(width)
 }
 
-// Returns the big-endian number in the first `width` of `bytes`. If there are eight bytes, it reads them as one word.
+// Returns the big-endian number in the first `width` of `bytes`, an ID or a size with its marker. If there are eight
+// bytes, it reads them as one word. `first_size` and `id_of_width` call it.
 fn number(bytes: &[u8], width: u8) -> u64
     requires some { 1 ≤ width }
     requires most { width ≤ 8 }

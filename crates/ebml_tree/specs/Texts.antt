@@ -3,7 +3,7 @@ use Rattle.std.specs.Prelude.{◌≡◌, ◌⊎◌, ℕ, true, Some}
 use Rattle.mkv_schema.specs.Schema.{kind_of, may_stand}
 use Rattle.mkv_schema.specs.declared.kind.ElementKind.TheVariants.{Ascii, Utf8}
 
--- The schema has `id` as a text under `parent`.
+-- The schema has `id` as a text under `parent`. `text_in` and readers of texts require it.
 pub record HasText (parent id : ℕ) : Type 0 where
   pub stands : may_stand id parent ≡ true
   pub kind : (kind_of id ≡ Some Ascii) ⊎ (kind_of id ≡ Some Utf8)

@@ -21,6 +21,7 @@ pub enum TreeEnd {
 impl From<Damage> for TreeEnd {
     ghost from_gives = { λ damage end. end ≡ tree_end.Damage damage };
 
+    /// Converts `damage`, for `?` in the functions that read a tree: the tree is refused for it.
     fn from(damage: Damage) -> TreeEnd {
         TreeEnd::Damage(damage)
     }
@@ -29,6 +30,7 @@ impl From<Damage> for TreeEnd {
 impl From<AllocError> for TreeEnd {
     ghost from_gives = { λ _ end. end ≡ tree_end.Memory };
 
+    /// Converts a failed allocation, for `?` in the functions that read a tree.
     fn from(_error: AllocError) -> TreeEnd {
         TreeEnd::Memory
     }
@@ -37,6 +39,8 @@ impl From<AllocError> for TreeEnd {
 impl<T: Drop> From<AllocFailed<T>> for TreeEnd {
     ghost from_gives = { λ _ end. end ≡ tree_end.Memory };
 
+    /// Converts a failed allocation that returns its value, which is dropped, for `?` in the functions that read a
+    /// tree.
     fn from(_failed: AllocFailed<T>) -> TreeEnd {
         TreeEnd::Memory
     }

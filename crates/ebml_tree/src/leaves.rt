@@ -12,7 +12,7 @@ use ebml_numbers::put_uint;
 use std::alloc::{AllocError, Global};
 
 /// Returns a new leaf with the ID `id` and the unsigned integer `value` in the fewest bytes (RFC 8794, section 7.2,
-/// Unsigned Integer Element).
+/// Unsigned Integer Element). Used to build the entries, Info and edits that are written.
 pub fn uint_leaf(alloc: Global, id: u32, value: u64) -> Result<Tree, AllocError>
     requires { IsTrue (is_id id) }
     ensures exact { IfOk result (λ tree. tree ≡ uint_leaf id value) }
@@ -23,7 +23,7 @@ pub fn uint_leaf(alloc: Global, id: u32, value: u64) -> Result<Tree, AllocError>
 }
 
 /// Returns a new leaf with the ID `id` and the text `text` (RFC 8794, sections 7.4, String Element, and 7.5, UTF-8
-/// Element).
+/// Element). Used to build the entries, Info and edits that are written.
 pub fn text_leaf(alloc: Global, id: u32, text: &str) -> Result<Tree, AllocError>
     requires { IsTrue (is_id id) }
     ensures exact { IfOk result (λ tree. tree ≡ leaf id 0 text.now) }

@@ -67,7 +67,8 @@ impl Tree {
     ghost use Rattle.ebml_numbers.specs.Number.{is_id, uint_octets, int_of, int_octets, magnitude};
     ghost use Rattle.mkv_schema.specs.Value.{uint_value, text_of};
 
-    /// Returns a new leaf with the ID `id` and the bytes `bytes`, whose offset is 0.
+    /// Returns a new leaf with the ID `id` and the bytes `bytes`, whose offset is 0. Used to build Elements that are
+    /// written.
     #[tactic(auto, using(tree_format::proofs::ValueLemmas::values))]
     pub fn leaf(alloc: Global, id: u32, bytes: &[u8]) -> Result<Tree, AllocError>
         requires { IsTrue (is_id id) }
@@ -82,7 +83,8 @@ impl Tree {
         Tree::of_body(alloc, id, 0, bytes)
     }
 
-    /// Returns a copy of the tree, with the same offsets.
+    /// Returns a copy of the tree, with the same offsets, so that it can be changed and written. Fails only if memory
+    /// runs out.
     #[tactic(auto, using(crate::proofs::ContentLemmas::copies))]
     pub fn copy(&self, alloc: Global) -> Result<Tree, AllocError>
         ensures { IfOk result (λ copy. copy ≡ self.now) }
@@ -106,21 +108,23 @@ impl Tree {
         })
     }
 
-    /// Returns the Element's ID, with its marker.
+    /// Returns the ID of the tree's Element, with its marker. Used by all readers of trees.
     pub fn id(&self) -> u32
         ensures { result ≡ id_of self.now }
     {
         self.id
     }
 
-    /// Returns the offset of the Element's header in the file, or 0 if the Element is new.
+    /// Returns the offset in bytes of the Element's header in the file, or 0 if the Element is new. Messages on damage
+    /// have it. Used by `empty`, `copy` and others.
     pub fn offset(&self) -> u64
         ensures { result ≡ offset_of self.now }
     {
         self.offset
     }
 
-    /// Returns the number of nested masters of the tree, itself included, or 0 for a leaf.
+    /// Returns the number of nested masters of the tree, itself included, or 0 for a leaf. The limit is 32. Used by
+    /// `copy`, `depth_around` and others.
     pub fn depth(&self) -> u8
         ensures exact { result ≡ depth self.now }
         ensures most { result ≤ deepest }
@@ -128,7 +132,7 @@ impl Tree {
         self.depth
     }
 
-    /// Returns the children; a leaf has none.
+    /// Returns the children of the tree, in order; a leaf has none. Used by all readers of trees.
     #[tactic(auto, using(crate::proofs::ContentLemmas::changes))]
     pub fn children(&self) -> &[Tree]
         ensures exact { result.now ≡ children self.now }
@@ -137,7 +141,7 @@ impl Tree {
         self.content.kids()
     }
 
-    /// Returns the first child with the ID `id`.
+    /// Returns the first child with the ID `id`, or None if there is none. Used by all readers of values.
     pub fn child(&self, id: u32) -> Option<&Tree>
         ensures exact { option_copied result ≡ find (λ n. id_of n == id) (children self.now) }
         ensures room { IfSome result (λ tree. HasRoom tree.now) }
@@ -145,7 +149,8 @@ impl Tree {
         first_of(self.children(), id)
     }
 
-    /// Returns the child with the number `k`, counted from 0, among the children with the ID `id`.
+    /// Returns the child with the number `k`, counted from 0, among the children with the ID `id`. Track checks find a
+    /// TrackEntry or a second ContentEncoding with it. Used by `can_be_undone` of `track_records`.
     pub fn nth(&self, id: u32, k: usize) -> Option<&Tree>
         ensures exact { option_copied result ≡ slice_get (filter (λ n. id_of n == id) (children self.now)) k }
         ensures room { IfSome result (λ tree. HasRoom tree.now) }
@@ -153,7 +158,8 @@ impl Tree {
         nth_of(self.children(), id, k)
     }
 
-    /// Returns the child with the number `k`, counted from 0, if there is one.
+    /// Returns the child with the number `k`, counted from 0 over all children, or None if there is none. Used to go
+    /// through a list of Elements. Used by `trees_in`, `front_header` and others.
     pub fn at(&self, k: usize) -> Option<&Tree>
         ensures exact { option_copied result ≡ slice_get (children self.now) k }
         ensures room { IfSome result (λ tree. HasRoom tree.now) }
@@ -161,7 +167,8 @@ impl Tree {
         tree_at(self.children(), k)
     }
 
-    /// Takes the tree apart, and returns its children without copying them. A leaf has none.
+    /// Takes the tree apart, and returns its children without copying them. A leaf has none. Used for Seeks, for
+    /// TrackEntries and to join records. Used by `first_seek_head` of `edit_plan` and others.
     #[tactic(auto, using(crate::proofs::ContentLemmas::changes))]
     pub fn into_children(self) -> Vec<Tree>
         ensures exact { result.items ≡ children self }
@@ -170,7 +177,7 @@ impl Tree {
         self.content.into_kids()
     }
 
-    /// Returns the bytes of a leaf; a master has none.
+    /// Returns the content of a leaf as bytes; a master has none. Used by all readers of values.
     #[tactic(auto, using(crate::proofs::ContentLemmas::changes))]
     pub fn body(&self) -> &[u8]
         ensures { result.now ≡ body_of self.now }
@@ -179,7 +186,8 @@ impl Tree {
     }
 
     /// Returns the value of the leaf as an unsigned integer (RFC 8794, section 7.2, Unsigned Integer Element). If it is
-    /// empty, returns the schema's default, or 0.
+    /// empty, returns the schema's default, or 0. All readers of an unsigned integer in a tree use it. Used by
+    /// `integer_in` and others.
     pub fn uint(&self) -> u64
         requires { length (body_of self.now) ≤ 8 }
         ensures { result ≡ uint_value (id_of self.now) (body_of self.now) }
@@ -193,7 +201,7 @@ impl Tree {
     }
 
     /// Returns the value of the leaf as a signed integer, or 0 if it is empty (RFC 8794, section 7.1, Signed Integer
-    /// Element).
+    /// Element). Only test programs call it.
     pub fn int(&self) -> i64
         requires { length (body_of self.now) ≤ 8 }
         ensures { result ≡ int_of (body_of self.now) }
@@ -202,15 +210,15 @@ impl Tree {
     }
 
     /// Returns the bytes of the leaf as a text, up to its first zero byte (RFC 8794, sections 7.4, String Element, and
-    /// 7.5, UTF-8 Element).
+    /// 7.5, UTF-8 Element). Readers of names, titles and tags use it. Used by `text_of`.
     pub fn text(&self) -> &[u8]
         ensures { result.now ≡ text_of (body_of self.now) }
     {
         text_of(self.body())
     }
 
-    /// Puts `child` in place of the first child with its ID, or at the end if there is none. Removes the other
-    /// children with that ID. On failure `child` is dropped.
+    /// Puts `child` in place of the first child with its ID, or at the end if there is none. Removes the other children
+    /// with that ID. `propedit` and the writers of records set values so. On failure `child` is dropped.
     #[tactic(auto, using(crate::proofs::ContentLemmas::changes, tree_format::proofs::StandingLemmas::keeps))]
     pub fn set(&mut self, child: Tree) -> Result<(), AllocError>
         requires master { IsMaster self.old }
@@ -239,7 +247,8 @@ impl Tree {
         Ok(())
     }
 
-    /// Appends `child` to the children. On failure `child` is dropped.
+    /// Appends `child` to the children of the master, to build an Element that is written. On failure `child` is
+    /// dropped.
     #[tactic(auto, using(crate::proofs::ContentLemmas::changes, tree_format::proofs::StandingLemmas::keeps))]
     pub fn push(&mut self, child: Tree) -> Result<(), AllocError>
         requires master { IsMaster self.old }
@@ -264,7 +273,8 @@ impl Tree {
         Ok(())
     }
 
-    /// Removes every child with the ID `id`, without allocating.
+    /// Removes every child with the ID `id` from the master, without allocating. Used to delete a property, or what a
+    /// written TrackEntry doesn't keep.
     #[tactic(auto, using(crate::proofs::ContentLemmas::changes, tree_format::proofs::StandingLemmas::keeps))]
     pub fn remove(&mut self, id: u32)
         requires { IsMaster self.old }
@@ -280,7 +290,8 @@ impl Tree {
         self.depth = depth_around(self.content.kids());
     }
 
-    /// Returns the number of bytes of the tree as it is written, in its normal form.
+    /// Returns the number of bytes of the tree as it is written, in its normal form, including the header; 0 for a Void
+    /// or CRC-32. Used to size what is written. Used by `set`, `push` and others.
     #[tactic(auto, using(crate::proofs::ContentLemmas::written))]
     pub fn written_len(&self) -> u64
         ensures exact { result ≡ length (octets self.now) }
@@ -292,8 +303,9 @@ impl Tree {
         element_len(self.id, self.written)
     }
 
-    /// Appends the tree to `out` in its normal form. Headers are as short as possible, Void and CRC-32 are left out at
-    /// every depth, and other leaves keep their bytes. If memory runs out, nothing is appended.
+    /// Appends the tree to `out` in its normal form, for an output or an edit. Headers are as short as possible, Void
+    /// and CRC-32 are left out at every depth, and other leaves keep their bytes. If memory runs out, nothing is
+    /// appended.
     pub fn put(&self, out: &mut Bytes) -> Result<(), AllocError>
         ensures ok { OnOk result (out.new ≡ out.old ++ octets self.now) }
         ensures err { OnErr result (out.new ≡ out.old) }
@@ -317,7 +329,8 @@ impl Tree {
         done
     }
 
-    // Appends the tree to `out` in its normal form. If memory runs out, `out` still begins with the bytes that it had.
+    // Appends the tree to `out` in its normal form, for `put`. If memory runs out, `out` still begins with the bytes
+    // that it had.
     #[tactic(auto, using(crate::proofs::ContentLemmas::written))]
     fn write(&self, out: &mut Vec<u8>) -> Result<(), AllocError>
         ensures ok { OnOk result (out.new.items ≡ out.old.items ++ octets self.now) }

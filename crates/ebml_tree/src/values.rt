@@ -12,7 +12,8 @@ ghost use Rattle.ebml_tree.specs.Texts.{HasText};
 use crate::tree::Tree;
 use mkv_schema::{text_default, uint_default};
 
-/// Returns the unsigned integer that is the first child of `tree` with the ID `id`, if there is one.
+/// Returns the unsigned integer that is the first child of `tree` with the ID `id`, or None if there is none. Used for
+/// values without a default, such as PixelWidth.
 pub fn integer_in(tree: &Tree, id: u32) -> Option<u64>
     requires sound { IsSound tree.now }
     requires uint { HasUint (id_of tree.now) id }
@@ -23,6 +24,7 @@ pub fn integer_in(tree: &Tree, id: u32) -> Option<u64>
 }
 
 /// Returns the unsigned integer that is the first child of `tree` with the ID `id`, or else the schema's default, or 0.
+/// Used by all readers of values.
 pub fn uint_in(tree: &Tree, id: u32) -> u64
     requires sound { IsSound tree.now }
     requires uint { HasUint (id_of tree.now) id }
@@ -35,7 +37,8 @@ pub fn uint_in(tree: &Tree, id: u32) -> u64
 }
 
 /// Returns the text that is the first child of `tree` with the ID `id`, up to its first zero byte, or else the schema's
-/// default.
+/// default. It is None if neither exists. The readers of tracks use it for names, codec IDs and languages, as
+/// `track_of` does.
 pub fn text_in<'a>(tree: &'a Tree, id: u32) -> Option<&'a str>
     requires sound { IsSound tree.now }
     requires text { HasText (id_of tree.now) id }
@@ -47,7 +50,8 @@ pub fn text_in<'a>(tree: &'a Tree, id: u32) -> Option<&'a str>
     }
 }
 
-/// Returns the text of `leaf`, up to its first zero byte.
+/// Returns the text of `leaf`, up to its first zero byte, for readers of tracks, titles and names. It must be UTF-8, as
+/// the tables require of a text. Used by `text` and `text_in`.
 pub fn text_of(leaf: &Tree) -> &str
     requires { IsUtf8 (text_of (body_of leaf.now)) }
     ensures { result.now ≡ text_of (body_of leaf.now) }

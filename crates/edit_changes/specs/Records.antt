@@ -14,13 +14,13 @@ use Rattle.meta_records.specs.Attached.{first_attached}
 use Rattle.meta_records.specs.Records.{first_tree, good_info}
 use Rattle.edit_changes.specs.declared.trees.Trees.{Trees}
 
--- The Tracks that was read, or the damage for which it is refused. A file without Tracks is refused, at the offset of its `segment`.
+-- The Tracks that was read, or the damage for which it is refused, for `trees_of`. A file without Tracks is refused, at the offset of its `segment`.
 abbrev pub good_tracks : Header → Option Node → Result Node Damage
 good_tracks segment None = Err (damage NoTracks 0 segment.offset)
 good_tracks segment (Some n) = unless (refusal_of n) n
 
 -- The editable parts of a file with the content `bytes` and the Segment `segment`, or the refusal of the file. Info and Tracks are read first. Then
--- Attachments, Chapters and Tags must be sound. Each is the first with its ID.
+-- Attachments, Chapters and Tags must be sound. Each is the first with its ID. The plan of an edit uses it.
 abbrev pub trees_of : List ℕ → Header → Result Trees Damage
 trees_of bytes segment =
     and_then (and_then (first_tree INFO bytes segment) good_info) (λ info.
@@ -30,13 +30,13 @@ trees_of bytes segment =
     and_then (first_tree TAGS bytes segment) (λ tags.
     Ok (record { info = info; tracks = children tracks }))))))
 
--- A file that can be edited: the outline of its Elements at level 1, and its editable parts.
+-- A file that `propedit` or `reindex` can edit: the outline of its Elements at level 1, and its editable parts.
 pub record EditableFile : Type 0 where
   pub outline : FileOutline
   pub trees : Trees
 
 -- The editable file with the content `bytes`, or its refusal. It is refused first for its outline, then for damage at level 1, then for its Info,
--- Tracks and other records.
+-- Tracks and other records. `plan_of` begins with it.
 abbrev pub editable : List ℕ → Result EditableFile Damage
 editable bytes =
     and_then (outline_in 0 bytes) (λ o.

@@ -30,6 +30,8 @@ pub enum EditEnd {
 impl From<AllocError> for EditEnd {
     ghost from_gives = { λ _ e. e ≡ end.Memory };
 
+    /// Converts a failed allocation, for `?` in the functions that make one edit. Used by `shortest`, `size_width` and
+    /// others.
     fn from(_error: AllocError) -> EditEnd {
         EditEnd::Memory
     }
@@ -84,15 +86,16 @@ fn delete(tree: &mut Tree, property: Property) -> Result<(), EditEnd>
     Ok(())
 }
 
-/// Checks whether the selector `place` names the Info, and not a track.
+/// Checks whether the selector `place` of an edit names the Info, and not a track. `edited` and `apply` choose the
+/// Element and the table of properties by it.
 pub fn is_info(place: Selector) -> bool
     ensures { result ≡ is_info place }
 {
     matches!(place, Selector::Info)
 }
 
-/// Makes the change `edit` in `tree`, the Info or TrackEntry that it selects. A refused change leaves the tree as it
-/// was.
+/// Makes the change `edit` in `tree`, the Info or TrackEntry that it selects. `edited` does this for each edit of
+/// `propedit`, in memory. A refused change leaves the tree as it was.
 pub fn apply(alloc: Global, tree: &mut Tree, edit: &Edit) -> Result<(), EditEnd>
     requires master { IsMaster tree.old }
     requires section { id_of tree.old ≡ section_of (is_info edit.now.place) }

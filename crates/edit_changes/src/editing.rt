@@ -29,8 +29,8 @@ pub enum EditsEnd {
     Memory,
 }
 
-/// Makes `edit`, one of the Info, in `info`, the file's Info. Fails if there is no Info, or if the edit is refused;
-/// `info` then stays.
+/// Makes `edit`, one of the Info, in `info`, the file's Info, for `edited`. Fails if there is no Info, or if the edit
+/// is refused; `info` then stays.
 fn edit_info(alloc: Global, info: &mut Option<Tree>, edit: &Edit) -> Result<(), EditEnd>
     requires section { is_info edit.now.place ≡ true }
     requires info { IfSome info.old (IsRead INFO) }
@@ -43,8 +43,8 @@ fn edit_info(alloc: Global, info: &mut Option<Tree>, edit: &Edit) -> Result<(), 
     }
 }
 
-/// Makes `edit`, one of a track, in the child with index `k` of the Tracks that has the children `tracks`. It is a
-/// TrackEntry. A refused edit leaves it as it was.
+/// Makes `edit`, one of a track, in the TrackEntry with index `k`, from 0, of `tracks`, the children of Tracks.
+/// `edit_track` calls it for the entry that it found. A refused edit leaves it as it was.
 fn edit_entry(alloc: Global, tracks: &mut Vec<Tree>, k: usize, edit: &Edit) -> Result<(), EditEnd>
     requires section { is_info edit.now.place ≡ false }
     requires inside { k < length tracks.old.items }
@@ -54,8 +54,8 @@ fn edit_entry(alloc: Global, tracks: &mut Vec<Tree>, k: usize, edit: &Edit) -> R
     apply(alloc, &mut tracks[k], edit)
 }
 
-/// Makes `edit`, one of a track, in the TrackEntry that it selects among `tracks`, the children of Tracks. A refused
-/// edit leaves them as they were.
+/// Makes `edit`, one of a track, in the TrackEntry that it selects among `tracks`, the children of Tracks, for
+/// `edited`. A refused edit leaves them as they were.
 #[tactic(auto, using(crate::proofs::TrackLemmas::tracks))]
 fn edit_track(alloc: Global, tracks: &mut Vec<Tree>, edit: &Edit) -> Result<(), EditEnd>
     requires section { is_info edit.now.place ≡ false }
@@ -70,7 +70,7 @@ fn edit_track(alloc: Global, tracks: &mut Vec<Tree>, edit: &Edit) -> Result<(), 
 }
 
 /// Returns the error for the whole sequence if the edit with index `k`, from 0, ended with `end`. A refusal gets its
-/// number on the command line, `k + 1`.
+/// number on the command line, `k + 1`, which the message of `propedit` has.
 fn numbered(end: EditEnd, k: usize) -> EditsEnd
     requires { k + 1 < 2 ^ 64 }
     ensures { result ≡ numbered k end }
@@ -84,8 +84,8 @@ fn numbered(end: EditEnd, k: usize) -> EditsEnd
     }
 }
 
-/// Makes `edits` in sequence on `trees`, each on the result of the previous one, and returns the edited trees. It ends
-/// with the first edit that is refused. No file is touched.
+/// Makes `edits` in sequence on `trees`, each on the result of the previous one, and returns the edited trees.
+/// `propedit` does this before it plans the writes. It ends with the first edit that is refused. No file is touched.
 pub fn edited(alloc: Global, trees: Trees, edits: &List<Edit>) -> Result<Trees, EditsEnd>
     requires { AreSound trees }
     ensures exact { MakesAll result (spec.edited_trees edits.now trees) }

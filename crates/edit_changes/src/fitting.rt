@@ -10,8 +10,9 @@ use ebml_numbers::{put_id, put_size, size_width};
 use mkv_schema::ids::VOID;
 use std::alloc::{AllocError, Global};
 
-/// Returns the header of a Void that has `total` bytes, at least 2, with its body, which isn't written. Its size field
-/// takes one byte for up to 128 bytes in all, and eight for more.
+/// Returns the header of a Void that has `total` bytes, at least 2, with its body, which isn't written. It covers what
+/// is left of an old Element. Its size field takes one byte for up to 128 bytes in all, and eight for more. Used by
+/// `fit`, `overwrite_or_void` and others.
 #[tactic(auto, unfolding(ebml_numbers::specs::Number::is_id), using(crate::proofs::SpanLemmas::voids))]
 pub fn void_header(alloc: Global, total: u64) -> Result<Vec<u8>, AllocError>
     requires { total ≤ 2 ^ 48 }
@@ -26,7 +27,8 @@ pub fn void_header(alloc: Global, total: u64) -> Result<Vec<u8>, AllocError>
     Ok(out)
 }
 
-/// Returns the bytes of an Element with the ID `id` and the body `body`, whose size field takes `width` bytes.
+/// Returns the bytes of an Element with the ID `id` and the body `body`, whose size field takes `width` bytes. `fit`
+/// and `whole` build a new Element with it.
 fn element(alloc: Global, id: u32, body: &[u8], width: u8) -> Result<Vec<u8>, AllocError>
     requires id { IsTrue (is_id id) }
     requires some { 1 ≤ width }
@@ -40,8 +42,8 @@ fn element(alloc: Global, id: u32, body: &[u8], width: u8) -> Result<Vec<u8>, Al
     Ok(out)
 }
 
-/// Returns the least number of bytes of a size field for a body of `len` bytes. One byte more is possible too, so that
-/// an Element can fill one byte that is left.
+/// Returns the least number of bytes of a size field for a body of `len` bytes of a new Element. One byte more is
+/// possible too, so that an Element can fill one byte that is left.
 fn width_of(len: u64) -> u8
     requires { len ≤ 2 ^ 48 }
     ensures exact { result ≡ least_size_width len }
@@ -53,7 +55,8 @@ fn width_of(len: u64) -> u8
     size_width(len)
 }
 
-/// Returns the length in bytes of the shortest Element with the ID `id` and a body of `len` bytes.
+/// Returns the length in bytes of the shortest Element with the ID `id` and a body of `len` bytes. A plan finds with it
+/// whether a new Element fits its room, and how far an appended one reaches.
 #[tactic(auto, using(crate::proofs::SpanLemmas::lengths))]
 pub fn shortest(id: u32, len: u64) -> u64
     requires id { IsTrue (is_id id) }
@@ -64,7 +67,8 @@ pub fn shortest(id: u32, len: u64) -> u64
     u64::from(put_id(id).len) + u64::from(width_of(len)) + len
 }
 
-/// Returns the shortest Element with the ID `id` and the body `body`.
+/// Returns the shortest Element with the ID `id` and the body `body`, as bytes that are appended to the file. Plans
+/// call it for each Element that moves.
 pub fn whole(alloc: Global, id: u32, body: &[u8]) -> Result<Vec<u8>, AllocError>
     requires id { IsTrue (is_id id) }
     requires short { length body.now ≤ 2 ^ 48 }
@@ -75,7 +79,7 @@ pub fn whole(alloc: Global, id: u32, body: &[u8]) -> Result<Vec<u8>, AllocError>
 
 /// Returns the bytes that are written over a span of `room` bytes for an Element with the ID `id` and the body `body`.
 /// They are the Element, and the header of a Void over any bytes that are left; a single byte goes to the size field.
-/// Returns None if the shortest Element is longer than `room`.
+/// It is None if the shortest Element is longer than `room`. A plan does this for the new SeekHead.
 #[tactic(auto, using(crate::proofs::SpanLemmas::fits))]
 pub fn fit(alloc: Global, id: u32, body: &[u8], room: u64) -> Result<Option<Vec<u8>>, AllocError>
     requires id { IsTrue (is_id id) }
@@ -100,9 +104,9 @@ pub fn fit(alloc: Global, id: u32, body: &[u8], room: u64) -> Result<Option<Vec<
     Ok(Some(out))
 }
 
-/// Returns the bytes for a new Element with the ID `id` and the body `body` over an old one of `room` bytes. The room
-/// includes the Voids after the old one. If the new one is longer, they are the header of a Void, since the new one is
-/// appended to the file.
+/// Returns the bytes for a new Element with the ID `id` and the body `body` over an old one of `room` bytes. A plan
+/// asks for each of its parts. The room includes the Voids after the old one. If the new one is longer, they are the
+/// header of a Void, since the new one is appended to the file. Used by `octets_in_place` of `edit_plan`.
 pub fn overwrite_or_void(
     alloc: Global,
     id: u32,

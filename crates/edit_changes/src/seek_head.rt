@@ -15,7 +15,8 @@ use mkv_schema::ids::{SEEK, SEEK_ID};
 use output_model::Seek;
 use std::alloc::{AllocError, Global};
 
-/// Checks whether `tree` is a Seek whose first SeekID is exactly the bytes of `id`.
+/// Checks whether `tree`, a child of the old SeekHead, is a Seek whose first SeekID is exactly the bytes of `id`.
+/// `stays` does this for each moved ID.
 fn is_seek_of(id: u32, tree: &Tree) -> bool
     requires { IsTrue (is_id id) }
     ensures { result ≡ spec.is_seek_of id tree.now }
@@ -29,8 +30,8 @@ fn is_seek_of(id: u32, tree: &Tree) -> bool
     }
 }
 
-/// Checks whether `tree`, a child of the old SeekHead, is copied to the new one. A Seek of one of `ids` isn't, since
-/// they get new Seeks.
+/// Checks whether `tree`, a child of the old SeekHead, is copied to the new one, for `put_staying`. A Seek of one of
+/// `ids` isn't, since they get new Seeks.
 fn stays(ids: &[u32], tree: &Tree) -> bool
     requires { AllPass is_id ids.now }
     ensures { result ≡ spec.stays ids.now tree.now }
@@ -43,8 +44,8 @@ fn stays(ids: &[u32], tree: &Tree) -> bool
     true
 }
 
-/// Appends to `out` the children `old` of the old SeekHead that are copied to the new one. The Seeks of `ids` aren't,
-/// since they have new ones.
+/// Appends to `out` the children `old` of the old SeekHead that are copied to the new one, for `seek_head_body`. The
+/// Seeks of `ids` aren't, since they have new ones.
 fn put_staying(out: &mut Bytes, ids: &[u32], old: &[Tree]) -> Result<(), AllocError>
     requires { AllPass is_id ids.now }
     ensures { OnOk result (out.new ≡ out.old ++ flat_map octets (filter (spec.stays ids.now) old.now)) }
@@ -57,8 +58,8 @@ fn put_staying(out: &mut Bytes, ids: &[u32], old: &[Tree]) -> Result<(), AllocEr
     Ok(())
 }
 
-/// Returns the body of the new SeekHead: `seeks`, the new Seeks of `ids`, followed by the children in `old` that aren't
-/// Seeks of `ids`. `old` has the children of the old SeekHead.
+/// Returns the body of the new SeekHead, for a plan that rewrites it. It has `seeks`, the new Seeks of `ids`, followed
+/// by the children in `old` that aren't Seeks of `ids`. `old` has the children of the old SeekHead.
 pub fn seek_head_body(
     alloc: Global,
     ids: &[u32],

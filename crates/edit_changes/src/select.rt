@@ -13,8 +13,8 @@ use mkv_schema::ids::{TRACK_ENTRY, TRACK_NUMBER, TRACK_TYPE, TRACK_UID};
 use mkv_schema::uint_default;
 use requests::Selector;
 
-/// Returns the unsigned integer of the child with this `id` in the TrackEntry `entry`. If it is absent, it is the
-/// default of the Matroska table, or 0.
+/// Returns the unsigned integer of the child with this `id` in the TrackEntry `entry`, such as TrackNumber. If it is
+/// absent, it is the default of the Matroska table, or 0. `fits` compares it with the selector.
 fn uint_in(entry: &Tree, id: u32) -> u64
     requires entry { IsSoundOf ENTRY_ID entry.now }
     requires uint { HasUint ENTRY_ID id }
@@ -26,8 +26,8 @@ fn uint_in(entry: &Tree, id: u32) -> u64
     }
 }
 
-/// Checks whether `tree`, a child of Tracks, is a TrackEntry of the kind that `selector` names: by TrackType, TrackUID
-/// or TrackNumber. The position of the TrackEntry among them isn't checked.
+/// Checks whether `tree`, a child of Tracks, is a TrackEntry of the kind that `selector` names, by TrackType, TrackUID
+/// or TrackNumber. `place_of` counts the ones that pass. Their position isn't checked.
 #[tactic(auto, using(crate::proofs::SelectLemmas::entries))]
 fn fits(selector: Selector, tree: &Tree) -> bool
     requires { StandsIn TRACKS tree.now }
@@ -45,8 +45,8 @@ fn fits(selector: Selector, tree: &Tree) -> bool
     }
 }
 
-/// Returns the position, from 1, of the TrackEntry that `selector` names among those that `fits` accepts; 0 for the
-/// Info.
+/// Returns the position, from 1, of the TrackEntry that `selector` names among the ones that `fits` accepts; 0 for the
+/// Info. `place_of` counts down from it.
 fn turn_of(selector: Selector) -> u64
     ensures { result ≡ spec.turn_of selector }
 {
@@ -60,7 +60,7 @@ fn turn_of(selector: Selector) -> u64
 }
 
 /// Returns the index, from 0, of the TrackEntry that `selector` names among `tracks`, the children of Tracks; None if
-/// there is none.
+/// there is none. `edit_track` edits it.
 #[tactic(auto, using(crate::proofs::SelectLemmas::places))]
 pub fn place_of(selector: Selector, tracks: &[Tree]) -> Option<usize>
     requires { All (StandsIn TRACKS) tracks.now }

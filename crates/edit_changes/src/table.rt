@@ -159,14 +159,14 @@ const TRACK_TABLE: [Row; 13] = [
     ),
 ];
 
-/// Returns the table of the Info's properties if `info` is true, or else of a track's.
+/// Returns the table of the Info's properties if `info` is true, or else of a track's, for `property_of`.
 fn table(info: bool) -> &'static [Row]
     ensures { map shown result.now ≡ spec.table_of info }
 {
     if info { &INFO_TABLE } else { &TRACK_TABLE }
 }
 
-/// Returns the property with the name `name` in the table `rows`.
+/// Returns the property with the name `name` in the table `rows`, or None if it has no such name, for `property_of`.
 fn row_of(rows: &[Row], name: &str) -> Option<Property>
     ensures { result ≡ spec.in_table name.now (map shown rows.now) }
 {
@@ -178,8 +178,8 @@ fn row_of(rows: &[Row], name: &str) -> Option<Property>
     None
 }
 
-/// Returns the property with the name `name`: the Info's if `info` is true, or else a track's. It is None for an
-/// unknown name.
+/// Returns the property that an edit names: the Info's if `info` is true, or else a track's, with the name `name`. It
+/// is None for an unknown name. `apply` calls it for each edit.
 #[tactic(auto, unfolding(crate::specs::Property::property_of), using(crate::proofs::PropertyLemmas::properties))]
 pub fn property_of(info: bool, name: &str) -> Option<Property>
     ensures exact { result ≡ spec.property_of info name.now }

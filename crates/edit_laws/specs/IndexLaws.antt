@@ -38,7 +38,7 @@ use Rattle.reindex.specs.Plan.{Index, index_ids, index_of}
 use Rattle.reindex.specs.Points.{cluster_before, index_points, indexed_tracks, is_indexed, point_in}
 
 -- The block `b` is inside `cluster`, a Cluster of the Segment `segment` in the content `bytes`, read by the rules `r`. No other Cluster begins
--- between them.
+-- between the start of `cluster` and `b`. The laws on cue points cite it.
 pub record StandsIn (r : Rules) (bytes : List ℕ) (segment : Header) (b : Block) (cluster : Header) : Type 0 where
   pub before : cluster_before b.offset (segment_run bytes segment).list ≡ Some cluster
   pub is_cluster : cluster.id ≡ CLUSTER
@@ -47,54 +47,60 @@ pub record StandsIn (r : Rules) (bytes : List ℕ) (segment : Header) (b : Block
   pub found : Contains (found_in r bytes (segment_bound bytes segment) cluster) (Ok b)
   pub inside : cluster.body ≤ b.offset
 
--- Each block of a file, damaged or not, is inside the last Cluster that begins before it.
+-- Law on `reindex`: each block of a file, damaged or not, is inside the last Cluster that begins before it. `bytes` is the content of the file with
+-- the Segment `segment`, and `r` are the rules for reading it.
 abbrev pub BlocksStandInClusters : Type 0
 BlocksStandInClusters =
     (r : Rules) (bytes : List ℕ) (segment : Header)
     → All (λ (b : Block). (cluster : Header) × StandsIn r bytes segment b cluster) (blocks_of (events_of r bytes segment))
 
--- The timestamp of a block that isn't before the start is a whole number of ticks, by the scale of the rules `r`.
+-- Law on `reindex`: the timestamp of a block that isn't before the start is a whole number of ticks, by the scale of the rules `r`. `bytes` is the
+-- content of the file with the Segment `segment`.
 abbrev pub TimesAreTicks : Type 0
 TimesAreTicks =
     (r : Rules) (bytes : List ℕ) (segment : Header) → 1 ≤ r.scale
     → All (λ (b : Block). (t : ℕ) → since_start b.time ≡ Some t → b.time ≡ nanoseconds r.scale (pos (t / r.scale))) (blocks_of (events_of r bytes segment))
 
--- In a file that can get a new index, a reader without limits finds the same blocks and damage as a reader with limits. Both read at the file's
--- scale.
+-- Law on `reindex`: in a file with the content `bytes` that can get a new index, a reader without limits finds the same blocks and damage as a reader
+-- with limits. `f` is what was read of the file. Both read at its scale.
 abbrev pub LimitsHideNothing : Type 0
 LimitsHideNothing =
     (bytes : List ℕ) (f : EditableFile) → indexable bytes ≡ Ok f
     → events_of (without_limits (file_scale bytes f.outline.segment)) bytes f.outline.segment ≡ file_events true bytes f.outline.segment
 
--- the blocks that get a cue point, in a file with the content `bytes` and the Segment `segment`; `tracks` has the children of its Tracks
+-- the blocks that get a cue point from `reindex`, in a file with the content `bytes` and the Segment `segment`; `tracks` has the children of its
+-- Tracks
 abbrev pub indexed_blocks : List ℕ → Header → List Node → List Block
 indexed_blocks bytes segment tracks = filter (is_indexed (indexed_tracks tracks)) (blocks_of (file_events true bytes segment))
 
--- `p` is the cue point of the block `b`, in the Cluster that contains it. The file has the content `bytes` and the Segment `segment`.
+-- `p` is the cue point that `reindex` makes for the block `b`, in the Cluster that contains it. The file has the content `bytes` and the Segment
+-- `segment`.
 pub record IsPointOf (bytes : List ℕ) (segment : Header) (b : Block) (p : CuePoint) : Type 0 where
   pub cluster : Header
   pub stands : StandsIn (with_limits (file_scale bytes segment)) bytes segment b cluster
   pub point : p ≡ point_in (file_scale bytes segment) segment.body b cluster
 
--- The cue points of a file belong to its first indexed blocks, at most MAX_CUES, one to each, in the order of the file.
+-- Law on `reindex`: the cue points of a file with the content `bytes` belong to its first indexed blocks, at most MAX_CUES, one to each, in the order
+-- of the file. `tracks` are the children of the Tracks of its Segment `segment`.
 abbrev pub EachBlockHasItsPoint : Type 0
 EachBlockHasItsPoint =
     (bytes : List ℕ) (segment : Header) (tracks : List Node)
     → AllZip (IsPointOf bytes segment) (take MAX_CUES (indexed_blocks bytes segment tracks)) (index_points bytes segment tracks)
 
--- Each cue point of a file that can get a new index points at a block of the file.
+-- Law on `reindex`: each cue point of a file with the content `bytes` that can get a new index points at a block of the file. `f` is what was read of
+-- it.
 abbrev pub PointsPointAtBlocks : Type 0
 PointsPointAtBlocks =
     (bytes : List ℕ) (f : EditableFile) → indexable bytes ≡ Ok f
     → All (PointsAtBlock (file_scale bytes f.outline.segment) bytes f.outline.segment) (index_points bytes f.outline.segment f.trees.tracks)
 
 -- the Seeks of the first Elements of `list` with the IDs `ids`, in this order, without IDs that have none. The Segment's data begins at the offset
--- `base`.
+-- `base`. A SeekHead after `reindex` begins with them.
 abbrev pub first_seeks : List ℕ → ℕ → List Header → List Seek
 first_seeks ids base list = filter_map (λ id. option_map (seek_to base) (first_of id list)) ids
 
--- The first SeekHead of the file `new` is rewritten. The file had the content `old` before; `was` and `now` are its old and new Segment. The SeekHead
--- has a Seek of the first Element with each of `ids`. Then follow the children of the old SeekHead, except Seeks of `ids`.
+-- The first SeekHead of the file `new` is rewritten by `reindex`. The file had the content `old` before; `was` and `now` are its old and new Segment.
+-- The SeekHead has a Seek of the first Element with each of `ids`. Then follow the children of the old SeekHead, except Seeks of `ids`.
 pub record HasSeeksOf (ids : List ℕ) (old new : List ℕ) (was now : Header) : Type 0 where
   pub header : Header
   pub first : first_of SEEK_HEAD (segment_run new now).list ≡ Some header
@@ -106,7 +112,7 @@ pub record HasSeeksOf (ids : List ℕ) (old new : List ℕ) (was now : Header) :
 -- The file `new` with a new index holds the content of `old`, which was read as `f`. The EBML header, the first Info, Tracks, Chapters and Tags, and
 -- the blocks are the old ones, at their places. So are the attached files, with their data. The Cues has the points `points`, and each points at its
 -- block. The SeekHead has a Seek of the first Info, Tracks, Attachments, Cues, Chapters and Tags. There is no damage. The file can be indexed again,
--- if `old` has room for two more Elements at level 1.
+-- if `old` has room for two more Elements at level 1. It is the conclusion of the law on `reindex`.
 pub record HoldsIndex (old new : List ℕ) (f : EditableFile) (points : List CuePoint) : Type 0 where
   pub segment : Header
   pub ebml : ebml_header new ≡ Ok f.outline.ebml
@@ -126,7 +132,8 @@ pub record HoldsIndex (old new : List ℕ) (f : EditableFile) (points : List Cue
   pub seeks : HasSeeksOf index_ids old new f.outline.segment segment
   pub again : length f.outline.others + 2 ≤ MAX_ELEMENTS → (o : FileOutline) × (indexable new ≡ Ok (record { outline = o; trees = f.trees }))
 
--- A file that gets a new index holds its old content and that index, and no damage.
+-- Law on `reindex`: a file that gets the new index `x` holds its old content and that index, and no damage. `old` is its content before, at most 2^48
+-- bytes, and `f` what was read of it. No Timestamp or block is at level 1.
 abbrev pub NewIndexIsWhole : Type 0
 NewIndexIsWhole =
     (old : List ℕ) (f : EditableFile) (x : Index) → AreOctets old → length old ≤ LONGEST_FILE

@@ -25,24 +25,26 @@ use Rattle.edit_changes.specs.Records.{EditableFile, editable}
 use Rattle.edit_changes.specs.Plan.{edited}
 use Rattle.reindex.specs.Index.{indexable}
 
--- the normal form of the first Element with the ID `id` at level 1 of the Segment `segment`, or the damage inside it. `bytes` is the content of the
--- file.
+-- the normal form of the first Element with the ID `id` at level 1 of the Segment `segment`, or the damage inside it, to compare a file before and
+-- after an edit. `bytes` is the content of the file.
 abbrev pub normal_form : ℕ → List ℕ → Header → Result (Option (List ℕ)) Damage
 normal_form id bytes segment = and_then (first_tree id bytes segment) (λ n. Ok (option_map octets n))
 
--- the normal form of a Tracks Element with the children `tracks`
+-- the normal form of a Tracks Element with the children `tracks`, as a file after an edit has it. Used by `HoldsEdited`.
 abbrev pub tracks_octets : List Node → List ℕ
 tracks_octets tracks = octets (master TRACKS 0 (nodes_of tracks))
 
--- the data of the attached file `a` in a file with the content `bytes`
+-- the data of the attached file `a` in a file with the content `bytes`, which edits keep; for `attached_data`
 abbrev pub attached_bytes : List ℕ → AttachedFile → List ℕ
 attached_bytes bytes a = octets_between bytes a.at (a.at + a.len)
 
--- the data of each attached file in the first Attachments of the Segment `segment`, or the damage inside it. `bytes` is the content of the file.
+-- the data of each attached file in the first Attachments of the Segment `segment`, or the damage inside it, to compare a file before and after an
+-- edit. `bytes` is the content of the file.
 abbrev pub attached_data : List ℕ → Header → Result (List (List ℕ)) Damage
 attached_data bytes segment = and_then (first_attached bytes segment) (λ files. Ok (map (attached_bytes bytes) files))
 
--- The Element with the header `h` at level 1 is neither a Timestamp nor a block; these belong only into Clusters.
+-- The Element with the header `h` at level 1 is neither a Timestamp nor a block, which belong only into Clusters. The laws on edits and a new index
+-- suppose it. Used by `NewIndexIsWhole`, `EditsChangeNothingElse` and others.
 pub record IsOutside (h : Header) : Type 0 where
   pub timestamp : (h.id == TIMESTAMP) ≡ false
   pub simple : (h.id == SIMPLE_BLOCK) ≡ false
@@ -50,7 +52,8 @@ pub record IsOutside (h : Header) : Type 0 where
 
 -- The edited file `new` holds the content of `old`, which was read as `f`; `t` has its edited Info and Tracks. Those two are written as edited. The
 -- attached files, their data, Chapters and Tags are the old ones, at their places, and so are the blocks, with any scale. Let `old` have room at
--- level 1 for three more Elements and for the bytes of an edit. Then the file can be edited again, and indexed if `old` can be.
+-- level 1 for three more Elements and for the bytes of an edit. Then the file can be edited again, and indexed if `old` can be. It is the conclusion
+-- of the law on `propedit`.
 pub record HoldsEdited (old new : List ℕ) (f : EditableFile) (t : Trees) : Type 0 where
   pub segment : Header
   pub ebml : ebml_header new ≡ Ok f.outline.ebml
@@ -66,7 +69,8 @@ pub record HoldsEdited (old new : List ℕ) (f : EditableFile) (t : Trees) : Typ
   pub again : length f.outline.others + 3 ≤ MAX_ELEMENTS → f.outline.held + MAX_WRITTEN ≤ MAX_MASTERS_LEN → (g : EditableFile) × (editable new ≡ Ok g)
   pub indexed : length f.outline.others + 3 ≤ MAX_ELEMENTS → f.outline.held + MAX_WRITTEN ≤ MAX_MASTERS_LEN → indexable old ≡ Ok f → (g : EditableFile) × (indexable new ≡ Ok g)
 
--- An edited file holds the content of the old file, except for the Info and Tracks that the edits change.
+-- Law on `propedit`: a file `new` after the edits `edits` holds the content of the file `old`, except for the Info and Tracks in `t` that the edits
+-- change. `f` is what was read of `old`, which has at most 2^48 bytes. No Timestamp or block is at level 1.
 abbrev pub EditsChangeNothingElse : Type 0
 EditsChangeNothingElse =
     (old new : List ℕ) (edits : List Edit) (f : EditableFile) (t : Trees) → AreOctets old → length old ≤ LONGEST_FILE

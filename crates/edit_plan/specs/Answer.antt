@@ -21,20 +21,23 @@ use Rattle.edit_changes.specs.Plan.{if_editable}
 use Rattle.edit_changes.specs.Records.{trees_of}
 use Rattle.edit_plan.specs.Opening.{IfOutline}
 
--- The result has `found`, the writes or their refusal that the definitions give; or a read failed, or memory ran out.
+-- The result of planning has `found`, the writes or their refusal that the definitions give; or a read failed, or memory ran out. Contracts of
+-- `edit_writes` and of the two kinds of plan promise it.
 abbrev pub Answers : Result (List disk.Write) Refusal → Result (Vec Write Global) PlanEnd → Type 0
 Answers found (Ok writes) = found ≡ Ok (map written writes.items)
 Answers found (Err (end.Refused r)) = found ≡ Err r
 Answers found (Err end.ReadFault) = ⊤
 Answers found (Err end.Memory) = ⊤
 
--- Planning ended because a read failed.
+-- Planning ended because a read failed. Contracts of planning count only this end as a reading fault. Used by `place_writes`, `moving_writes` and
+-- others.
 abbrev pub is_plan_fault : PlanEnd → Bool
 is_plan_fault (end.Refused r) = false
 is_plan_fault end.ReadFault = true
 is_plan_fault end.Memory = false
 
--- The result has `found`, the value or its refusal that the definitions give; or a read failed, or memory ran out.
+-- The result of a step of planning has `found`, the value or its refusal that the definitions give; or a read failed, or memory ran out. Contracts of
+-- `plan` and of its steps promise it.
 abbrev pub Gives : {A : Type 0} → Result A Refusal → Result A PlanEnd → Type 0
 Gives found (Ok x) = found ≡ Ok x
 Gives found (Err (end.Refused r)) = found ≡ Err r
@@ -42,16 +45,16 @@ Gives found (Err end.ReadFault) = ⊤
 Gives found (Err end.Memory) = ⊤
 
 -- `result` has the writes of `parts` with the rule `rewriting` for the file `file` with the outline `outline`, or their refusal. It is promised if
--- the file's content is visible to the proof in the state `src`.
+-- the file's content is visible to the proof in the state `src`; `r` has the live files of a state. The contract of `parts_writes` promises it.
 abbrev pub AnswersWrites : {S : Type 0} → Ghosts S → S → FileId → Rewriting → FileOutline → List Part → Result (Vec Write Global) PlanEnd → Type 0
 AnswersWrites r src file rewriting outline parts result = IfTold r src file (λ bytes. Answers (writes_in rewriting bytes outline parts) result)
 
 -- `result` has the editable parts of the file `file` with the outline `outline`, or its refusal. It is promised if the content is visible to the
--- proof in the state `src`.
+-- proof in the state `src`; `r` has the live files of a state. The contract of `read_trees` promises it.
 abbrev pub ReadsTrees : {S : Type 0} → Ghosts S → S → FileId → FileOutline → Result Trees OutlineEnd → Type 0
 ReadsTrees r src file outline result = IfOutlined r src file outline (λ bytes. ReadsAs (trees_of bytes outline.segment) result)
 
 -- `result` has the editable parts of the file `file` with the outline `outline`, or the refusal of its edits. It is promised if the content is
--- visible to the proof in the state `src`.
+-- visible to the proof in the state `src`; `r` has the live files of a state. The contract of `open_trees` promises it.
 abbrev pub AnswersTrees : {S : Type 0} → Ghosts S → S → FileId → FileOutline → Result Trees PlanEnd → Type 0
 AnswersTrees r src file outline result = IfOutline r src file outline (λ bytes. Gives (if_editable (trees_of bytes outline.segment)) result)

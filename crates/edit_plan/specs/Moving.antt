@@ -13,8 +13,8 @@ use Rattle.edit_plan.specs.declared.prepared.Prepared.{Prepared}
 use Rattle.edit_plan.specs.Shown.{written}
 use Rattle.edit_plan.specs.Made.{in_room, size_refused, tail_refused}
 
--- the first refusal of the parts `ps` in a file with the outline `o`, in the order of the checks. `length` bytes are written in all, and `added` of
--- them appended. The SeekHead needs `need` bytes and has `room`.
+-- the first refusal of the parts `ps` in a file with the outline `o`, in the order of the checks, or None. `length` bytes are written in all, and
+-- `added` of them appended. The SeekHead needs `need` bytes and has `room`. The contract of `moving_refusal` promises it.
 abbrev pub refused : FileOutline → List Part → ℕ → ℕ → ℕ → ℕ → Option Refusal
 refused o ps length added need room =
     first_refusal (too_large length ps
@@ -23,14 +23,14 @@ refused o ps length added need room =
     ∷ lacks SeekHead need room
     ∷ size_refused o ps added ∷ [])
 
--- In the outline `o`, the ends that headers state have 64 bits, and the Segment's size field has at most eight bytes. The writes of a move are
--- promised only then.
+-- In the outline `o`, the ends that headers state have 64 bits, and the Segment's size field has at most eight bytes. Contracts promise the writes of
+-- a move only then. Used by `moving_writes` and `parts_writes`.
 pub record CanMove (o : FileOutline) : Type 0 where
   pub ends : EndsFit o
   pub size : size_width o.segment ≤ 8
 
 -- The writes `p` are made of the parts `ps` and the SeekHead with new Seeks for `ids`, before any check. `old` is the old SeekHead, and `o` the
--- outline of the file.
+-- outline of the file. The contract of `prepared` promises it.
 pub record IsPrepared (ids : List ℕ) (o : FileOutline) (ps : List Part) (old : Option SeekHeadAt) (p : Prepared) : Type 0 where
   pub head : p.head.items ≡ in_room (seek_head ids o ps old) (room_of old o.others)
   pub need : p.need ≡ length (octets_of (seek_head ids o ps old))

@@ -10,14 +10,17 @@ use Rattle.edit_plan.specs.declared.part.Part.{Part}
 use Rattle.edit_plan.specs.declared.seek_rule.Rewriting.{Rewriting}
 use Rattle.edit_plan.specs.declared.write.Write.{Write}
 
--- the code's part `p`, as the definitions of edits have it
+-- the code's part `p` of a plan, as the definitions of edits have it. Contracts of planning compare the two with it. Used by `moving_body`, `moves`
+-- and others.
 abbrev pub shown : Part → spec.Part
 shown p = record { id = p.id; place = p.place; room = p.room; nodes = p.nodes; element = option_map (element p.id) p.body }
 
--- the code's write `w`, as the definitions of edits have it
+-- the code's write `w` of a plan, as the definitions of edits have it. Contracts of planning compare the two with it. Used by `moving_len`, `joined`
+-- and others.
 abbrev pub written : Write → disk.Write
 written w = record { at = w.at; bytes = w.octets.items }
 
--- the writes of `parts` to a file with the content `bytes` and the outline `o`, or the first refusal. The rule `r` is for the SeekHead.
+-- the writes of `parts` to a file with the content `bytes` and the outline `o`, or the first refusal. The rule `r` is for the SeekHead. Contracts of
+-- planning promise it.
 abbrev pub writes_in : Rewriting → List ℕ → FileOutline → List Part → Result (List disk.Write) Refusal
 writes_in r bytes o parts = spec.writes_of_parts r.ids.now r.always bytes o (map shown parts)

@@ -4,7 +4,7 @@ use Rattle.std.specs.List.{All, AllPass}
 use Rattle.ebml_numbers.specs.Number.{is_id}
 use Rattle.mkv_schema.specs.declared.ids.TheConstants.{CLUSTER}
 
--- Seeks can be made for `ids`: they are valid IDs of Elements other than Clusters.
+-- Seeks can be made for `ids`: they are valid IDs of Elements other than Clusters. Code that plans a new SeekHead requires it.
 pub record AreSought (ids : List ℕ) : Type 0 where
   pub valid : AllPass is_id ids
   pub others : All (λ id. (id == CLUSTER) ≡ false) ids

@@ -15,7 +15,8 @@ use output_model::Seek;
 use std::alloc::{AllocError, Global};
 
 /// Returns the body of the new Element of `part`, if it is appended to the file since it is longer than its room.
-/// Returns None if it stays at its place or is removed.
+/// Returns None if it stays at its place or is removed. The helpers that append Elements or make their Seeks call it.
+/// Used by `moves`, `moving_seeks` and others.
 fn moving_body(part: &Part) -> Option<&[u8]>
     ensures { MatchOption result (spec.moves (shown part.now) ≡ false) (λ body. MovesWith part.now body.now) }
 {
@@ -26,14 +27,16 @@ fn moving_body(part: &Part) -> Option<&[u8]>
     Some(body)
 }
 
-/// Checks whether the new Element of `part` is longer than its room, so that it is appended to the file.
+/// Checks whether the new Element of `part` is longer than its room, so that it is appended to the file. `any_moves`
+/// and `duplicates` call it for each part of a plan.
 fn moves(part: &Part) -> bool
     ensures { result ≡ spec.moves (shown part.now) }
 {
     moving_body(part).is_some()
 }
 
-/// Checks whether the new Element of one of `parts` is appended to the file.
+/// Checks whether the new Element of one of `parts` is appended to the file. A plan then writes the SeekHead and the
+/// Segment's size too, and checks the file's end.
 pub fn any_moves(parts: &[Part]) -> bool
     ensures { result ≡ list_any spec.moves (map shown parts.now) }
 {
@@ -45,8 +48,9 @@ pub fn any_moves(parts: &[Part]) -> bool
     false
 }
 
-/// Returns the Seeks of the Elements in `parts` that are appended to the file. The first of them is at offset `from` in
-/// the Segment's data. An offset that exceeds 64 bits fails as out of memory.
+/// Returns the Seeks of the Elements in `parts` that are appended to the file, for the new SeekHead. The first of them
+/// is at offset `from` in the Segment's data, in bytes. An offset that exceeds 64 bits fails as out of memory. Used by
+/// `seeks`.
 pub fn moving_seeks(alloc: Global, from: u64, parts: &[Part]) -> Result<Vec<Seek>, AllocError>
     ensures { IfOk result (λ seeks. seeks.items ≡ seeks_from from (spec.elements_moving (map shown parts.now))) }
 {
@@ -64,8 +68,8 @@ pub fn moving_seeks(alloc: Global, from: u64, parts: &[Part]) -> Result<Vec<Seek
     Ok(seeks)
 }
 
-/// Returns the bytes that are appended to the file: the new Elements in `parts` that are longer than their room, in
-/// sequence.
+/// Returns the bytes that `moving_writes` appends to the file: the new Elements in `parts` that are longer than their
+/// room, in sequence.
 pub fn appended(alloc: Global, parts: &[Part]) -> Result<Vec<u8>, AllocError>
     ensures { IfOk result (λ octets. octets.items ≡ spec.appended (map shown parts.now)) }
 {
@@ -79,8 +83,8 @@ pub fn appended(alloc: Global, parts: &[Part]) -> Result<Vec<u8>, AllocError>
     Ok(out)
 }
 
-/// Returns the refusal for the first of `parts` that moves to the file's end and has a twin in `outline`. A twin is
-/// another Element with the same ID.
+/// Returns the refusal for the first of `parts` that moves to the file's end and has a twin in `outline`, or None. A
+/// twin is another Element with the same ID. `moving_refusal` asks for it.
 pub fn duplicates(outline: &Outline, parts: &[Part]) -> Option<Refusal>
     ensures { result ≡ spec.twin_refusal outline.now.others (spec.moving (map shown parts.now)) }
 {
@@ -95,7 +99,7 @@ pub fn duplicates(outline: &Outline, parts: &[Part]) -> Option<Refusal>
 }
 
 /// Returns the greatest number of Elements that one of `parts`, the Elements at level 1 that an edit rewrites or
-/// removes, writes with itself included; 0 without parts. An edit is refused if it exceeds `MAX_NODES`.
+/// removes, writes with itself included; 0 without parts. `too_large` refuses an edit if it exceeds `MAX_NODES`.
 pub fn most_nodes(parts: &[Part]) -> u64
     ensures { result ≡ spec.most_nodes (map shown parts.now) }
 {

@@ -28,7 +28,7 @@ use mkv_schema::ids::SEEK_HEAD;
 use std::alloc::{AllocError, Global};
 
 /// Returns the writes of `parts` if none of them moves and the SeekHead stays, sorted by offset; or the refusal for too
-/// much to write.
+/// much to write. `parts_writes` calls it.
 pub fn place_writes(alloc: Global, parts: &[Part]) -> Result<Vec<Write>, PlanEnd>
     ensures exact { Answers (spec.writes_in_place (map shown parts.now)) result }
     ensures cause { IfErr result (λ end. is_plan_fault end ≡ false) }
@@ -41,8 +41,9 @@ pub fn place_writes(alloc: Global, parts: &[Part]) -> Result<Vec<Write>, PlanEnd
     Ok(ascending(alloc, writes)?)
 }
 
-/// Returns the number of bytes of all writes together. They are `places` over the old Elements, `added` at the end of
-/// the file, `head` of the SeekHead and `size` of the Segment's size.
+/// Returns the number of bytes of all writes of a plan together, for the limit of 16 MiB. They are `places` over the
+/// old Elements, `added` at the end of the file, `head` of the SeekHead and `size` of the Segment's size. Used by
+/// `prepared`.
 fn moving_len(places: &[Write], added: u64, head: u64, size: u64) -> Result<u64, AllocError>
     ensures exact { IfOk result (λ n. n ≡ sum_by (λ w. length w.bytes) (map written places.now) + added + head + size) }
 {
@@ -86,7 +87,7 @@ fn prepared(
     })
 }
 
-/// Returns the writes `first` followed by the writes `second`.
+/// Returns the writes `first` followed by the writes `second`, for `assembled`.
 fn joined(mut first: Vec<Write>, second: Vec<Write>) -> Result<Vec<Write>, AllocError>
     ensures { IfOk result (λ all. map written all.items ≡ map written first.items ++ map written second.items) }
 {
@@ -96,7 +97,8 @@ fn joined(mut first: Vec<Write>, second: Vec<Write>) -> Result<Vec<Write>, Alloc
     Ok(first)
 }
 
-/// Returns `first` and `writes` together, sorted by offset.
+/// Returns `first`, the write of the SeekHead, and `writes`, over the old Elements, together, sorted by offset.
+/// `moving_writes` calls it.
 fn sorted(alloc: Global, first: Write, mut writes: Vec<Write>) -> Result<Vec<Write>, AllocError>
     ensures { IfOk result (λ all. map written all.items ≡ spec.ascending (written first ∷ map written writes.items)) }
 {
@@ -105,7 +107,7 @@ fn sorted(alloc: Global, first: Write, mut writes: Vec<Write>) -> Result<Vec<Wri
 }
 
 /// Returns the write of the size of `segment`, then `writes`, then `last`, the write at the end of the file. The
-/// Segment ends at the offset `end` afterwards.
+/// Segment ends at the offset `end` afterwards. `moving_writes` calls it if something is appended.
 fn assembled(
     alloc: Global,
     segment: &Header,
@@ -124,8 +126,8 @@ fn assembled(
 }
 
 /// Returns the writes of `parts`, and of the SeekHead with new Seeks for `ids`, sorted by offset; or the first refusal.
-/// `head` is the old SeekHead, and `outline` the file's. It is for an edit that moves an Element, or that always writes
-/// the SeekHead.
+/// `head` is the old SeekHead, and `outline` the file's. `parts_writes` calls it if an Element moves, or if the
+/// SeekHead is always written.
 pub fn moving_writes(
     alloc: Global,
     ids: &[u32],

@@ -20,8 +20,8 @@ use mkv_schema::ids::{INFO, TRACKS};
 use requests::Edit;
 use std::alloc::{AllocError, Global};
 
-/// Returns the bytes of the Elements `nodes`, in sequence: the body of their parent. More bytes than a file can have
-/// fail as out of memory.
+/// Returns the bytes of the Elements `nodes`, in sequence: the body of the new Info or Tracks. More bytes than a file
+/// can have fail as out of memory. `part` calls it.
 fn body_of(alloc: Global, nodes: &[Tree]) -> Result<Bytes, AllocError>
     ensures exact { IfOk result (λ body. body ≡ flat_map octets nodes.now) }
     ensures short { IfOk result (λ body. length body ≤ 2 ^ 48) }
@@ -37,7 +37,7 @@ fn body_of(alloc: Global, nodes: &[Tree]) -> Result<Bytes, AllocError>
 }
 
 /// Makes the part that replaces the Element with this `header` at level 1 of `outline` by one with the children
-/// `nodes`.
+/// `nodes`, for `add_part`.
 fn part(
     alloc: Global,
     outline: &Outline,
@@ -61,7 +61,7 @@ fn part(
 }
 
 /// Appends to `parts` the first Element with the ID `id` at level 1 of `outline`, with the new children `nodes`. It
-/// appends nothing if there is none.
+/// appends nothing if there is none. `parts` does this for the Info and for Tracks.
 #[tactic(auto, using(crate::proofs::PartLemmas::firsts))]
 fn add_part(
     alloc: Global,
@@ -81,7 +81,7 @@ fn add_part(
     Ok(())
 }
 
-/// Returns the children of the Info in the edited `trees`; none if there is no Info.
+/// Returns the children of the Info in the edited `trees`, which `parts` writes again; none if there is no Info.
 fn info_nodes(trees: &Trees) -> &[Tree]
     ensures { result.now ≡ spec.info_nodes trees.now.info }
 {
@@ -91,22 +91,23 @@ fn info_nodes(trees: &Trees) -> &[Tree]
     }
 }
 
-/// Checks whether one of `edits` is about the Info.
+/// Checks whether one of `edits` is about the Info, which is then written again. `parts` calls it.
 fn are_of_info(edits: &List<Edit>) -> bool
     ensures { result ≡ change.are_of_info edits.now }
 {
     edits.as_slice().iter().any(|edit| is_info(edit.place))
 }
 
-/// Checks whether one of `edits` is about a track.
+/// Checks whether one of `edits` is about a track. Tracks is then written again. `parts` calls it.
 fn are_of_tracks(edits: &List<Edit>) -> bool
     ensures { result ≡ change.are_of_tracks edits.now }
 {
     edits.as_slice().iter().any(|edit| !is_info(edit.place))
 }
 
-/// Returns the Info and the Tracks with their edited children in `trees`, in this order, each if one of `edits` is
-/// about it. `outline` is the file's.
+/// Returns the parts of the plan of an edit: the Info and the Tracks, in this order, each if one of `edits` is about
+/// it. Their edited children are in `trees`, and `outline` is the file's. `edit_writes` calls it after the edits are
+/// made.
 #[tactic(auto, unfolding(ebml_numbers::specs::Number::is_id))]
 pub fn parts(
     alloc: Global,

@@ -7,15 +7,16 @@ ghost use Rattle.tree_format.specs.Standing.{kept, kept_all};
 use ebml_tree::Tree;
 use std::alloc::AllocError;
 
-/// Returns `a + b`. A sum above 64 bits fails as out of memory.
+/// Returns `a + b`, for the lengths and counts of a plan. A sum above 64 bits fails as out of memory. Used by
+/// `moving_seeks`, `moving_len` and others.
 pub(crate) fn sum(a: u64, b: u64) -> Result<u64, AllocError>
     ensures { IfOk result (λ n. n ≡ a + b) }
 {
     a.checked_add(b).ok_or(AllocError)
 }
 
-/// Returns the number of Elements that are written for `tree`, itself included. A child that isn't written, such as a
-/// Void, counts as none.
+/// Returns the number of Elements that are written for `tree`, itself included, for `kept_all`. A child that isn't
+/// written, such as a Void, counts as none.
 fn kept(tree: &Tree) -> Result<u64, AllocError>
     ensures { IfOk result (λ n. n ≡ kept tree.now) }
 {
@@ -29,7 +30,7 @@ fn kept(tree: &Tree) -> Result<u64, AllocError>
 }
 
 /// Returns the number of Elements that are written for `trees`, the children of one master, with all that is inside
-/// them.
+/// them. An edit is refused if a new Element has too many. Used by `part`.
 pub(crate) fn kept_all(trees: &[Tree]) -> Result<u64, AllocError>
     ensures { IfOk result (λ n. n ≡ kept_all (nodes_of trees.now)) }
 {

@@ -12,7 +12,7 @@ use element_reader::Outline;
 use output_model::Seek;
 use std::alloc::{AllocError, Global};
 
-/// Checks whether one of `parts` removes the Element with the ID `id`, so that it gets no Seek.
+/// Checks whether one of `parts` removes the Element with the ID `id`, so that it gets no Seek from `standing_seek`.
 fn goes(parts: &[Part], id: u32) -> bool
     ensures { result ≡ spec.goes (map shown parts.now) id }
 {
@@ -24,8 +24,8 @@ fn goes(parts: &[Part], id: u32) -> bool
     false
 }
 
-/// Returns the Seek for the ID `id` in `moved`, if it is there. `moved` has the Seeks of the Elements that are appended
-/// to the file.
+/// Returns the Seek for the ID `id` in `moved`, or None if it isn't there. `moved` has the Seeks of the Elements that
+/// are appended to the file. `seek_for` asks for it first.
 fn appended_seek(moved: &[Seek], id: u32) -> Option<Seek>
     ensures { result ≡ find (λ s. s.id == id) moved.now }
 {
@@ -37,8 +37,8 @@ fn appended_seek(moved: &[Seek], id: u32) -> Option<Seek>
     None
 }
 
-/// Returns the Seek of the first existing Element with the ID `id` at level 1 of `outline`. Returns None if there is
-/// none, or if one of `parts` removes it.
+/// Returns the Seek of the first existing Element with the ID `id` at level 1 of `outline`, for `seek_for`. Returns
+/// None if there is none, or if one of `parts` removes it.
 fn standing_seek(outline: &Outline, parts: &[Part], id: u32) -> Option<Seek>
     requires { (id == CLUSTER) ≡ false }
     ensures { result ≡ spec.standing_seek outline.now (map shown parts.now) id }
@@ -53,8 +53,9 @@ fn standing_seek(outline: &Outline, parts: &[Part], id: u32) -> Option<Seek>
     })
 }
 
-/// Returns the Seek for the ID `id`: in `moved`, the Seeks of the appended Elements, or else of the first existing
-/// Element in `outline`. It is None if there is neither, or if one of `parts` removes the Element.
+/// Returns the Seek for the ID `id` in the new SeekHead. It is in `moved`, the Seeks of the appended Elements, or else
+/// points to the first existing Element in `outline`. It is None if there is neither, or if one of `parts` removes the
+/// Element. `seeks_for` calls it.
 fn seek_for(outline: &Outline, parts: &[Part], moved: &[Seek], id: u32) -> Option<Seek>
     requires { (id == CLUSTER) ≡ false }
     ensures { result ≡ spec.seek_for moved.now outline.now (map shown parts.now) id }
@@ -65,8 +66,8 @@ fn seek_for(outline: &Outline, parts: &[Part], moved: &[Seek], id: u32) -> Optio
     }
 }
 
-/// Returns the Seeks for `ids`, in this order, without those that have no Element in `outline` after `parts` are
-/// written. `moved` has the Seeks of the appended Elements.
+/// Returns the Seeks for `ids`, in this order, for `seeks`. IDs that have no Element in `outline` after `parts` are
+/// written are left out. `moved` has the Seeks of the appended Elements.
 fn seeks_for(
     alloc: Global,
     ids: &[u32],
@@ -86,8 +87,8 @@ fn seeks_for(
     Ok(seeks)
 }
 
-/// Returns the new Seeks for `ids`, in this order, after `parts` are written. An ID without an Element has none.
-/// `outline` is the file's.
+/// Returns the new Seeks for `ids`, in this order, after `parts` are written, for the new SeekHead. An ID without an
+/// Element has none. `outline` is the file's. `new_seek_head` calls it.
 pub fn seeks(
     alloc: Global,
     ids: &[u32],

@@ -15,8 +15,8 @@ use mkv_io::{FileId, List, ReadEnd, Reads};
 use mkv_schema::ids::SEEK_HEAD;
 use std::alloc::Global;
 
-/// Returns the header of the first SeekHead at level 1 of the file with this `outline`, if it is before the first
-/// Cluster.
+/// Returns the header of the first SeekHead at level 1 of the file with this `outline`. It is None unless that is
+/// before the first Cluster. `first_seek_head` reads that SeekHead.
 fn seek_head_in(outline: &Outline) -> Option<Header>
     ensures exact { result ≡ spec.seek_head_in outline.now }
     ensures inside { IfSome result (IsInFile outline.now.total) }
@@ -28,8 +28,9 @@ fn seek_head_in(outline: &Outline) -> Option<Header>
     }
 }
 
-/// Reads the first SeekHead of `file`, if it is before the first Cluster; `outline` is the file's. One that is longer
-/// than 16 MiB or damaged counts as none. It fails only if a read fails or memory runs out.
+/// Reads the first SeekHead of `file`, if it is before the first Cluster, so that `parts_writes` can replace it.
+/// `outline` is the file's. One that is longer than 16 MiB or damaged counts as none. It fails only if a read fails or
+/// memory runs out.
 pub fn first_seek_head<R: Reads>(
     alloc: Global,
     outline: &Outline,

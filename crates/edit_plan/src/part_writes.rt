@@ -22,7 +22,7 @@ use std::alloc::Global;
 
 /// Returns the writes that replace `parts` in `file`, sorted by offset, or the first refusal. `outline` lists the
 /// file's Elements at level 1. If a part moves, or `rewriting` asks for it, the old SeekHead is read and a new one is
-/// written. Nothing is written yet.
+/// written. `propedit` and `reindex` end their plans so. Nothing is written yet.
 pub fn parts_writes<R: Reads>(
     alloc: Global,
     rewriting: &Rewriting,

@@ -21,6 +21,7 @@ pub enum PlanEnd {
 impl From<AllocError> for PlanEnd {
     ghost from_gives = { λ _ e. e ≡ end.Memory };
 
+    /// Converts a failed allocation, for `?` in the functions that plan an edit.
     fn from(_error: AllocError) -> PlanEnd {
         PlanEnd::Memory
     }
@@ -29,6 +30,7 @@ impl From<AllocError> for PlanEnd {
 impl From<Failed> for PlanEnd {
     ghost from_gives = { λ _ e. e ≡ end.ReadFault };
 
+    /// Converts a failed read, for `?` in the functions that plan an edit.
     fn from(_failed: Failed) -> PlanEnd {
         PlanEnd::ReadFault
     }

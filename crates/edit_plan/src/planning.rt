@@ -27,7 +27,7 @@ use std::alloc::Global;
 /// IDs of the Elements that edits rewrite. If one of them moves, the SeekHead gets new Seeks for both.
 const EDITED: [u32; 2] = [INFO, TRACKS];
 
-/// Reads the outline of `file`, its Elements at level 1, for an edit. Damage at level 1 is refused.
+/// Reads the outline of `file`, its Elements at level 1, when `edit_writes` begins. Damage at level 1 is refused.
 #[tactic(auto, using(crate::proofs::StepLemmas::opens))]
 fn open_outline<R: Reads>(alloc: Global, src: &mut R, file: FileId) -> Result<Outline, PlanEnd>
     requires { IsLive R.Reads src.old file }
@@ -51,8 +51,8 @@ fn open_outline<R: Reads>(alloc: Global, src: &mut R, file: FileId) -> Result<Ou
     Ok(outline)
 }
 
-/// Reads the parts of `file` that edits change, its Info and Tracks; `outline` is the file's. Damage or an invalid
-/// value in them is refused.
+/// Reads the parts of `file` that edits change, its Info and Tracks, for `edit_writes`; `outline` is the file's. Damage
+/// or an invalid value in them is refused.
 #[tactic(auto, using(crate::proofs::StepLemmas::opens))]
 fn open_trees<R: Reads>(
     alloc: Global,
@@ -76,7 +76,7 @@ fn open_trees<R: Reads>(
     }
 }
 
-/// Makes `edits` in sequence on `trees`, in memory, or returns the first refusal.
+/// Makes `edits` in sequence on `trees`, in memory, for `edit_writes`, or returns the first refusal.
 fn edit_trees(alloc: Global, trees: Trees, edits: &List<Edit>) -> Result<Trees, PlanEnd>
     requires { AreSound trees }
     ensures exact { Gives (change.edited_trees edits.now trees) result }
@@ -89,8 +89,8 @@ fn edit_trees(alloc: Global, trees: Trees, edits: &List<Edit>) -> Result<Trees, 
     }
 }
 
-/// Returns the writes of `edits` to `file`, sorted by offset, or the first reason to refuse the file, an edit, or the
-/// writes. Each edit is made on the result of the previous one. The file is read, and nothing is written.
+/// Returns the writes of `edits` to `file`, sorted by offset, for `plan`; or the first reason to refuse the file, an
+/// edit, or the writes. Each edit is made on the result of the previous one. The file is read, and nothing is written.
 pub fn edit_writes<R: Reads>(
     alloc: Global,
     src: &mut R,

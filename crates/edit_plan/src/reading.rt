@@ -22,8 +22,8 @@ use mkv_schema::ids::{CHAPTERS, INFO, TAGS, TRACKS};
 use std::alloc::Global;
 use track_records::read_tracks;
 
-/// Returns the Tracks `tracks` that was read, after a check of its entries. A file without Tracks is refused, at the
-/// offset of its `segment`.
+/// Returns the Tracks `tracks` that was read, after a check of its entries, for `read_trees`. A file without Tracks is
+/// refused, at the offset of its `segment`.
 fn good_tracks(alloc: Global, segment: &Header, tracks: Option<Tree>) -> Result<Tree, OutlineEnd>
     requires { IfSome tracks (IsRead TRACKS_ID) }
     ensures exact { ReadsAs (spec.good_tracks segment.now tracks) result }
@@ -44,9 +44,9 @@ fn good_tracks(alloc: Global, segment: &Header, tracks: Option<Tree>) -> Result<
     }
 }
 
-/// Reads the Info and Tracks of `file`, whose outline is `outline`, or returns the first refusal. Each of the two is
-/// checked for damage inside, and then for a refused value. Then Attachments, Chapters and Tags are checked for damage
-/// inside.
+/// Reads the Info and Tracks of `file`, whose outline is `outline`, before a plan of `propedit` or `reindex`; or
+/// returns the first refusal. Each of the two is checked for damage inside, and then for a refused value. Then
+/// Attachments, Chapters and Tags are checked for damage inside.
 #[tactic(auto, using(crate::proofs::TreesLemmas::reads))]
 pub fn read_trees<R: Reads>(
     alloc: Global,

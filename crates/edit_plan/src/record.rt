@@ -24,7 +24,7 @@ use requests::Edit;
 use sidecar_edit::{KEPT, MAX_OCTETS, MAX_WRITES, Place, Plan, read_first};
 use std::alloc::{AllocError, Global};
 
-/// Returns the offset and length of each of `writes`, as the journal has them.
+/// Returns the offset and length in bytes of each of `writes`, as the journal has them, for `recorded`.
 fn places_of(alloc: Global, writes: &[Write]) -> Result<Vec<Place>, AllocError>
     ensures { IfOk result (λ places. places.items ≡ map spec.place (map written writes.now)) }
 {
@@ -38,7 +38,7 @@ fn places_of(alloc: Global, writes: &[Write]) -> Result<Vec<Place>, AllocError>
     Ok(places)
 }
 
-/// Returns the bytes of `writes`, in sequence: the journal's payload.
+/// Returns the bytes of `writes`, in sequence: the journal's payload, for `recorded`.
 fn payload_of(alloc: Global, writes: &[Write]) -> Result<Bytes, AllocError>
     ensures { IfOk result (λ payload. payload ≡ flat_map (λ (w : disk.Write). w.bytes) (map written writes.now)) }
 {
@@ -49,9 +49,9 @@ fn payload_of(alloc: Global, writes: &[Write]) -> Result<Bytes, AllocError>
     Ok(payload)
 }
 
-/// Returns the offset after the last of `places`, if they are in ascending order from the offset `from` on. None of
-/// them may be empty, or begin past the end of a file of `old_len` bytes with the previous places written. Returns None
-/// if not.
+/// Returns the offset after the last of `places`, if they are in ascending order from the offset `from` on, for
+/// `recorded`. None of them may be empty, or begin past the end of a file of `old_len` bytes with the previous places
+/// written. Returns None if not.
 fn end_behind(old_len: u64, from: u64, places: &[Place]) -> Option<u64>
     requires short { old_len ≤ LONGEST }
     requires small { sum_of places.now ≤ MOST }
@@ -67,8 +67,9 @@ fn end_behind(old_len: u64, from: u64, places: &[Place]) -> Option<u64>
     end_behind(old_len, place.at + place.len, rest)
 }
 
-/// Makes the journal's record of `writes` over a file of `old_len` bytes that begins with `first`. Writes that can't be
-/// recorded fail as out of memory; the writes of edits can.
+/// Makes the journal's record of `writes` over a file of `old_len` bytes that begins with `first`. `propedit` and
+/// `reindex` do this at the end of their plan. Writes that can't be recorded fail as out of memory; the writes of edits
+/// can.
 pub fn recorded(
     alloc: Global,
     old_len: u64,

@@ -15,7 +15,7 @@ use edit_changes::{MAX_WRITTEN, Refusal, Room, lacks, size_refusal, tail_refusal
 use element_reader::Outline;
 
 /// Returns the refusal if `length`, the bytes of all writes, is more than 16 MiB, or if one of `parts` has too many
-/// Elements.
+/// Elements. Both kinds of plan ask for it first.
 pub fn too_large(length: u64, parts: &[Part]) -> Option<Refusal>
     ensures exact { result ≡ spec.too_large length (map shown parts.now) }
     ensures small { result ≡ None → length ≤ MOST }
@@ -28,7 +28,7 @@ pub fn too_large(length: u64, parts: &[Part]) -> Option<Refusal>
 }
 
 /// Returns the refusal if one of `parts` is appended to the file, and the Segment or the last Cluster doesn't end with
-/// the file. `outline` is the file's.
+/// the file; or None. `outline` is the file's. `moving_refusal` calls it.
 fn end_refusal(outline: &Outline, parts: &[Part]) -> Option<Refusal>
     ensures { EndsFit outline.now → result ≡ tail_refused outline.now (map shown parts.now) }
 {
@@ -39,7 +39,7 @@ fn end_refusal(outline: &Outline, parts: &[Part]) -> Option<Refusal>
 }
 
 /// Returns the refusal if one of `parts` is appended to the file, and the Segment's size field is too short for `added`
-/// bytes more. `outline` is the file's.
+/// bytes more; or None. `outline` is the file's. `moving_refusal` ends with it.
 fn growth_refusal(outline: &Outline, parts: &[Part], added: u64) -> Option<Refusal>
     requires { outline.now.total + added ≤ 2 ^ 50 }
     ensures { result ≡ size_refused outline.now (map shown parts.now) added }
@@ -50,9 +50,9 @@ fn growth_refusal(outline: &Outline, parts: &[Part], added: u64) -> Option<Refus
     None
 }
 
-/// Returns the first refusal of the writes of `parts`, in the order of the checks, for the file with this `outline`.
-/// `length` bytes are written in all, and `added` of them appended to the file. The new SeekHead has `need` bytes in
-/// its shortest form, and the old one leaves `room`.
+/// Returns the first refusal of the writes of `parts`, in the order of the checks, for the file with this `outline`, or
+/// None. `length` bytes are written in all, and `added` of them appended to the file. The new SeekHead has `need` bytes
+/// in its shortest form, and the old one leaves `room`. `moving_writes` asks for it before it joins its writes.
 pub fn moving_refusal(
     outline: &Outline,
     parts: &[Part],

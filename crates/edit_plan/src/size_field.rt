@@ -27,7 +27,8 @@ use mkv_io::{Bytes, LONGEST_FILE};
 use mkv_schema::ids::SEGMENT;
 use std::alloc::{AllocError, Global};
 
-/// Returns the children of the old SeekHead `head`, or none if there is no SeekHead.
+/// Returns the children of the old SeekHead `head`, or none if there is no SeekHead. `new_seek_head` copies some of
+/// them.
 fn old_seeks(head: &Option<SeekHead>) -> &[Tree]
     ensures { result.now ≡ option_map_or (λ s. s.seeks) (option_map found head.now) [] }
 {
@@ -37,8 +38,8 @@ fn old_seeks(head: &Option<SeekHead>) -> &[Tree]
     }
 }
 
-/// Returns the body of the new SeekHead: the Seeks for `ids` after `parts` are written, and the other children of the
-/// old one, `head`. `outline` is the file's.
+/// Returns the body of the new SeekHead, for `prepared`: the Seeks for `ids` after `parts` are written, and the other
+/// children of the old one, `head`. `outline` is the file's.
 #[tactic(auto, using(crate::proofs::HeadLemmas::heads))]
 pub fn new_seek_head(
     alloc: Global,
@@ -60,7 +61,7 @@ pub fn new_seek_head(
 }
 
 /// Returns the room in bytes of the old SeekHead `head` in `outline`: its length and the Voids directly after it, or 0
-/// if there is none.
+/// if there is none. The new SeekHead must fit in it. `prepared` calls it.
 pub fn room_of(outline: &Outline, head: &Option<SeekHead>) -> u64
     requires { IfSome head.now (λ s. IsInFile outline.now.total s.header) }
     ensures exact { result ≡ spec.room_of (option_map found head.now) outline.now.others }
@@ -72,7 +73,8 @@ pub fn room_of(outline: &Outline, head: &Option<SeekHead>) -> u64
     }
 }
 
-/// Returns the offset in the file of the old SeekHead `head`, or 0 if there is none.
+/// Returns the offset in the file of the old SeekHead `head`, where `moving_writes` puts the new one, or 0 if there is
+/// none.
 pub fn place_of(head: &Option<SeekHead>) -> u64
     ensures { result ≡ spec.place_of (option_map found head.now) }
 {
@@ -82,8 +84,8 @@ pub fn place_of(head: &Option<SeekHead>) -> u64
     }
 }
 
-/// Returns bytes for the ID `id` and the body `body` that fill `room` bytes. An Element that is longer is returned in
-/// its shortest form; the caller then refuses the edit.
+/// Returns bytes for the ID `id` and the body `body` of the new SeekHead that fill `room` bytes. An Element that is
+/// longer is returned in its shortest form; the caller then refuses the edit.
 pub fn fitted_or_whole(
     alloc: Global,
     id: u32,
@@ -102,7 +104,7 @@ pub fn fitted_or_whole(
 }
 
 /// Returns the number of bytes that a write of the size of `segment` takes: its size field, or 0 if the size is
-/// unknown.
+/// unknown. `size_added` calls it.
 fn size_len(segment: &Header) -> u64
     ensures { result ≡ spec.size_length segment.now }
 {
@@ -113,7 +115,7 @@ fn size_len(segment: &Header) -> u64
 }
 
 /// Returns the number of bytes that the edit writes for the Segment's size in `outline`: 0 unless one of `parts` is
-/// appended to the file.
+/// appended to the file. `prepared` counts it in the length of all writes.
 pub fn size_added(outline: &Outline, parts: &[Part]) -> u64
     ensures { result ≡ if list_any spec.moves (map shown parts.now) then spec.size_length outline.now.segment else 0 }
 {
@@ -123,8 +125,8 @@ pub fn size_added(outline: &Outline, parts: &[Part]) -> u64
     0
 }
 
-/// Returns the write of the size field of `segment`, which ends at the offset `end` after the edit; none if its size is
-/// unknown.
+/// Returns the write of the size field of `segment`, which ends at the offset `end` after the edit, as a list of one;
+/// none if its size is unknown. `assembled` puts it first.
 #[tactic(auto, unfolding(ebml_numbers::specs::Number::is_id), using(crate::proofs::SizeLemmas::sizes))]
 pub fn size_write(alloc: Global, segment: &Header, end: u64) -> Result<Vec<Write>, AllocError>
     requires end { end ≤ 2 ^ 50 }

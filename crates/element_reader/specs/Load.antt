@@ -9,7 +9,7 @@ use Rattle.mkv_schema.specs.Outline.{over, is_described}
 use Rattle.element_reader.specs.declared.loading.LoadEnd.{LoadEnd}
 use Rattle.element_reader.specs.declared.loading.LoadEnd.TheVariants as load_end
 
--- the greatest length in bytes of the data that is loaded for an Element with the ID `id`, if there is a limit
+-- the greatest length in bytes of the data that is loaded for an Element with the ID `id`, or None if there is no limit; for `too_large`
 abbrev pub limit_of : ℕ → Option ℕ
 limit_of id =
     if id == EBML then Some MAX_HEADER_LEN else
@@ -17,11 +17,11 @@ limit_of id =
     if id == CUES then Some MAX_CUES_LEN else
     None
 
--- the damage of the Element with the header `h`, if its data is longer than the limit for its ID
+-- the damage of the Element with the header `h`, if its data is longer than the limit for its ID, so that `load` refuses it
 abbrev pub too_large : Header → Option Damage
 too_large h = option_map_or (λ limit. over limit h) (limit_of h.id) None
 
--- The data of an Element wasn't loaded because a read failed.
+-- The data of an Element wasn't loaded because a read failed; the argument is the reason that `load` returned.
 abbrev pub is_load_fault : LoadEnd → Bool
 is_load_fault (load_end.TooLarge d) = false
 is_load_fault load_end.ReadFault = true

@@ -27,21 +27,22 @@ pub struct Collected {
     pub held: u64,
 }
 
-/// Checks whether `id` is the ID of Info, Tracks, Chapters or Tags, whose bytes are limited.
+/// Checks whether `id` is the ID of Info, Tracks, Chapters or Tags, whose bytes are limited while an outline is read.
 pub fn is_described(id: u32) -> bool
     ensures { result ≡ is_described id }
 {
     id == INFO || id == TRACKS || id == CHAPTERS || id == TAGS
 }
 
-/// Returns the first Element in `list` with the ID `id`.
+/// Returns the first Element in `list` with the ID `id`, or None if there is none; for `Outline::first`.
 pub fn first_of(list: &[Header], id: u32) -> Option<Header>
     ensures { result ≡ first_of id list.now }
 {
     list.iter().copied().find(|header| header.id == id)
 }
 
-// Returns the length of the data of `header` in bytes if it is an Info, Tracks, Chapters or Tags, or else 0.
+// Returns the length of the data of `header` in bytes if it is an Info, Tracks, Chapters or Tags, or else 0. `add`
+// counts it against the limit of 64 MiB.
 fn described_octets(header: &Header) -> u64
     ensures { result ≡ described_octets header.now }
 {
@@ -55,7 +56,8 @@ fn described_octets(header: &Header) -> u64
 impl Collected {
     ghost use Rattle.element_reader.specs.Collected.{AddsOther, Keeps, KeepsAlso, OfKept, RefusesAs, unless_cluster};
 
-    /// Returns an empty collection. `held` is the number of bytes of Info, Tracks, Chapters and Tags in earlier inputs.
+    /// Returns an empty collection, with which `collect` begins. `held` is the number of bytes of Info, Tracks,
+    /// Chapters and Tags in earlier inputs of a merge.
     pub fn new(alloc: Global, held: u64) -> Collected
         ensures none { result.others.items ≡ [] }
         ensures kept { Keeps held [] result }
@@ -68,8 +70,8 @@ impl Collected {
         }
     }
 
-    /// Keeps the Element `header`, the next at level 1. If it passes a limit, it isn't kept, and the damage is
-    /// returned.
+    /// Keeps the Element `header`, the next at level 1. If it passes a limit, it isn't kept, and its damage is
+    /// returned. Used by `collect`.
     pub fn add(&mut self, header: Header) -> Result<Option<Damage>, AllocError>
         ensures refusal { IfOk result (RefusesAs header self.old) }
         ensures others { IfOk result (AddsOther header self.old self.new) }
@@ -88,7 +90,8 @@ impl Collected {
         Ok(None)
     }
 
-    // Returns the damage of `header` if it passes a limit, by itself or with the Elements that were kept before.
+    // Returns the damage of `header` if it passes a limit, by itself or with the Elements that were kept before, or
+    // None. Used by `add`.
     fn refusal(&self, header: &Header) -> Option<Damage>
         ensures exact { RefusesAs header.now self.now result }
         ensures room { result ≡ None → self.now.held + described_octets header.now < 2 ^ 64 }
@@ -102,7 +105,8 @@ impl Collected {
         None
     }
 
-    // Checks whether `header` passes a limit of size, by itself or with the Elements that were kept before.
+    // Checks whether `header` is an Info, Tracks, Chapters or Tags that passes a limit of size. The limits are 16 MiB
+    // for itself, and 64 MiB with the ones that were kept before and the ones of earlier inputs. Used by `refusal`.
     fn passes_size(&self, header: &Header) -> bool
         ensures exact { OfKept self.now (λ held list. result ≡ passes_size held list header.now) }
         ensures room { result ≡ false → self.now.held + described_octets header.now < 2 ^ 64 }
@@ -112,7 +116,7 @@ impl Collected {
         is_described(header.id) && (size > MAX_MASTER_LEN || held > MAX_MASTERS_LEN)
     }
 
-    // Checks whether `header` passes the limit on the number of Elements at level 1 other than Clusters.
+    // Checks whether `header` passes the limit of 4,096 Elements at level 1 other than Clusters. Used by `refusal`.
     fn passes_count(&self, header: &Header) -> bool
         ensures { (held : ℕ) (list : List Placed) → Keeps held list self.now → result ≡ passes_count list header.now }
     {

@@ -27,8 +27,8 @@ use std::alloc::Global;
 /// Element ID of the EBML header, the first bytes of a file.
 const EBML_MARK: [u8; 4] = [0x1A, 0x45, 0xDF, 0xA3];
 
-// Returns the damage for which the values of an EBML header are refused. Its data is `body`, at the offset `base` of a
-// file of `total` bytes.
+// Returns the damage for which the values of an EBML header are refused, or None: its DocType, versions or maximum
+// lengths. Its data is `body`, at the offset `base` of a file of `total` bytes. Used by `header_refusal`.
 fn value_refusal(body: &[u8], base: u64, total: u64) -> Option<Damage>
     requires { base + length body.now ≤ LONGEST_FILE }
     ensures { IfSound base total body.now (λ bytes. result ≡ value_refusal bytes (in_body bytes base body.now)) }
@@ -52,8 +52,8 @@ fn value_refusal(body: &[u8], base: u64, total: u64) -> Option<Damage>
         .or(size_length)
 }
 
-/// Returns the damage for which an EBML header is refused. Its data is `body`, which isn't longer than the limit, and
-/// `total` is the length of the file.
+/// Returns the damage for which the EBML header `header` is refused, or None. Its data is `body`, which isn't longer
+/// than the limit, and `total` is the length of the file in bytes. Used by `ebml_header`.
 pub fn header_refusal(body: &[u8], header: &Header, total: u64) -> Option<Damage>
     requires few { header.now.body + length body.now ≤ LONGEST_FILE }
     requires whole { length body.now ≡ known header.now.size }
@@ -66,8 +66,9 @@ pub fn header_refusal(body: &[u8], header: &Header, total: u64) -> Option<Damage
     value_refusal(body, header.body, total)
 }
 
-// Returns the header of the Element at the start of `file`, which has `total` bytes. It is refused unless the file
-// begins with the EBML header's ID.
+// Returns the header of the Element at the start of `file`, which has `total` bytes, read through `window`. The inner
+// error is the damage of a file that doesn't begin with the EBML header's ID, or whose first Element isn't valid. Used
+// by `ebml_header`.
 fn first_element<R: Reads>(
     window: &mut Window,
     src: &mut R,
@@ -95,7 +96,7 @@ fn first_element<R: Reads>(
 }
 
 /// Reads the EBML header of `file`, which has `total` bytes, through `window`, and returns its header. The inner error
-/// is the damage for which the file is refused there.
+/// is the damage for which the file is refused there. The first step of reading an outline.
 pub fn ebml_header<R: Reads>(
     alloc: Global,
     window: &mut Window,

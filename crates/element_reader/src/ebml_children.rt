@@ -14,9 +14,9 @@ use mkv_io::{Damage, Kind};
 use mkv_schema::Header;
 use mkv_schema::ids::EBML;
 
-/// Returns the damage for which the children of an EBML header are refused. It is the first child that isn't a value of
-/// its kind, or the damage that ends them. The header's data is `body`, at the offset `base` of a file of `total`
-/// bytes.
+/// Returns the damage for which the children of an EBML header are refused, or None. It is the first child that isn't a
+/// value of its kind, or the damage that ends them. The header's data is `body`, at the offset `base` of a file of
+/// `total` bytes. Used by `header_refusal`.
 pub fn child_refusal(body: &[u8], base: u64, total: u64) -> Option<Damage>
     requires { base + length body.now ≤ LONGEST_FILE }
     ensures { IfBody base total body.now (λ bytes. result ≡ child_refusal bytes (in_body bytes base body.now)) }
@@ -37,8 +37,8 @@ pub fn child_refusal(body: &[u8], base: u64, total: u64) -> Option<Damage>
     None
 }
 
-/// Returns the first child with the ID `id` of an EBML header. The header's data is `body`, at the offset `base` of a
-/// file of `total` bytes.
+/// Returns the first child with the ID `id` of an EBML header, or None if there is none before its end or damage. The
+/// header's data is `body`, at the offset `base` of a file of `total` bytes. The checks of the header's values use it.
 pub fn first_child(body: &[u8], base: u64, total: u64, id: u32) -> Option<Header>
     requires { base + length body.now ≤ LONGEST_FILE }
     ensures exact { IfBody base total body.now (λ bytes. result ≡ first_of id (in_body bytes base body.now).list) }

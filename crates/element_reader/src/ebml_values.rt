@@ -17,7 +17,7 @@ use mkv_schema::ids::DOC_TYPE;
 use mkv_schema::{text_default, uint_default};
 
 /// Returns the unsigned integer with the ID `id` in an EBML header, or its default, or 0. The header's data is `body`,
-/// at the offset `base` of a file of `total` bytes.
+/// at the offset `base` of a file of `total` bytes. Used by `above`.
 pub fn uint_in(body: &[u8], base: u64, total: u64, id: u32) -> u64
     requires few { base + length body.now ≤ LONGEST_FILE }
     requires short { IsShortValue id }
@@ -37,7 +37,7 @@ pub fn uint_in(body: &[u8], base: u64, total: u64, id: u32) -> u64
     }
 }
 
-/// Checks whether `text` is a DocType that is read: `matroska` or `webm`.
+/// Checks whether `text` is a DocType that is read: `matroska` or `webm`. Used by `has_doc_type`.
 pub fn is_doc_type(text: &[u8]) -> bool
     ensures { result ≡ is_doc_type (Some text.now) }
 {
@@ -45,7 +45,7 @@ pub fn is_doc_type(text: &[u8]) -> bool
 }
 
 /// Checks whether the DocType of an EBML header is one that is read. The header's data is `body`, at the offset `base`
-/// of a file of `total` bytes.
+/// of a file of `total` bytes. Used by `wrong_doc_type`.
 pub fn has_doc_type(body: &[u8], base: u64, total: u64) -> bool
     requires { base + length body.now ≤ LONGEST_FILE }
     ensures { IfBody base total body.now (λ bytes. result ≡ is_doc_type (doc_type_in bytes (in_body bytes base body.now))) }
@@ -59,8 +59,9 @@ pub fn has_doc_type(body: &[u8], base: u64, total: u64) -> bool
     }
 }
 
-/// Returns the offset in the file of the first child with the ID `id`, or 0 if there is none. Damage of its value is
-/// reported there. The header's data is `body`, at the offset `base` of a file of `total` bytes.
+/// Returns the offset in the file of the first child with the ID `id` of an EBML header, or 0 if there is none. Damage
+/// of its value is reported there. The header's data is `body`, at the offset `base` of a file of `total` bytes. Used
+/// by `wrong_doc_type` and `above`.
 fn place_of(body: &[u8], base: u64, total: u64, id: u32) -> u64
     requires { base + length body.now ≤ LONGEST_FILE }
     ensures { IfBody base total body.now (λ bytes. result ≡ place_of id (in_body bytes base body.now).list) }
@@ -71,8 +72,8 @@ fn place_of(body: &[u8], base: u64, total: u64, id: u32) -> u64
     }
 }
 
-/// Returns the damage for which a file is refused whose DocType is neither `matroska` nor `webm`. Its EBML header has
-/// the data `body`, at the offset `base` of a file of `total` bytes.
+/// Returns the damage for which a file is refused whose DocType is neither `matroska` nor `webm`, or None. Its EBML
+/// header has the data `body`, at the offset `base` of a file of `total` bytes. Used by `value_refusal`.
 pub fn wrong_doc_type(body: &[u8], base: u64, total: u64) -> Option<Damage>
     requires { base + length body.now ≤ LONGEST_FILE }
     ensures { IfBody base total body.now (λ bytes. result ≡ wrong_doc_type bytes (in_body bytes base body.now).list) }
@@ -84,8 +85,9 @@ pub fn wrong_doc_type(body: &[u8], base: u64, total: u64) -> Option<Damage>
     Some(damage(Kind::DocType, DOC_TYPE, offset))
 }
 
-/// Returns damage of the kind `kind` if the unsigned integer with the ID `id` in an EBML header is above `limit`. The
-/// header's data is `body`, at the offset `base` of a file of `total` bytes.
+/// Returns damage of the kind `kind` if the unsigned integer with the ID `id` in an EBML header, such as
+/// EBMLReadVersion, is above `limit`, or else None. The header's data is `body`, at the offset `base` of a file of
+/// `total` bytes. Used by `value_refusal`.
 pub fn above(body: &[u8], base: u64, total: u64, id: u32, limit: u64, kind: Kind) -> Option<Damage>
     requires few { base + length body.now ≤ LONGEST_FILE }
     requires short { IsShortValue id }

@@ -15,7 +15,8 @@ use mkv_schema::Header;
 use mkv_schema::limits::MAX_ELEMENT_HEADER_LEN;
 
 /// Reads the header of the Element at the offset `at` of `file`, in a parent that ends at the offset `end`. Every
-/// Segment and every Cluster may have an unknown size. Reads at most `MAX_ELEMENT_HEADER_LEN` bytes.
+/// Segment and every Cluster may have an unknown size. Reads at most `MAX_ELEMENT_HEADER_LEN` bytes. For a caller that
+/// has an offset and no outline; no command uses it.
 pub fn header_at<R: Reads>(src: &mut R, file: FileId, at: u64, end: u64) -> Result<Header, HeadEnd>
     requires live { IsLive R.Reads src.old file }
     requires place { at ≤ end }

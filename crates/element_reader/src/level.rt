@@ -29,8 +29,8 @@ pub struct Level {
     pub end: u64,
 }
 
-// Returns the offset of the end of `segment`, whose Elements end at the offset `at`, with or without damage. The file
-// has `total` bytes.
+// Returns the offset of the end of `segment` in the file, whose Elements end at the offset `at`, with the damage
+// `damage` or without. The file has `total` bytes. Used by `ended`.
 fn segment_end(segment: &Header, total: u64, at: u64, damage: Option<Damage>) -> u64
     ensures { result ≡ end_met total segment.now at damage }
 {
@@ -41,8 +41,8 @@ fn segment_end(segment: &Header, total: u64, at: u64, damage: Option<Damage>) ->
     }
 }
 
-// Returns what was collected of `segment`, whose Elements end at the offset `at`, with or without damage. The file has
-// `total` bytes.
+// Returns what was collected of `segment`, `kept`, whose Elements end at the offset `at` of the file, with the damage
+// `damage` or without. The file has `total` bytes. Used by `collect`.
 fn ended(kept: Collected, segment: &Header, total: u64, at: u64, damage: Option<Damage>) -> Level
     ensures kept { result.kept ≡ kept }
     ensures level { EndsWay total segment.now at damage kept result }
@@ -51,7 +51,8 @@ fn ended(kept: Collected, segment: &Header, total: u64, at: u64, damage: Option<
     Level { kept, damage, end }
 }
 
-/// Returns the greatest offset that `segment` may reach in a file of `total` bytes.
+/// Returns the greatest offset that `segment` may reach in a file of `total` bytes. Readers of level 1 stop there. Used
+/// by `collect` and `over`.
 pub fn segment_bound(segment: &Header, total: u64) -> u64
     ensures { result ≡ (if is_unknown segment.now.size then total else end_in total segment.now) }
 {
@@ -62,8 +63,8 @@ pub fn segment_bound(segment: &Header, total: u64) -> u64
 }
 
 /// Collects the Elements at level 1 of `segment` in `file`, which has `total` bytes, through `window`. The inner error
-/// is the damage of the first one that passes a limit. Earlier inputs have `held` bytes of Info, Tracks, Chapters and
-/// Tags.
+/// is the damage of the first one that passes a limit. Earlier inputs of a merge have `held` bytes of Info, Tracks,
+/// Chapters and Tags. The last step of reading an outline.
 pub fn collect<R: Reads>(
     alloc: Global,
     window: &mut Window,

@@ -37,7 +37,8 @@ impl Model for LevelOne {
 }
 
 impl LevelOne {
-    /// Returns an iterator over the Elements at level 1 of `file`, which has the outline `outline`.
+    /// Returns an iterator over the Elements at level 1 of `file`, which has the outline `outline`. `reindex` finds the
+    /// Clusters with it.
     pub fn start(outline: &Outline, file: FileId) -> LevelOne
         ensures place { result ≡ first_place outline.now.segment outline.now.total file }
         ensures left { HasAllElementsLeft outline.now result }
@@ -45,7 +46,7 @@ impl LevelOne {
         LevelOne::over(&outline.segment(), outline.total(), file)
     }
 
-    // Returns an iterator over the Elements of `segment` in `file`, which has `total` bytes.
+    // Returns an iterator over the Elements of `segment` in `file`, which has `total` bytes. Used by `start`.
     fn over(segment: &Header, total: u64, file: FileId) -> LevelOne
         requires { segment.now.body ≤ total }
         ensures place { result ≡ first_place segment.now total file }
@@ -61,7 +62,8 @@ impl LevelOne {
     }
 
     /// Returns the header of the next Element, or None at the Segment's end or at damage, and None again after that.
-    /// After `Failed` nothing is buffered, and the next call looks for the same Element again.
+    /// After `Failed` nothing is buffered, and the next call looks for the same Element again. `reindex` goes on to the
+    /// next Cluster so.
     pub fn next<R: Reads>(&mut self, src: &mut R) -> Result<Option<Header>, Failed>
         requires { CanRead (live_files R.Reads src.old) self.old }
         ensures ok { IfRead R.Reads src.old self.old.file result (λ found bytes. GivesNext bytes self.old self.new found) }

@@ -32,7 +32,8 @@ pub enum LoadEnd {
     Memory,
 }
 
-// Returns the greatest length in bytes of the data that is loaded for an Element with the ID `id`, if there is a limit.
+// Returns the greatest length in bytes of the data that is loaded for an Element with the ID `id`, or None if there is
+// no limit. Used by `too_large`.
 fn limit_of(id: u32) -> Option<u64>
     ensures { result ≡ limit_of id }
 {
@@ -45,7 +46,7 @@ fn limit_of(id: u32) -> Option<u64>
     }
 }
 
-// Returns the damage of the Element `header` if its data is longer than the limit for its ID.
+// Returns the damage of the Element `header` if its data is longer than the limit for its ID, or None. Used by `load`.
 fn too_large(header: &Header) -> Option<Damage>
     ensures { result ≡ too_large header.now }
 {
@@ -54,7 +55,8 @@ fn too_large(header: &Header) -> Option<Damage>
 }
 
 /// Reads the data of the Element `header` of `file`, whose size is known. Refuses data that is longer than the limit
-/// for its ID: 65,536 bytes for EBML, 64 MiB for Cues, 16 MiB for Info, Tracks, Chapters, Tags and SeekHead.
+/// for its ID: 65,536 bytes for EBML, 64 MiB for Cues, 16 MiB for Info, Tracks, Chapters, Tags and SeekHead. All
+/// commands read the records of a file so. Used by `first_seek_head` of `edit_plan` and others.
 pub fn load<R: Reads>(
     alloc: Global,
     src: &mut R,

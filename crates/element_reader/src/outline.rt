@@ -73,8 +73,8 @@ impl Outline {
         Outline::read_after(alloc, src, file, 0)
     }
 
-    /// Reads the outline of `file`, an input of a merge after other inputs. Their Info, Tracks, Chapters and Tags have
-    /// `held` bytes, and may have 64 MiB together with this file's.
+    /// Reads the outline of `file`, an input that `merge` reads after other inputs. Their Info, Tracks, Chapters and
+    /// Tags have `held` bytes, and may have 64 MiB together with this file's. The refusals are the ones of `read`.
     pub fn read_after<R: Reads>(
         alloc: Global,
         src: &mut R,
@@ -104,21 +104,21 @@ impl Outline {
         })
     }
 
-    /// Returns the length of the file in bytes.
+    /// Returns the length of the file in bytes. Used by all readers of an outline.
     pub fn total(&self) -> u64
         ensures { result ≡ self.now.total }
     {
         self.total
     }
 
-    /// Returns the header of the file's EBML header.
+    /// Returns the header (ID, place and size) of the file's EBML header, for the list of `info`.
     pub fn ebml(&self) -> Header
         ensures { result ≡ self.now.ebml }
     {
         self.ebml
     }
 
-    /// Returns the header of the file's Segment.
+    /// Returns the header of the file's Segment. Used by all readers of an outline.
     pub fn segment(&self) -> Header
         ensures exact { result ≡ self.now.segment }
         ensures inside { result.body ≤ self.now.total }
@@ -126,21 +126,23 @@ impl Outline {
         self.segment
     }
 
-    /// Returns the number of bytes of all Info, Tracks, Chapters and Tags of this file.
+    /// Returns the number of bytes of all Info, Tracks, Chapters and Tags of this file. `merge` counts them against the
+    /// limit for its later inputs.
     pub fn held(&self) -> u64
         ensures { result ≡ self.now.held }
     {
         self.held
     }
 
-    /// Returns the number of Elements at level 1 besides Clusters.
+    /// Returns the number of Elements at level 1 besides Clusters. With `at`, edits look through all of them.
     pub fn count(&self) -> usize
         ensures { result ≡ length self.now.others }
     {
         self.level.kept.others.len()
     }
 
-    /// Returns the Element at level 1 with the index `k`, counted from 0 in the order of the file, without Clusters.
+    /// Returns the header of the Element at level 1 with the index `k`, counted from 0 in the order of the file,
+    /// without Clusters. Edits look through all of them. Used by `child_refusal`, `first_child` and others.
     pub fn at(&self, k: usize) -> Header
         requires { k < length self.now.others }
         ensures exact { slice_get self.now.others k ≡ Some result }
@@ -149,7 +151,8 @@ impl Outline {
         self.level.kept.others[k]
     }
 
-    /// Returns the first Element at level 1 with the ID `id`, if there is one.
+    /// Returns the header of the first Element at level 1 with the ID `id`, or None if there is none. All commands find
+    /// the records of a file so.
     pub fn first(&self, id: u32) -> Option<Header>
         ensures kept { result ≡ first_in id self.now }
         ensures inside { id ≢ CLUSTER_ID → IfSome result (IsInFile self.now.total) }
@@ -161,14 +164,16 @@ impl Outline {
         first_of(&self.level.kept.others, id)
     }
 
-    /// Returns the offset of the first Cluster, in bytes from the start of the file, if there is one.
+    /// Returns the offset of the first Cluster, in bytes from the start of the file, or None without Clusters. Edits
+    /// use only a SeekHead that is before it. Used by `seek_head_in` of `edit_plan`.
     pub fn first_cluster(&self) -> Option<u64>
         ensures { result ≡ option_map (λ h. h.offset) self.now.cluster }
     {
         self.level.kept.cluster.map(|header| header.offset)
     }
 
-    /// Returns the last Element at level 1, which may be a Cluster, if there is one.
+    /// Returns the header of the last Element at level 1, which may be a Cluster, or None if there is none. An edit
+    /// that appends checks that a last Cluster ends with the file. Used by `cluster_end` of `edit_changes` and others.
     pub fn last(&self) -> Option<Header>
         ensures kept { result ≡ self.now.last }
         ensures exact { (bytes : List ℕ) (o : Outlined) → self.now ≡ shown bytes o → result ≡ last_element o.list }
@@ -177,14 +182,16 @@ impl Outline {
     }
 
     /// Returns the offset of the Segment's end, in bytes from the start of the file. A Segment of unknown size that
-    /// ends with damage reaches to the end of the file.
+    /// ends with damage reaches to the end of the file. An edit that appends checks that it is the file's end. Used by
+    /// `child_refusal`, `first_child` and others.
     pub fn end(&self) -> u64
         ensures { result ≡ self.now.end }
     {
         self.level.end
     }
 
-    /// Returns the damage that ends the Elements at level 1, if any.
+    /// Returns the damage that ends the Elements at level 1, if any. `info` and `extract` warn of it, and an edit
+    /// refuses the file.
     pub fn damage(&self) -> Option<Damage>
         ensures { result ≡ self.now.damage }
     {

@@ -24,6 +24,7 @@ pub enum OutlineEnd {
 impl From<Damage> for OutlineEnd {
     ghost from_gives = { λ damage end. end ≡ outline_end.Refused damage };
 
+    /// Returns the end of reading an outline of a refused file, whose damage is `damage`.
     fn from(damage: Damage) -> OutlineEnd {
         OutlineEnd::Refused(damage)
     }
@@ -32,6 +33,7 @@ impl From<Damage> for OutlineEnd {
 impl From<Failed> for OutlineEnd {
     ghost from_gives = { λ _ end. end ≡ outline_end.ReadFault };
 
+    /// Returns the end of reading an outline after a failed read.
     fn from(_failed: Failed) -> OutlineEnd {
         OutlineEnd::ReadFault
     }
@@ -40,6 +42,7 @@ impl From<Failed> for OutlineEnd {
 impl From<AllocError> for OutlineEnd {
     ghost from_gives = { λ _ end. end ≡ outline_end.Memory };
 
+    /// Returns the end of reading an outline when memory ran out.
     fn from(_error: AllocError) -> OutlineEnd {
         OutlineEnd::Memory
     }
@@ -50,6 +53,7 @@ impl From<ReadEnd> for OutlineEnd {
 
     ghost from_gives = { λ why end. end ≡ end_of why };
 
+    /// Returns the end of reading an outline, by the end `why` of a read: a failed read or out of memory.
     fn from(why: ReadEnd) -> OutlineEnd {
         match why {
             ReadEnd::ReadFault => OutlineEnd::ReadFault,

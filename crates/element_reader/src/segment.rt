@@ -13,7 +13,8 @@ use mkv_schema::Header;
 use mkv_schema::ids::SEGMENT;
 
 /// Returns the header of the first Segment of `file`, which has `total` bytes, from the offset `from` at level 0 on,
-/// read through `window`. The inner error is the damage for which the file is refused before it.
+/// read through `window`. The inner error is the damage for which the file is refused before it. The second step of
+/// reading an outline, after the EBML header.
 #[tactic(auto, using(crate::proofs::SegmentLemmas::ways))]
 pub fn find_segment<R: Reads>(
     window: &mut Window,

@@ -3,7 +3,8 @@ use Rattle.mkv_schema.specs.Element.{Setting, at_level_0, in_segment, in_master,
 use Rattle.elements.specs.declared.parent.Parent.{Parent}
 use Rattle.elements.specs.declared.parent.Parent.TheVariants.{File, Segment, Master, Tree, Any}
 
--- the setting that the definition of an Element has for a parent of the code
+-- the setting that the definition of an Element has for a parent of the code. For contracts of calls with a `Parent`. Used by `element`, `child_at`
+-- and others.
 abbrev pub setting_of : Parent → Setting
 setting_of File = at_level_0
 setting_of Segment = in_segment

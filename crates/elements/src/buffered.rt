@@ -30,7 +30,8 @@ pub struct BufferedRange {
 impl BufferedRange {
     ghost use Rattle.elements.specs.Held.{GoesIn, HoldsIn, HoldsWanted, KeepsFrom, LooksHeader, LooksIn, ReadsBehind, held_in};
 
-    /// Checks whether `buffer` holds the `len` bytes from the offset `at` of the file.
+    /// Checks whether `buffer` holds the `len` bytes from the offset `at` of the file. For `hold` and `Window::has`,
+    /// when a reader looks up bytes of a file.
     pub fn has(self, at: u64, len: usize, buffer: &[u8]) -> bool
         requires { self.len ≤ length buffer.now }
         ensures { IsTrue result ↔ HasRange (held_in self buffer.now) at len }
@@ -40,7 +41,8 @@ impl BufferedRange {
             && len <= self.len - (at - self.at) as usize
     }
 
-    /// Returns the `len` bytes from the offset `at` of the file, which `buffer` holds.
+    /// Returns the `len` bytes from the offset `at` of the file, which `buffer` holds. For `element` and
+    /// `Window::octets_at`, when a reader looks up bytes of a file.
     pub fn octets_at(self, at: u64, len: usize, buffer: &[u8]) -> &[u8]
         requires inside { self.len ≤ length buffer.now }
         requires range { HasRange (held_in self buffer.now) at len }
@@ -50,7 +52,8 @@ impl BufferedRange {
         &buffer[start..start + len]
     }
 
-    /// Returns the bytes that `buffer` holds from the offset `at` of the file on, at most `most` of them.
+    /// Returns the bytes that `buffer` holds from the offset `at` of the file on, at most `most` of them. For
+    /// `Window::front_at`, when a reader looks up bytes of a file.
     pub fn front_at(self, at: u64, most: usize, buffer: &[u8]) -> &[u8]
         requires { self.len ≤ length buffer.now }
         ensures exact { result.now ≡ take most (front_from (held_in self buffer.now) at) }
@@ -64,7 +67,8 @@ impl BufferedRange {
     }
 
     // Returns the number of bytes to hold from the offset `at` on if `len` bytes are requested, for a buffer of `room`
-    // bytes. A walk in small steps gets more with each read, and a long jump only a few.
+    // bytes. A walk in small steps gets more with each read, and a long jump only a few. For `hold`, when a reader
+    // looks up bytes of a file.
     fn wanted_at(self, room: usize, at: u64, len: usize, buffer: &[u8]) -> usize
         requires { self.len ≤ length buffer.now }
         ensures exact { result ≡ wanted_at room (held_in self buffer.now) at len }
@@ -81,7 +85,7 @@ impl BufferedRange {
     }
 
     /// Returns the number of bytes that `buffer` holds from the offset `at` of a file of `total` bytes on, and so
-    /// needn't be read again.
+    /// needn't be read again. For `move_to`, and for windows that copy what they hold.
     pub fn kept_at(self, at: u64, total: u64, buffer: &[u8]) -> usize
         requires fits { self.len ≤ length buffer.now }
         requires inside { at ≤ total }
@@ -97,7 +101,7 @@ impl BufferedRange {
     }
 
     // Moves the range to the offset `at` of a file of `total` bytes, and keeps the bytes that `buffer` holds from there
-    // on.
+    // on. For `hold`, when a reader looks up bytes of a file.
     fn move_to(&mut self, at: u64, total: u64, buffer: &mut [u8])
         requires fits { self.old.len ≤ length buffer.old }
         requires inside { at ≤ total }
@@ -116,7 +120,7 @@ impl BufferedRange {
     }
 
     // Reads bytes of `file` after the range into `buffer`, until it has `wanted` bytes or reaches the end of the file.
-    // After a failed read nothing is held.
+    // After a failed read nothing is held. For `hold`, when a reader looks up bytes of a file.
     fn read_on<R: Reads>(
         &mut self,
         buffer: &mut [u8],
@@ -148,6 +152,7 @@ impl BufferedRange {
     }
 
     /// Copies `octets`, which are at the offset `at` of the file, to the start of `buffer`, and returns their range.
+    /// For `Window::set`, with the bytes that were read after an Element's data.
     pub fn put(at: u64, octets: &[u8], buffer: &mut [u8]) -> BufferedRange
         requires { length octets.now ≤ length buffer.old }
         ensures exact { held_in result buffer.new ≡ record { at = at; octets = octets.now } }
@@ -162,7 +167,7 @@ impl BufferedRange {
     }
 
     /// Makes `buffer` hold the `len` bytes from the offset `at` of `file`. Bytes that it holds already aren't read
-    /// again.
+    /// again. For `element` and the window of 65,536 bytes.
     pub fn hold<R: Reads>(
         &mut self,
         buffer: &mut [u8],
@@ -190,7 +195,7 @@ impl BufferedRange {
     }
 
     /// Returns the header of the Element at the offset `at` of `file`, in a parent that ends at the offset `end`. The
-    /// inner error is its damage. The bytes are read through `buffer`.
+    /// inner error is its damage. The bytes are read through `buffer`. For windows that look up headers.
     pub fn element<R: Reads>(
         &mut self,
         buffer: &mut [u8],
@@ -221,7 +226,8 @@ impl BufferedRange {
     }
 }
 
-// Returns the greatest length in bytes of a header at the offset `at`, in a parent that ends at the offset `end`.
+// Returns the greatest length in bytes of a header at the offset `at`, in a parent that ends at the offset `end`. For
+// `element`, when a reader looks up bytes of a file.
 fn header_room(at: u64, end: u64) -> u64
     requires { at ≤ end }
     ensures { result ≡ header_room at end }
@@ -230,7 +236,7 @@ fn header_room(at: u64, end: u64) -> u64
 }
 
 // Fills `buffer` with bytes of `file` from the offset `at` on, up to the end of the file at most. Returns the number of
-// bytes.
+// bytes. For `read_on`, when a reader looks up bytes of a file.
 #[tactic(auto, using(std::proofs::lemmas::List::take_at))]
 fn read_ahead<R: Reads>(
     src: &mut R,

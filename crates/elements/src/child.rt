@@ -14,7 +14,8 @@ use mkv_io::Damage;
 use mkv_schema::Header;
 
 /// Returns the header of the child at the offset `at` of a file of `total` bytes, or its damage. The master's data is
-/// `body`, at the offset `base` of the file; `parent` is its kind.
+/// `body`, at the offset `base` of the file; `parent` is its kind. Used for the EBML header and for BlockGroups, which
+/// are read whole.
 pub fn child_at(
     parent: Parent,
     body: &[u8],
@@ -33,7 +34,8 @@ pub fn child_at(
     read_header(&body[(at - base) as usize..], parent, total, at, end)
 }
 
-/// Returns the bytes of the data of `child`. Its master's data is `body`, at the offset `base` of the file.
+/// Returns the bytes of the data of `child`. Its master's data is `body`, at the offset `base` of the file. Used for
+/// the values of the EBML header and of BlockGroups.
 pub fn body_in<'a>(body: &'a [u8], base: u64, child: &Header) -> &'a [u8]
     requires from { base ≤ child.now.body }
     requires inside { stated_end child.now ≤ base + length body.now }
@@ -43,7 +45,8 @@ pub fn body_in<'a>(body: &'a [u8], base: u64, child: &Header) -> &'a [u8]
     &body[start..start + known(child.size) as usize]
 }
 
-/// Returns the number of bytes of an Element's data with the size `size`, or 0 if its size is unknown.
+/// Returns the number of bytes of an Element's data with the size `size`, or 0 if its size is unknown. Used by all
+/// readers of Elements.
 pub fn known(size: Size) -> u64
     ensures { result ≡ known size }
 {

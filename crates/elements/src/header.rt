@@ -15,7 +15,7 @@ use mkv_schema::ids::{CHAPTER_DISPLAY, CLUSTER, SEGMENT};
 /// Parses the header of the Element at the start of `octets`, or returns its damage.
 ///
 /// The bytes are at the offset `at` of a file of `total` bytes, and reach to `end`, the parent's end. The first
-/// `MAX_ELEMENT_HEADER_LEN` of them are enough.
+/// `MAX_ELEMENT_HEADER_LEN` of them are enough. `parent` decides what is valid. All readers of Elements call it.
 pub fn read_header(
     octets: &[u8],
     parent: Parent,
@@ -32,7 +32,7 @@ pub fn read_header(
 }
 
 // Parses the header at the start of `octets`, or returns its damage. The bytes are at the offset `at` of a file of
-// `total` bytes, and reach to the offset `end` of the parent's end.
+// `total` bytes, and reach to the offset `end` of the parent's end. For `read_header`, when a reader parses a header.
 #[tactic(auto, unfolding(mkv_schema::specs::Element::element_in))]
 fn first_header(
     octets: &[u8],
@@ -71,7 +71,8 @@ fn first_header(
     }
 }
 
-// Reads the Element ID at the start of `octets`. ChapterDisplay's one-byte ID is valid only in a ChapterAtom.
+// Reads the Element ID at the start of `octets`. ChapterDisplay's one-byte ID is valid only in a ChapterAtom. For
+// `first_header`, when a reader parses a header.
 fn id_at(octets: &[u8], parent: Parent) -> Result<IdRead, NumFault>
     ensures exact { result ≡ id_in (setting_of parent) octets.now }
     ensures inside { IfOk result (λ read. read.len ≤ length octets.now) }
@@ -85,14 +86,15 @@ fn id_at(octets: &[u8], parent: Parent) -> Result<IdRead, NumFault>
     read_id(octets)
 }
 
-/// Returns damage of the kind `kind` at the Element `header`.
+/// Returns damage of the kind `kind` at the Element `header`. Used by all readers that refuse an Element.
 pub fn damage_at(kind: Kind, header: &Header) -> Damage
     ensures { result ≡ record { kind = kind; id = header.now.id; offset = header.now.offset } }
 {
     damage(kind, header.id, header.offset)
 }
 
-/// Returns damage of the kind `kind` at an Element with the ID `id` and the offset `offset` in the file.
+/// Returns damage of the kind `kind` at an Element with the ID `id` and the offset `offset` in the file. Used by all
+/// readers that refuse an Element.
 pub fn damage(kind: Kind, id: u32, offset: u64) -> Damage
     ensures { result ≡ record { kind = kind; id = id; offset = offset } }
 {
@@ -100,7 +102,7 @@ pub fn damage(kind: Kind, id: u32, offset: u64) -> Damage
 }
 
 // Returns the damage of an Element with the ID `id` at the offset `at`, whose header ends at `end`, after its parent's
-// end. The file has `total` bytes.
+// end. The file has `total` bytes. For `first_header`, when a reader parses a header.
 fn cut_header(parent: Parent, total: u64, id: u32, at: u64, end: u64) -> Damage
     ensures { result ≡ cut_header (setting_of parent) total id at end }
 {
@@ -112,7 +114,7 @@ fn cut_header(parent: Parent, total: u64, id: u32, at: u64, end: u64) -> Damage
 }
 
 // Returns the kind of damage of the data of `header`, if any. Its parent ends at the offset `end`, and the file has
-// `total` bytes.
+// `total` bytes. For `first_header`, when a reader parses a header.
 fn body_damage(header: &Header, parent: Parent, total: u64, end: u64) -> Option<Kind>
     requires { stated_end header.now < 2 ^ 64 }
     ensures { result ≡ body_damage (setting_of parent) total end header.now }

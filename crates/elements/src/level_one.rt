@@ -30,7 +30,7 @@ pub enum Level1Step {
 }
 
 /// Checks whether a Segment of the size `size` ends before an Element with the ID `id`. Only a Segment of unknown size
-/// does.
+/// does. For walks over level 1. Used by `next_of_segment`.
 pub fn ends_segment(size: Size, id: u32) -> bool
     ensures { result ≡ ends_segment size id }
 {
@@ -41,7 +41,8 @@ pub fn ends_segment(size: Size, id: u32) -> bool
 }
 
 /// Returns the next step over a Segment of the size `size` in `file`, from the offset `at` on. The Segment ends at the
-/// offset `end` or before.
+/// offset `end` or before. Headers are looked up through `window`. The reader of an outline, `info` and the walk over
+/// level 1 of `reindex` call it for each step.
 #[tactic(auto, using(crate::proofs::LevelOneLemmas::steps))]
 pub fn next_of_segment<W: Lookahead, R: Reads>(
     window: &mut W,

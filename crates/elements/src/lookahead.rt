@@ -21,7 +21,8 @@ pub trait Lookahead {
     ghost room: { ℕ };
 
     /// Returns the header of the Element at the offset `at` of `file`, in a parent that ends at the offset `end`. The
-    /// inner error is its damage. Bytes that are held aren't read again. After a failed read nothing is held.
+    /// inner error is its damage. Bytes that are held aren't read again. After a failed read nothing is held. Walks
+    /// over Elements look up each header so.
     fn element<R: Reads>(
         &mut self,
         src: &mut R,

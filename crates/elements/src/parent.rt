@@ -23,7 +23,7 @@ impl Parent {
     ghost use Rattle.elements.specs.Parent.{setting_of};
 
     /// Checks whether an Element with the ID `id` may have an unknown size in this parent, or be cut by the end of the
-    /// file.
+    /// file. For the damage of an Element's data, when a reader parses a header.
     pub fn may_open(self, id: u32) -> bool
         ensures { result ≡ (setting_of self).may_open id }
     {
@@ -36,13 +36,15 @@ impl Parent {
     }
 
     /// Checks whether the byte `80` is ChapterDisplay's ID in this parent (RFC 9559, section 5.1.7, Chapters Element).
+    /// For the ID of an Element, when a reader parses a header.
     pub fn has_display(self) -> bool
         ensures { result ≡ (setting_of self).display }
     {
         self == Parent::Tree(CHAPTER_ATOM)
     }
 
-    /// Checks whether the parent's data is read whole before its children are parsed.
+    /// Checks whether the parent's data is read whole before its children are parsed. For the damage of an Element's
+    /// header and data, when a reader parses a header.
     pub fn is_tree(self) -> bool
         ensures { result ≡ (setting_of self).read_whole }
     {

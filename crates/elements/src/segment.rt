@@ -13,12 +13,13 @@ pub trait HasSegment {
     /// Length of the file, in bytes.
     ghost total: { Self → ℕ };
 
-    /// Returns the header of the Segment, which begins in the file.
+    /// Returns the header of the Segment, which begins in the file. The reader of the blocks of a file begins with it.
     fn segment(&self) -> Header
         ensures exact { result ≡ segment self.now }
         ensures inside { result.body ≤ total self.now };
 
-    /// Returns the length of the file, in bytes.
+    /// Returns the length of the file, in bytes. The reader of the blocks of a file calls it for the end of the
+    /// Segment. Used by `move_to`, `element` and others.
     fn total(&self) -> u64
         ensures { result ≡ total self.now };
 }

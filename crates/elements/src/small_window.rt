@@ -32,7 +32,7 @@ impl Model for SmallWindow {
 }
 
 impl SmallWindow {
-    /// Returns an empty window.
+    /// Returns an empty window. The walk over level 1 of `reindex` has one.
     pub fn new() -> SmallWindow
         ensures { result ≡ nothing_at 0 }
     {
@@ -42,7 +42,7 @@ impl SmallWindow {
         }
     }
 
-    /// Empties the window, so that the next look-up reads the file.
+    /// Empties the window, so that the next look-up reads the file. The walk over level 1 calls it after a failed read.
     pub fn forget(&mut self)
         ensures { self.new ≡ nothing_at 0 }
     {
@@ -58,7 +58,7 @@ impl Lookahead for SmallWindow {
     ghost room = { LITTLE };
 
     // Returns the header of the Element at the offset `at` of `file`, in a parent that ends at the offset `end`, read
-    // through the window. The inner error is its damage.
+    // through the window. The inner error is its damage. Walks over Elements look up each header so.
     fn element<R: Reads>(
         &mut self,
         src: &mut R,

@@ -15,7 +15,8 @@ use ebml_numbers::Size;
 use mkv_io::{Damage, Failed, FileId, Reads};
 use mkv_schema::{Header, is_level0, is_level1};
 
-/// Returns the Element ID of `found`, a header or a damage, or 0 if it couldn't be read.
+/// Returns the Element ID of `found`, a header or a damage, or 0 if it couldn't be read. For the ends of Segments and
+/// Clusters of unknown size.
 pub fn id_of(found: &Result<Header, Damage>) -> u32
     ensures { result ≡ id_of found.now }
 {
@@ -25,14 +26,16 @@ pub fn id_of(found: &Result<Header, Damage>) -> u32
     }
 }
 
-/// Checks whether a Cluster of unknown size ends before an Element with the ID `id`.
+/// Checks whether a Cluster of unknown size ends before an Element with the ID `id`. For `cluster_end`, and for readers
+/// of blocks.
 pub fn ends_cluster(id: u32) -> bool
     ensures { result ≡ ends_cluster id }
 {
     is_level1(id) || is_level0(id)
 }
 
-/// Returns the offset after the Element `header`, or `end`, its parent's end, if that is before.
+/// Returns the offset after the Element `header`, or `end`, its parent's end, if that is before. Used by `cluster_end`
+/// and `behind`, which go on there, and by readers of blocks.
 pub fn end_in(header: &Header, end: u64) -> u64
     ensures { result ≡ end_in end header.now }
 {
@@ -43,7 +46,8 @@ pub fn end_in(header: &Header, end: u64) -> u64
 }
 
 /// Returns the offset after the children of a Cluster of unknown size, whose data begins at the offset `from` of
-/// `file`. Its parent ends at the offset `end`. The inner error is the damage among the children.
+/// `file`. Its parent ends at the offset `end`. The inner error is the damage among the children. For `behind`, when a
+/// reader walks over level 1.
 #[tactic(auto, using(crate::proofs::WalkLemmas::ends))]
 pub fn cluster_end<W: Lookahead, R: Reads>(
     window: &mut W,
@@ -79,7 +83,8 @@ pub fn cluster_end<W: Lookahead, R: Reads>(
 }
 
 /// Returns the offset after `header`, an Element of a Segment in `file` that ends at the offset `end`. The inner error
-/// is the damage inside it. A Cluster of unknown size ends with its children.
+/// is the damage inside it. A Cluster of unknown size ends with its children. For `next_of_segment`, which goes on
+/// there.
 pub fn behind<W: Lookahead, R: Reads>(
     window: &mut W,
     src: &mut R,

@@ -44,7 +44,8 @@ impl Model for Window {
 }
 
 impl Window {
-    /// Returns an empty window, with room for 65,536 bytes.
+    /// Returns an empty window, with room for 65,536 bytes. Fails if memory runs out. The reader of an outline, the
+    /// reader of blocks and `info` make one each.
     pub fn new(alloc: Global) -> Result<Window, AllocError>
         ensures { IfOk result (λ w. w ≡ nothing_at 0) }
     {
@@ -54,14 +55,16 @@ impl Window {
         })
     }
 
-    /// Checks whether the window holds the `len` bytes from the offset `at` of its file.
+    /// Checks whether the window holds the `len` bytes from the offset `at` of its file. For `fill` and `read_body`,
+    /// when a reader looks up bytes of a file.
     pub fn has(&self, at: u64, len: usize) -> bool
         ensures { IsTrue result ↔ HasRange self.now at len }
     {
         self.held.has(at, len, &self.buffer)
     }
 
-    /// Returns the `len` bytes from the offset `at` of the file, which the window holds.
+    /// Returns the `len` bytes from the offset `at` of the file, which the window holds. Used for headers and values
+    /// that a walk has made the window hold.
     pub fn octets_at(&self, at: u64, len: usize) -> &[u8]
         requires { HasRange self.now at len }
         ensures { result.now ≡ octets_from self.now.octets (at - self.now.at) len }
@@ -74,7 +77,7 @@ impl Window {
     /// Otherwise it keeps the bytes that it holds from `at` on, and reads the bytes after them. It then holds twice the
     /// earlier number, but at least 1,024 more than `len`, at most 65,536, and none past the end of the file. After a
     /// jump that is longer than the held range, it holds only 1,024 more than `len`. After a failed read the window is
-    /// at `at` and holds nothing.
+    /// at `at` and holds nothing. Readers of Elements call it before `octets_at`.
     pub fn hold<R: Reads>(
         &mut self,
         src: &mut R,
@@ -97,7 +100,7 @@ impl Window {
     }
 
     /// Fills `into` with the bytes from the offset `at` of `file` on, which are an Element's data. Takes them from the
-    /// window if it holds all, and otherwise reads them.
+    /// window if it holds all, and otherwise reads them. The reader of the EBML header calls it for its data.
     pub fn fill<R: Reads>(
         &self,
         src: &mut R,
@@ -125,7 +128,8 @@ impl Window {
     /// for 1,024 more. Bytes that the window holds aren't read again.
     ///
     /// Short data is read into the window. The rest of a long one is read at once, with up to 1,024 bytes after it. The
-    /// window then holds these, since the next header is there.
+    /// window then holds these, since the next header is there. The reader of blocks calls it for the data of each
+    /// block.
     pub fn read_body<R: Reads>(
         &mut self,
         src: &mut R,
@@ -157,7 +161,8 @@ impl Window {
         self.read_through(src, file, at, len, into)
     }
 
-    // Copies the `len` bytes from the offset `at` of the file, which the window holds, to the start of `into`.
+    // Copies the `len` bytes from the offset `at` of the file, which the window holds, to the start of `into`. For
+    // `read_body`, when a reader looks up bytes of a file.
     fn copy(&self, at: u64, len: usize, into: &mut [u8])
         requires range { HasRange self.now at len }
         requires room { len ≤ length into.old }
@@ -167,14 +172,15 @@ impl Window {
         into[..len].copy_from_slice(self.octets_at(at, len));
     }
 
-    /// Empties the window, so that the next look-up reads the file.
+    /// Empties the window, so that the next look-up reads the file. The reader of blocks calls it after a failed read.
     pub fn forget(&mut self)
         ensures { self.new ≡ nothing_at 0 }
     {
         self.held = BufferedRange { at: 0, len: 0 };
     }
 
-    /// Returns the bytes that the window holds from the offset `at` of its file on, at most `most` of them.
+    /// Returns the bytes that the window holds from the offset `at` of its file on, at most `most` of them. The reader
+    /// of blocks looks at the start of a block's data with it.
     pub fn front_at(&self, at: u64, most: usize) -> &[u8]
         ensures exact { result.now ≡ take most (front_from self.now at) }
         ensures held { (bytes : List ℕ) → Holds bytes self.now → result.now ≡ octets_from bytes at (length result.now) }
@@ -184,7 +190,7 @@ impl Window {
     }
 
     // Copies the bytes that the window holds from the offset `at` on to the start of `into`, and returns their number.
-    // The file has `total` bytes.
+    // The file has `total` bytes. For `read_through`, when a reader looks up bytes of a file.
     fn copy_held(&self, at: u64, total: u64, into: &mut [u8]) -> usize
         requires inside { at ≤ total }
         requires room { length (kept_from self.now total at) ≤ length into.old }
@@ -201,7 +207,8 @@ impl Window {
         kept
     }
 
-    // Makes the window hold `octets`, which are at the offset `at` of the file, and nothing else.
+    // Makes the window hold `octets`, which are at the offset `at` of the file, and nothing else. For `read_through`,
+    // when a reader looks up bytes of a file.
     fn set(&mut self, at: u64, octets: &[u8])
         requires { length octets.now ≤ WINDOW }
         ensures { self.new ≡ record { at = at; octets = octets.now } }
@@ -210,7 +217,8 @@ impl Window {
     }
 
     // Reads the `len` bytes of an Element's data at the offset `at` to the start of `into`, as far as they aren't held.
-    // It reads up to 1,024 bytes after them at once. The window then holds the latter.
+    // It reads up to 1,024 bytes after them at once. The window then holds the latter. For `read_body`, if a long block
+    // isn't held whole.
     fn read_through<R: Reads>(
         &mut self,
         src: &mut R,
@@ -249,7 +257,7 @@ impl Lookahead for Window {
     ghost room = { WINDOW };
 
     // Returns the header of the Element at the offset `at` of `file`, in a parent that ends at the offset `end`, read
-    // through the window. The inner error is its damage.
+    // through the window. The inner error is its damage. Walks over Elements look up each header so.
     fn element<R: Reads>(
         &mut self,
         src: &mut R,

@@ -19,7 +19,8 @@ use Rattle.extractors.specs.Times.{time_line}
 
 -- ---- blocks and outputs
 
--- a SimpleBlock of the track `track` at `time` nanoseconds, with the frames `frames`, at offset 60
+-- a SimpleBlock of the track with the TrackNumber `track` at `time` nanoseconds, with the frames `frames`, at byte 60 of its file, for the examples
+-- of `extract`
 abbrev pub block : ℕ → ℤ → List (List ℕ) → Block
 block track time frames = record {
   track = track;
@@ -36,25 +37,25 @@ block track time frames = record {
   offset = 60;
 }
 
--- an output of track 1 in the form `kind`. `step` is the DefaultDuration in nanoseconds, `head` the bytes before the first frame, and `prefix` the
--- bytes before each frame.
+-- an output of the track with the TrackNumber 1 in the form `kind`, for the examples of `extract`. `step` is the DefaultDuration in nanoseconds,
+-- `head` the bytes before the first frame, and `prefix` the bytes before each frame.
 abbrev pub output : FrameForm → ℕ → List ℕ → List ℕ → TrackOutput
 output kind step head prefix =
     record { name = codes "r"; track = 1; step = step; head = head; prefix = prefix; form = kind }
 
--- two blocks of track 1 with one frame each, at 0 and 20 ms, and a block of track 2 between them
+-- two blocks of track 1 with one frame each, at 0 and 20 ms, and a block of track 2 between them, for the examples of `extract`
 abbrev pub two_blocks : List Block
 two_blocks =
     block 1 (pos 0) ((0xAA ∷ []) ∷ []) ∷ block 2 (pos 0) ((0xCC ∷ []) ∷ []) ∷
     block 1 (pos 20000000) ((0xBB ∷ []) ∷ []) ∷ []
 
--- one block of track 1 with a lace of two frames
+-- one block of track 1 at 0 ms with a lace of two frames, for the examples of `extract`
 abbrev pub lace_of_two : List Block
 lace_of_two = block 1 (pos 0) ((0xAA ∷ []) ∷ (0xBB ∷ 0xCC ∷ []) ∷ []) ∷ []
 
 -- ---- timestamps and bytes
 
--- Written timestamps and frames.
+-- Examples of timestamps and frames as `extract` writes them.
 pub record AreTimes : Type 0 where
   -- Whole milliseconds are written as they are, others with a point and six digits, and a time before 0 with its sign.
   pub zero : time_line (pos 0) ≡ codes "0\n"
@@ -74,31 +75,31 @@ pub record AreTimes : Type 0 where
 
 -- ---- codecs
 
--- a CodecPrivate of H.264 with two parameter sets
+-- the CodecPrivate of an H.264 track, with two parameter sets, for the examples of `extract`
 abbrev pub avc : List ℕ
 avc = 1 ∷ 0x42 ∷ 0 ∷ 0x1E ∷ 0xFF ∷ 0xE1 ∷ 0 ∷ 2 ∷ 0x67 ∷ 0x42 ∷ 1 ∷ 0 ∷ 2 ∷ 0x68 ∷ 0xCE ∷ []
 
--- a configuration of AAC with two channels of 44,100 Hz
+-- a configuration of AAC with two channels of 44,100 Hz, for the examples of `extract`
 abbrev pub aac : Aac
 aac = record { profile = 1; rate = 4; channels = 2 }
 
--- the H.264 unit `unit` after a start code
+-- the H.264 unit `unit` after a start code, as Annex B has it, for the examples of `extract`
 abbrev pub start_code : List ℕ → List ℕ
 start_code unit = 0 ∷ 0 ∷ 0 ∷ 1 ∷ unit
 
--- the parameter sets in `avc`, each after a start code
+-- the parameter sets in `avc`, each after a start code, which are written first, for the examples of `extract`
 abbrev pub sets : List ℕ
 sets = start_code (0x67 ∷ 0x42 ∷ []) ++ start_code (0x68 ∷ 0xCE ∷ [])
 
--- an H.264 frame of one unit of three bytes, which states `length` as the unit's length
+-- an H.264 frame of one unit of three bytes, which states `length` as the unit's length in bytes, for the examples of `extract`
 abbrev pub unit_of : ℕ → List ℕ
 unit_of length = 0 ∷ 0 ∷ 0 ∷ length ∷ 0x65 ∷ 0x88 ∷ 1 ∷ []
 
--- the bytes that are written in the form `kind` for the frame `octets` at time 0; none for a bad frame
+-- the bytes that `extract` writes in the form `kind` for the frame `octets` at time 0, or None for a bad frame; for its examples
 abbrev pub written : FrameForm → List ℕ → Option (List ℕ)
 written kind octets = written_of kind 1 (record { octets = octets; time = pos 0; duration = 0 }) octets
 
--- Written frames of codecs.
+-- Examples of frames in the forms of their codecs, H.264 and AAC, as `extract` writes them.
 pub record AreCoded : Type 0 where
   -- The parameter sets of AVC come first, and the length of each unit becomes a start code.
   pub annex_b : codec_coding (codes "V_MPEG4/ISO/AVC") avc ≡ Ok (record { head = sets; form = form.AnnexB 4 })
@@ -122,35 +123,35 @@ pub record AreCoded : Type 0 where
 
 -- ---- records
 
--- a CuePoint with the children `children`
+-- a CuePoint with the children `children`, for the examples of `extract`
 abbrev pub point : List Node → Node
 point children = master 0xBB 0 (nodes_of children)
 
--- a CueTrackPositions with the children `children`
+-- a CueTrackPositions with the children `children`, for the examples of `extract`
 abbrev pub place : List Node → Node
 place children = master 0xB7 0 (nodes_of children)
 
--- a Cues with the CuePoints `points`
+-- a Cues with the CuePoints `points`, for the examples of `extract`
 abbrev pub cues : List Node → Node
 cues points = master 0x1C53BB6B 0 (nodes_of points)
 
--- a CueTrackPositions of the track `track`, with CueClusterPosition 318 and CueRelativePosition 3
+-- a CueTrackPositions of the track with the TrackNumber `track`, with CueClusterPosition 318 and CueRelativePosition 3, for the examples of `extract`
 abbrev pub place_of : ℕ → Node
 place_of track = place (leaf 0xF7 0 (track ∷ []) ∷ leaf 0xF1 0 (1 ∷ 0x3E ∷ []) ∷ leaf 0xF0 0 (3 ∷ []) ∷ [])
 
--- a ChapterAtom with the children `children`
+-- a ChapterAtom with the children `children`, for the examples of `extract`
 abbrev pub atom : List Node → Node
 atom children = master 0xB6 0 (nodes_of children)
 
--- a ChapterDisplay with the ChapString `text`
+-- a ChapterDisplay with the ChapString `text`, for the examples of `extract`
 abbrev pub name : List ℕ → Node
 name text = master 0x80 0 (nodes_of (leaf 0x85 0 text ∷ []))
 
--- a Chapters with an EditionEntry for each list of ChapterAtoms in `editions`
+-- a Chapters with an EditionEntry for each list of ChapterAtoms in `editions`, for the examples of `extract`
 abbrev pub chapters : List (List Node) → Option Node
 chapters editions = Some (master 0x1043A770 0 (nodes_of (map (λ atoms. master 0x45B9 0 (nodes_of atoms)) editions)))
 
--- Written Cues and Chapters.
+-- Examples of cue points and simple chapters as `extract` writes them.
 pub record AreWritten : Type 0 where
   -- The time is in nanoseconds, and the positions are unchanged.
   pub cue : cue_lines 1000000 1 (cues (point (leaf 0xB3 0 (0 ∷ []) ∷ place_of 1 ∷ []) ∷ []))

@@ -20,18 +20,19 @@ use Rattle.merge_plan.specs.Refusal.{lanes_refusal}
 
 -- ---- command lines, tracks and inputs
 
--- a command line of a merge without inputs, which gives the title `title`, if any, and no other option
+-- a command line without inputs, which gives the title `title`, if any, and no other option, for the examples of `merge`
 abbrev pub words : Option (List ℕ) → MergeWords
 words title = record (plain_words (codes "out.mkv") None []) { title = title }
 
--- a TrackEntry with the TrackUID `uid`, the TrackType `type`, the CodecID `codec`, the TrackNumber 3, and an empty ContentEncodings
+-- a TrackEntry with the TrackUID `uid`, the TrackType `type`, the CodecID `codec`, the TrackNumber 3, and an empty ContentEncodings, for the examples
+-- of `merge`
 abbrev pub entry : ℕ → ℕ → List ℕ → Node
 entry uid type codec = master 0xAE 0 (nodes_of (
     leaf 0xD7 0 (3 ∷ []) ∷ leaf 0x73C5 0 (uid ∷ []) ∷ leaf 0x83 0 (type ∷ []) ∷
     leaf 0x6D80 0 [] ∷ leaf 0x86 0 codec ∷ []))
 
--- a selected track with the TrackUID `uid`, the TrackType `type` and the CodecID `codec`. It has the delay `later` in nanoseconds, and the value
--- `word` of `--cues`, if any.
+-- a selected track with the TrackUID `uid`, the TrackType `type` and the CodecID `codec`, for the examples of `merge`. It has the delay `later` in
+-- nanoseconds, and the value `word` of `--cues`, if any.
 abbrev pub taken : ℕ → ℕ → List ℕ → ℤ → Option CueWord → TakenTrack
 taken uid type codec later word = record {
   id = 0;
@@ -55,20 +56,20 @@ taken uid type codec later word = record {
   cues = word;
 }
 
--- a selected video track with the TrackUID `uid`, without options
+-- a selected video track with the TrackUID `uid`, without options, for the examples of `merge`
 abbrev pub video : ℕ → TakenTrack
 video uid = taken uid 1 (codes "V_VP8") (pos 0) None
 
--- a selected audio track with the TrackUID `uid`, without options
+-- a selected audio track with the TrackUID `uid`, without options, for the examples of `merge`
 abbrev pub audio : ℕ → TakenTrack
 audio uid = taken uid 2 (codes "A_OPUS") (pos 0) None
 
--- a selected subtitle track with the TrackUID `uid`, without options
+-- a selected subtitle track with the TrackUID `uid`, without options, for the examples of `merge`
 abbrev pub subtitles : ℕ → TakenTrack
 subtitles uid = taken uid 17 (codes "S_TEXT/UTF8") (pos 0) None
 
--- an input with the SubRip entries `entries`, the title `title`, and the selected tracks `tracks`. `begin` is its append offset in nanoseconds, if it
--- is appended.
+-- an input with the SubRip entries `entries`, the title `title`, and the selected tracks `tracks`, for the examples of `merge`. `begin` is its append
+-- offset in nanoseconds, or None if it isn't appended.
 abbrev pub input : List Entry → List ℕ → Option ℕ → List TakenTrack → InputRead
 input entries title begin tracks = record {
   blocks = Entries entries;
@@ -84,25 +85,26 @@ input entries title begin tracks = record {
   times = [];
 }
 
--- an input with the selected tracks `tracks` that isn't appended
+-- an input with the selected tracks `tracks` that isn't appended, for the examples of `merge`
 abbrev pub first : List TakenTrack → InputRead
 first tracks = input [] [] None tracks
 
--- an appended input with the selected tracks `tracks`
+-- an input with the selected tracks `tracks` that is appended, for the examples of `merge`
 abbrev pub behind : List TakenTrack → InputRead
 behind tracks = input [] [] (Some 0) tracks
 
--- an input with the title `title` and no track
+-- an input with the title `title` and no track, for the examples of `merge`
 abbrev pub titled : List ℕ → InputRead
 titled title = input [] title None []
 
 -- ---- output tracks
 
--- two inputs: one with a video, an audio and a subtitle track, and one with a subtitle track whose TrackUID is 0
+-- two inputs: one with a video, an audio and a subtitle track, and one with a subtitle track whose TrackUID is 0, for the examples of `merge`
 abbrev pub film : List InputRead
 film = first (video 11 ∷ audio 12 ∷ subtitles 14 ∷ []) ∷ first (subtitles 0 ∷ []) ∷ []
 
--- The output tracks of small merges.
+-- Examples of the output tracks that small merges plan: their TrackUIDs, cue rules, driving tracks and inputs. Used by the contract of
+-- `lanes_are_planned_so`.
 pub record AreLanes : Type 0 where
   -- A TrackUID that is present stays; a missing or repeated one becomes the smallest free one.
   pub uids : uids_of (tracks_taken film) ≡ 11 ∷ 12 ∷ 14 ∷ 1 ∷ []
@@ -124,19 +126,20 @@ pub record AreLanes : Type 0 where
 
 -- ---- append offsets
 
--- a SubRip entry from 1 second to 2.5 seconds
+-- a SubRip entry from 1 second to 2.5 seconds, for the examples of `merge`
 abbrev pub example_text : Entry
 example_text = record { start = 1000000000; duration = 1500000000; text = codes "Hi" }
 
--- an input with only that entry, the delay `later`, and the append offset `begin`, both in nanoseconds; it isn't appended if there is none
+-- an input with only the entry `example_text`, with the delay `later` and the append offset `begin`, both in nanoseconds, for the examples of
+-- `merge`; `begin` is None if it isn't appended
 abbrev pub text : ℤ → Option ℕ → Source
 text later begin = ([], input (example_text ∷ []) [] begin (taken 0 17 (codes "S_TEXT/UTF8") later None ∷ []))
 
--- the append offsets in nanoseconds that a merge gives the inputs `sources`; none for an input that isn't appended
+-- the append offsets in nanoseconds that `merge` gives the inputs `sources` of an example, or None for an input that isn't appended
 abbrev pub begins : List Source → List (Option ℕ)
 begins sources = map (λ (s : Source). s.1.shift) (in_place sources)
 
--- The starts and ends of small inputs, in nanoseconds.
+-- Examples of the ends of small inputs and of the append offsets that `merge` gives them, in nanoseconds.
 pub record ArePlaced : Type 0 where
   -- The end is the end of the last block, with its delay.
   pub end : end_of (text (pos 0) None) ≡ 2500000000
@@ -152,17 +155,17 @@ pub record ArePlaced : Type 0 where
 
 -- ---- records
 
--- the bytes of MuxingApp and WritingApp in an Info
+-- the bytes of MuxingApp and WritingApp in a written Info, for the examples of `merge`
 abbrev pub applications : List ℕ
 applications = (0x4D ∷ 0x80 ∷ 0x8A ∷ codes "mkvsuite 1") ++ (0x57 ∷ 0x41 ∷ 0x8A ∷ codes "mkvsuite 1")
 
--- the bytes of a written TrackEntry of audio with the TrackNumber `number` and the TrackUID `uid`
+-- the bytes of a written TrackEntry of audio with the TrackNumber `number` and the TrackUID `uid`, for the examples of `merge`
 abbrev pub written : ℕ → ℕ → List ℕ
 written number uid =
     0xAE ∷ 0x92 ∷ 0xD7 ∷ 0x81 ∷ number ∷ 0x73 ∷ 0xC5 ∷ 0x81 ∷ uid ∷
     0x83 ∷ 0x81 ∷ 2 ∷ 0x86 ∷ 0x86 ∷ codes "A_OPUS"
 
--- The Info and Tracks of small merges, and merges that are refused.
+-- Examples of the Info and Tracks that small merges plan, and of merges that are refused. Used by `records_are_planned_so`.
 pub record AreRecords : Type 0 where
   -- The title is the command line's, or else the first title of an input that isn't empty.
   pub said : title_of (words (Some (codes "a"))) (titled (codes "b") ∷ []) ≡ codes "a"

@@ -13,19 +13,19 @@ use Rattle.mkv_lines.specs.declared.line.Line.{Line}
 use Rattle.mkv_lines.specs.declared.line.Line.TheVariants as line
 use Rattle.mkv_propedit.specs.Propedit.{room_name, why_name as edit_why_name}
 
--- `text` contains `word`, with the bytes `before` before it and `after` after it.
+-- The line `text` of a message contains `word`, with the bytes `before` before it and `after` after it. The law on pages of `explain` cites it.
 pub record Contains (text word : List ℕ) : Type 0 where
   pub before : List ℕ
   pub after : List ℕ
   pub is : text ≡ before ++ (word ++ after)
 
--- The line `text` contains `word`, and `explain` has a page for this word.
+-- The line `text` of a message contains `word`, and `explain` has a page for this word. The law on pages of `explain` cites it.
 pub record IsExplained (text word : List ℕ) : Type 0 where
   pub has : Contains text word
   pub page : IsSome (page_of word)
 
--- the word of a message that `explain` has a page for: the name of the error, or else the first word of the line. Lines that list a file's Elements
--- and tracks have none.
+-- the word of a message, a line that a command prints, that `explain` has a page for: the name of the error, or else the first word of the line.
+-- Lines that list a file's Elements and tracks have none (None).
 abbrev pub word_of : Line → Option (List ℕ)
 word_of (line.Level0 header) = None
 word_of (line.Level1 header) = None
@@ -64,8 +64,8 @@ word_of (line.Foreign name mark kept found) = Some (codes "Foreign")
 word_of (line.Word word why) = Some (codes "word")
 word_of line.FilesFault = Some (codes "files")
 
--- Each word of a message has a page in `explain`. It is a kind of damage, an error in a command line, a reason to refuse an edit, or a kind of
--- missing room. So has a word of each line.
+-- Law on `explain`: each word of a message has a page. It is a kind of damage, an error in a command line, a reason to refuse an edit, or a kind of
+-- missing room. So has a word of each line that a command prints.
 pub record WordsHavePages : Type 0 where
   pub kinds : (kind : Kind) → IsSome (page_of (kind_name kind))
   pub words : (why : Why) → IsSome (page_of (why_name why))
@@ -74,6 +74,6 @@ pub record WordsHavePages : Type 0 where
   pub lines : (l : Line) → IfSome (word_of l) (IsExplained (text_of l))
   pub disk : IsExplained disk_fault_line (codes "disk")
 
--- No two pages of `explain` have the same name, in upper or lower case.
+-- Law on `explain`: no two pages have the same name, in upper or lower case.
 abbrev pub NamesDiffer : Type 0
 NamesDiffer = IsDistinct is_same_name (map (λ (t : Topic). t.name) topics)

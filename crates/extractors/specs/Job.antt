@@ -19,44 +19,45 @@ use Rattle.extractors.specs.declared.frame_form.UnsupportedTrack.{UnsupportedTra
 use Rattle.extractors.specs.declared.frame_form.UnsupportedTrack.TheVariants.{NoExtractor, BadConfig}
 use Rattle.extractors.specs.declared.track_output.TrackOutput.{TrackOutput}
 
--- the form of the frames that a job writes; none if it extracts attached files, cue points or chapters
+-- the form of the frames that the given job of `extract` writes; None if it extracts attached files, cue points or chapters
 abbrev pub form_of : Job → Option Form
 form_of (jobs.Tracks form list) = Some form
 form_of (jobs.Attachments list) = None
 form_of (jobs.Cues list) = None
 form_of (jobs.Chapters name) = None
 
--- the targets of a job that name tracks, each an index from 0 with the name of its output
+-- the targets of the given job of `extract` that name tracks, each an index from 0 with the name of its output
 abbrev pub targets_of : Job → List Target
 targets_of (jobs.Tracks form list) = list
 targets_of (jobs.Attachments list) = []
 targets_of (jobs.Cues list) = list
 targets_of (jobs.Chapters name) = []
 
--- the names of the files that `targets` are written to, in their order
+-- the names of the files that `targets` of an extraction are written to, in their order; for `names_for`
 abbrev pub names_of : List Target → List (List ℕ)
 names_of targets = map (λ (t : Target). t.name) targets
 
--- the names of all files that a job may write, in order
+-- the names of all files that the given job of `extract` may write, in order
 abbrev pub names_for : Job → List (List ℕ)
 names_for (jobs.Tracks form list) = names_of list
 names_for (jobs.Attachments list) = names_of list
 names_for (jobs.Cues list) = names_of list
 names_for (jobs.Chapters name) = name ∷ []
 
--- If the job extracts attached files, each of its targets has a number of at least 1.
+-- If the given job of `extract` extracts attached files, each of its targets has a number of at least 1. The parser of the command line promises it.
 abbrev pub AreNumbered : Job → Type 0
 AreNumbered (jobs.Tracks form list) = ⊤
 AreNumbered (jobs.Attachments list) = All (λ (t : Target). 1 ≤ t.id) list
 AreNumbered (jobs.Cues list) = ⊤
 AreNumbered (jobs.Chapters name) = ⊤
 
--- The job `job` may be done: the files that it writes have different names, and its attached files are numbered from 1.
+-- The job `job` may be done by `extract`, which requires it: the files that it writes have different names, and its attached files are numbered from
+-- 1.
 pub record CanBeDone (job : Job) : Type 0 where
   pub apart : AreApart (names_for job)
   pub numbers : AreNumbered job
 
--- The track with this coding can't be written, for the reason `why`.
+-- The track with the given coding, the second argument, can't be written by `extract`, for the reason `why`.
 abbrev pub is_unfit : UnsupportedTrack → Result Coding UnsupportedTrack → Bool
 is_unfit why (Ok coding) = false
 is_unfit NoExtractor (Err NoExtractor) = true
@@ -64,30 +65,30 @@ is_unfit NoExtractor (Err BadConfig) = false
 is_unfit BadConfig (Err NoExtractor) = false
 is_unfit BadConfig (Err BadConfig) = true
 
--- The track of target `t`, by its index in `entries`, can't be written in the form `kind`, for the reason `why`. A track that is missing isn't
--- refused.
+-- The track of the target `t` of `extract`, by its index in the TrackEntries `entries`, can't be written in the form `kind`, for the reason `why`. A
+-- track that is missing isn't refused.
 abbrev pub names_unfit : UnsupportedTrack → Form → List Node → Target → Bool
 names_unfit why kind entries t = option_map_or (λ entry. is_unfit why (coding_of kind entry)) (slice_get entries t.id) false
 
--- the reason why the track of target `t`, by its index in `entries`, can't be written in the form `kind`. There is none if it can, or if the track is
--- missing.
+-- the reason why the track of the target `t` of `extract`, by its index in the TrackEntries `entries`, can't be written in the form `kind`. There is
+-- none if it can, or if the track is missing.
 abbrev pub unfit_of : Form → List Node → Target → Option UnsupportedTrack
 unfit_of kind entries t = option_map_or (λ entry. result_err (coding_of kind entry)) (slice_get entries t.id) None
 
--- the index, from 0, of the track of the first of `targets` that can't be written in the form `kind`, for the reason `why`. `entries` has the
--- TrackEntries of the file.
+-- the index, from 0, of the track of the first of `targets` that can't be written in the form `kind`, for the reason `why`, or None; for the refusal
+-- of a job. `entries` has the TrackEntries of the file. Used by `refusal_taken`.
 abbrev pub first_unfit : UnsupportedTrack → Form → List Target → List Node → Option ℕ
 first_unfit why kind targets entries = option_map (λ (t : Target). t.id) (find (names_unfit why kind entries) targets)
 
--- The refusal of a job: for the first track whose codec has no form, or else for the first with a bad configuration (`bad_config`). Both are indexes
--- of tracks, from 0.
+-- The refusal of a job of `extract`: for the first track whose codec has no form, the first argument, or else for the first with a bad configuration
+-- (`bad_config`). Both are indexes of tracks, from 0, or None without such a track.
 abbrev pub refusal_of : Option ℕ → Option ℕ → Option Refusal
 refusal_of (Some track) bad_config = Some (record { why = NoExtractor; track = track })
 refusal_of None (Some track) = Some (record { why = BadConfig; track = track })
 refusal_of None None = None
 
--- the output with the name `name` for the track with the TrackEntry `entry`, in the coding `coding`. Its prefix has the bytes that header stripping
--- removed.
+-- the output of `extract` with the name `name` for the track with the TrackEntry `entry`, in the coding `coding`. Its prefix has the bytes that
+-- header stripping removed.
 abbrev pub output_with : List ℕ → Node → Coding → TrackOutput
 output_with name entry coding = record {
   name = name;
@@ -98,37 +99,38 @@ output_with name entry coding = record {
   form = coding.form;
 }
 
--- the output with the name `name` for the track with the TrackEntry `entry`, if its coding is one; none if the track is refused
+-- the output of `extract` with the name `name` for the track with the TrackEntry `entry`, if its coding, the last argument, is one; none if the track
+-- is refused
 abbrev pub track_output : List ℕ → Node → Result Coding UnsupportedTrack → List TrackOutput
 track_output name entry (Err why) = []
 track_output name entry (Ok coding) = output_with name entry coding ∷ []
 
--- the output of target `t` in the form `kind`, for the TrackEntry that it names. There is none if the track is missing, or can't be written in this
--- form.
+-- the output of the target `t` of `extract` in the form `kind`, for the TrackEntry that it names, the last argument. There is none if the track is
+-- missing, or can't be written in this form.
 abbrev pub output_for : Form → Target → Option Node → List TrackOutput
 output_for kind t None = []
 output_for kind t (Some entry) = track_output t.name entry (coding_of kind entry)
 
--- the outputs in the form `kind` of `targets`, in their order; `entries` has the TrackEntries of the file
+-- the outputs of `extract` in the form `kind` for `targets`, in their order; `entries` has the TrackEntries of the file
 abbrev pub outputs_for : Form → List Target → List Node → List TrackOutput
 outputs_for kind targets entries = flat_map (λ (t : Target). output_for kind t (slice_get entries t.id)) targets
 
--- the outputs of `targets` in the form that a job asks for, if any; none for a job that doesn't write frames. `entries` has the TrackEntries of the
--- file.
+-- the outputs of `targets` of `extract` in the given form, the first argument; none for a job that doesn't write frames (None). `entries` has the
+-- TrackEntries of the file.
 abbrev pub outputs_taken : Option Form → List Target → List Node → List TrackOutput
 outputs_taken None targets entries = []
 outputs_taken (Some kind) targets entries = outputs_for kind targets entries
 
--- the outputs of `job`, if it writes frames of tracks, for a file with the TrackEntries `entries`
+-- the outputs of the job `job` of `extract`, if it writes frames of tracks, for a file with the TrackEntries `entries`
 abbrev pub job_outputs : Job → List Node → List TrackOutput
 job_outputs job entries = outputs_taken (form_of job) (targets_of job) entries
 
--- the refusal for one of the tracks of `targets` in the form of the job, if any; `entries` has the TrackEntries of the file. A job that doesn't write
--- frames isn't refused.
+-- the refusal for one of the tracks of `targets` in the form of a job of `extract`, the first argument, or None; `entries` has the TrackEntries of
+-- the file. A job that doesn't write frames (None) isn't refused.
 abbrev pub refusal_taken : Option Form → List Target → List Node → Option Refusal
 refusal_taken None targets entries = None
 refusal_taken (Some kind) targets entries = refusal_of (first_unfit NoExtractor kind targets entries) (first_unfit BadConfig kind targets entries)
 
--- the refusal of `job` for one of the tracks that it names, if any; `entries` has the TrackEntries of the file
+-- the refusal of the job `job` of `extract` for one of the tracks that it names, or None; `entries` has the TrackEntries of the file
 abbrev pub job_refusal : Job → List Node → Option Refusal
 job_refusal job entries = refusal_taken (form_of job) (targets_of job) entries

@@ -10,12 +10,13 @@ use Rattle.extractors.specs.Frames.{Frame, frames_of}
 use Rattle.extractors.specs.declared.frame_form.FrameForm.TheVariants as form
 use Rattle.extractors.specs.declared.track_output.TrackOutput.{TrackOutput}
 
--- all frames of the track of output `o` in `blocks`, each with the bytes that header stripping removed from its start
+-- all frames of the track of the output `o` in `blocks`, each with the bytes that header stripping removed from its start; for the law on outputs
 abbrev pub octets_of_frames : TrackOutput → List Block → List (List ℕ)
 octets_of_frames o blocks = map (λ (f : Frame). whole o.prefix f) (frames_of o.step o.track blocks)
 
--- An output of AAC is a sequence of ADTS headers, each with its frame: exactly the valid frames of its track, in order. An output of H.264 is a
--- sequence of start codes, each with its unit: the parameter sets, and the units of the valid frames. This holds if no unit contains a start code.
+-- Law on `extract`: an output `o` of AAC is a sequence of ADTS headers, each with its frame: exactly the valid frames of its track, in order. An
+-- output of H.264 is a sequence of start codes, each with its unit: the parameter sets, and the units of the valid frames. This holds if no unit
+-- contains a start code.
 pub record OutputsHoldTheGoodFrames : Type 0 where
   pub adts : (o : TrackOutput) (aac : Aac) (blocks : List Block) → o.head ≡ [] → o.form ≡ form.Adts aac → IsAac aac
       → IsAdts (content_of o blocks) (headed aac (filter is_good (octets_of_frames o blocks)))

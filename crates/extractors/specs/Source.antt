@@ -19,19 +19,21 @@ use Rattle.extractors.specs.Job.{job_outputs}
 use Rattle.extractors.specs.declared.track_output.TrackOutput.{TrackOutput}
 use Rattle.extractors.specs.declared.source.Source.{Source}
 
--- the TrackEntry of the track `t` that was read
+-- the TrackEntry of the track `t` that was read from a file to extract from. Used by `track_outputs`, `job_refusal` and others.
 abbrev pub entry_in : Track → Node
 entry_in t = t.entry
 
--- the TrackEntries of the source `s`, in the order of its Tracks
+-- the TrackEntries of the source `s` of an extraction, in the order of its Tracks; targets name them by index. Used by `WritesTrackCues`,
+-- `WritesCues` and others.
 abbrev pub entries_in : Source → List Node
 entries_in s = map entry_in s.tracks
 
--- the blocks and the damaged places of source `s` in file order, if its file has the content `bytes`
+-- the blocks and the damaged places of the source `s` of an extraction in file order, if its file has the content `bytes`; for `WritesTaken` and
+-- `TellsTaken`
 abbrev pub events_in : Source → List ℕ → List Event
 events_in s bytes = events_of (with_limits (scale_of_info s.info)) bytes s.outline.segment
 
--- the outputs of `job` for the tracks of source `s`, in order
+-- the outputs of the job `job` of `extract` for the tracks of the source `s`, in order
 abbrev pub outputs_in : Source → Job → List TrackOutput
 outputs_in s job = job_outputs job (entries_in s)
 
@@ -48,14 +50,15 @@ pub record IsSource {S : Type 0} (r : Ghosts S) (files : S) (s : Source) : Type 
   pub chapters : IfSome s.chapters (IsSoundOf CHAPTERS)
   pub cues : IfSome s.cues (IsSoundOf CUES)
 
--- The frames of the track with the TrackEntry `entry` can be used: nothing prevents their decoding, such as an unsupported compression.
+-- The frames of the track with the TrackEntry `entry` can be used by `extract`: nothing prevents their decoding, such as an unsupported compression.
 abbrev pub IsUsable : Node → Type 0
 IsUsable entry = first_damage (usable_causes entry) ≡ None
 
--- The frames of the tracks that `targets` name can be used; `entries` has the TrackEntries of the file. A target whose track is missing is fine.
+-- The frames of the tracks that `targets` name can be used, as `extract` requires; `entries` has the TrackEntries of the file. A target whose track
+-- is missing is fine.
 abbrev pub AreUsableOf : List Node → List Target → Type 0
 AreUsableOf entries targets = All (λ (t : Target). IfSome (slice_get entries t.id) IsUsable) targets
 
--- The frames of the tracks that `targets` name in the source `s` can be used. A target whose track is missing is fine.
+-- The frames of the tracks that `targets` name in the source `s` can be used, as `extract` requires. A target whose track is missing is fine.
 abbrev pub AreUsable : Source → List Target → Type 0
 AreUsable s targets = AreUsableOf (entries_in s) targets

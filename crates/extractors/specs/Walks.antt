@@ -36,165 +36,178 @@ use Rattle.extractors.specs.declared.frames.Framed.{Framed}
 
 -- ---- one block
 
--- the frame `f` that is about to be written, with its bytes, time and duration
+-- the frame `f` that `give_frame` is about to write, with its bytes, time and duration in nanoseconds; for `AddsFrame`
 abbrev pub frame_of : Framed → Frame
 frame_of f = record { octets = f.octets.now; time = f.time; duration = f.duration }
 
--- the entry of SubRip for the frame `f`; its text is `prefix` and the frame's bytes
+-- the entry of SubRip that `give_text` writes for the frame `f`; its text is `prefix` and the frame's bytes
 abbrev pub as_text : List ℕ → Framed → List ℕ
 as_text prefix f = put_srt f.number f.time f.duration (prefix ++ f.octets.now)
 
--- the number of frames that block `b` adds to the output `o`; 0 if it is a block of another track
+-- the number of frames that the block `b` adds to the output `o` of an extraction; 0 if it is a block of another track. Used by `CountsPiece`.
 abbrev pub count_in : TrackOutput → Block → ℕ
 count_in o b = length (frames_for o.step o.track b)
 
--- the bytes that block `b` adds to the output `o`, whose next frame has number `n` in its track, counted from 1; none for a block of another track
+-- the bytes that the block `b` adds to the output `o` of an extraction, whose next frame has number `n` in its track, counted from 1; none for a
+-- block of another track. Used by `AddsPart`.
 abbrev pub piece : TrackOutput → ℕ → Block → List ℕ
 piece o n b = entries_from o n (frames_for o.step o.track b)
 
--- Frames can be written to the output `o`: its step is a DefaultDuration below 2^48 nanoseconds, and the parameters of its form are valid.
+-- Frames can be written to the output `o` of an extraction: its step is a DefaultDuration below 2^48 nanoseconds, and the parameters of its form are
+-- valid. All writers of blocks require it. Used by `add_bad_frames`, `give_to` and others.
 pub record IsReady (o : TrackOutput) : Type 0 where
   pub step : o.step < 2 ^ 48
   pub can : CanWrite o.form
 
--- the bytes written for the whole H.264 frame `octets`, whose units have lengths of `length_size` bytes: each unit after a start code. A bad frame
--- has none.
+-- the bytes that `give_units` writes for the whole H.264 frame `octets`, whose units have lengths of `length_size` bytes: each unit after a start
+-- code. A bad frame has none.
 abbrev pub annexed : ℕ → List ℕ → List ℕ
 annexed length_size octets = unwrap_or (annex_b length_size octets) []
 
--- the bytes written for an AAC frame with the bytes `prefix` and `octets`: its ADTS header for the configuration `aac`, and the frame. A bad frame
--- has none.
+-- the bytes that `give_headed` writes for an AAC frame with the bytes `prefix` and `octets`: its ADTS header for the configuration `aac`, and the
+-- frame. A bad frame has none.
 abbrev pub headed : Aac → List ℕ → List ℕ → List ℕ
 headed aac prefix octets = unwrap_or (adts aac (prefix ++ octets)) []
 
--- The bytes `octets` were appended to the output with index `k`, whatever the outputs had before. After a failure they may be there in part. `sinks`
--- and `later` are the outputs before and after the call, as `old` and `new` are the states.
+-- The bytes `octets` were appended to the output with index `k`, whatever the outputs had before; all writers of frames promise it. If `result` is an
+-- error, they may be there in part. `sinks` and `later` are the outputs before and after the call, as `old` and `new` are the states. `f` gives the
+-- proof's view of the files.
 abbrev pub Adds : {S T E : Type 0} → writing.Ghosts S → S → S → List Sink → List Sink → ℕ → List ℕ → Result T E → Type 0
 Adds f old new sinks later k octets result = Gives f old new sinks later (with_more k octets) result
 
--- The frame `frame` was appended, in the form of output `o`, to the output with index `k`; nothing was for a bad frame. `old` and `new` are the
--- states before and after the call, `sinks` and `later` the outputs.
+-- The frame `frame` was appended, in the form of the output `o`, to the output with index `k`; nothing was for a bad frame. `old` and `new` are the
+-- states before and after the call, `sinks` and `later` the open outputs. It is the contract of `give_frame`. `f` gives the proof's view of the
+-- files.
 abbrev pub AddsFrame : {S T E : Type 0} → writing.Ghosts S → TrackOutput → Framed → S → S → List Sink → List Sink → ℕ → Result T E → Type 0
 AddsFrame f o frame old new sinks later k result = Adds f old new sinks later k (entry_of o frame.number (frame_of frame)) result
 
--- The frames of the block at cursor `c` were appended, in the form of output `o`, to the output with index `k`. The first has number `n` in its
--- track. `old` and `new` are the states before and after the call, `sinks` and `later` the outputs.
+-- The frames of the block at the cursor `c` were appended, in the form of the output `o`, to the output with index `k`. The first has number `n` in
+-- its track. `old` and `new` are the states before and after the call, `sinks` and `later` the open outputs. It is the contract of `give_frames`. `f`
+-- gives the proof's view of the files.
 abbrev pub AddsLent : {S T E : Type 0} → writing.Ghosts S → TrackOutput → ℕ → Reading → S → S → List Sink → List Sink → ℕ → Result T E → Type 0
 AddsLent f o n c old new sinks later k result = Adds f old new sinks later k (entries_from o n (frames_of_block o.step (block_of c.block))) result
 
--- `result` is the number of the frame after the block at cursor `c`. The block's first frame has number `n` in the track of output `o`.
+-- `result`, which `give_frames` returned, is the number of the frame after the block at the cursor `c`. The block's first frame has number `n` in the
+-- track of the output `o`, counted from 1.
 abbrev pub CountsFrames : {E : Type 0} → TrackOutput → ℕ → Reading → Result ℕ E → Type 0
 CountsFrames o n c result = IfOk result (λ next. next ≡ counted (n + length (frames_of_block o.step (block_of c.block))))
 
--- The timestamps of the frames of a block were appended, in the form of output `o`, to the output with index `k`. The first frame has number `n` in
--- its track. The cursor `c` needs only the head of this block and its number of frames. `old` and `new` are the states before and after the call,
--- `sinks` and `later` the outputs.
+-- The timestamps of the frames of a block were appended, in the form of the output `o`, to the output with index `k`. The first frame has number `n`
+-- in its track. The cursor `c` needs only the head of this block and its number of frames. `old` and `new` are the states before and after the call,
+-- `sinks` and `later` the open outputs. It is the contract of `give_times`. `f` gives the proof's view of the files.
 abbrev pub AddsTime : {S T E : Type 0} → writing.Ghosts S → TrackOutput → ℕ → Reading → S → S → List Sink → List Sink → ℕ → Result T E → Type 0
 AddsTime f o n c old new sinks later k result = (b : Block) → IsKnownByHead b c.block → Adds f old new sinks later k (entries_from o n (frames_of_block o.step b)) result
 
--- `result` is the number of the frame after a block, if its first frame has number `n` in the track of output `o`. The cursor `c` needs only the head
--- of this block and its number of frames.
+-- `result`, which `give_times` returned, is the number of the frame after a block, if its first frame has number `n` in the track of the output `o`,
+-- counted from 1. The cursor `c` needs only the head of this block and its number of frames.
 abbrev pub CountsTimes : {E : Type 0} → TrackOutput → ℕ → Reading → Result ℕ E → Type 0
 CountsTimes o n c result = (b : Block) → IsKnownByHead b c.block → IfOk result (λ next. next ≡ counted (n + length (frames_of_block o.step b)))
 
--- The frames of a block were appended to output `o`, with index `k`, if the block is of its track. The next frame of `o` has number `n`. The cursor
--- `c` has enough of the block for it. `old` and `new` are the states before and after the call, `sinks` and `later` the outputs.
+-- The frames of a block were appended to the output `o`, with index `k`, if the block is of its track. The next frame of `o` has number `n`. The
+-- cursor `c` has enough of the block for it. `old` and `new` are the states before and after the call, `sinks` and `later` the open outputs. It is
+-- the contract of `give_to`. `f` gives the proof's view of the files.
 abbrev pub AddsPart : {S T E : Type 0} → writing.Ghosts S → TrackOutput → ℕ → Reading → S → S → List Sink → List Sink → ℕ → Result T E → Type 0
 AddsPart f o n c old new sinks later k result = (b : Block) → IsEnoughFor o b c.block → Adds f old new sinks later k (piece o n b) result
 
--- `result` is the number of the next frame of output `o` after the block at cursor `c`. It was `n` before the block. A block of another track adds
--- none.
+-- `result`, which `give_to` returned, is the number of the next frame of the output `o` after the block at the cursor `c`. It was `n` before the
+-- block. A block of another track adds none.
 abbrev pub CountsPiece : {E : Type 0} → TrackOutput → ℕ → Reading → Result ℕ E → Type 0
 CountsPiece o n c result = (b : Block) → IsEnoughFor o b c.block → IfOk result (λ next. next ≡ counted (n + count_in o b))
 
--- The bad frames of the block at cursor `c` were added to the reports `old`, which gave `new`; `list` has the outputs. The cursor has enough of the
--- block for them.
+-- The bad frames of the block at the cursor `c` were added to the reports `old`, which gave `new`, as `add_bad_frames` promises; `list` has the
+-- outputs. The cursor has enough of the block for them.
 abbrev pub TellsBad : List TrackOutput → Reading → ToldDamages → ToldDamages → Type 0
 TellsBad list c old new = (b : Block) → IsEnoughForAll list b c.block → TellsMore old new (bad_in list b)
 
 -- ---- many blocks
 
--- the number of the next frame of the output `o` after it has been given `blocks`; the first frame has the number 1
+-- the number of the next frame of the output `o` of an extraction after it has been given `blocks`; the first frame has the number 1. Used by
+-- `numbers_after`.
 abbrev pub number_after : List Block → TrackOutput → ℕ
 number_after blocks o = counted (1 + length (frames_of o.step o.track blocks))
 
--- the numbers of the next frames of the outputs `list` after `blocks`, one for each output
+-- the numbers of the next frames of the outputs `list` of an extraction after `blocks`, one for each output. Used by `HaveBlocks`.
 abbrev pub numbers_after : List TrackOutput → List Block → List ℕ
 numbers_after list blocks = map (number_after blocks) list
 
--- The outputs `list`, open as `sinks`, were created since the names were `since`. In the state `files` they have exactly the frames of `blocks`;
--- `numbers` has the number of each output's next frame.
+-- The outputs `list` of an extraction, open as `sinks`, were created since the names were `since`. In the state `files` they have exactly the frames
+-- of `blocks`; `numbers` has the number of each output's next frame. It is so before and after each block that is written.
 pub record HaveBlocks {S : Type 0} (f : writing.Ghosts S) (since : Names) (list : List TrackOutput) (files : S) (sinks : List Sink) (numbers : List ℕ) (blocks : List Block) : Type 0 where
   pub given : HaveBeenGiven since (f.names files) (f.holder files) sinks (outputs_of list blocks)
   pub next : numbers ≡ numbers_after list blocks
 
--- Block `b` was appended to the outputs `list`, whatever blocks they had in the state `old`; `new` is the state after the call. `before` and `after`
--- have the number of each output's next frame, before and after it, as `sinks` and `later` are the open outputs. After a failure the block may be
--- there in part.
+-- The block `b` was appended to the outputs `list` of an extraction, whatever blocks they had in the state `old`; `new` is the state after the call.
+-- `before` and `after` have the number of each output's next frame, before and after it, as `sinks` and `later` are the open outputs. After a failure
+-- the block may be there in part. `f` gives the proof's view of the files.
 abbrev pub WritesBlock : {S T E : Type 0} → writing.Ghosts S → List TrackOutput → S → S → List Sink → List Sink → List ℕ → List ℕ → Block → Result T E → Type 0
 WritesBlock f list old new sinks later before after b (Ok _) = (since : Names) (blocks : List Block) → HaveBlocks f since list old sinks before blocks → HaveBlocks f since list new later after (blocks ++ b ∷ [])
 WritesBlock f list old new sinks later before after b (Err _) = (since : Names) (blocks : List Block) → HaveBlocks f since list old sinks before blocks → ArePrefixes since (f.names new) (outputs_of list (blocks ++ b ∷ []))
 
--- The block at cursor `c` was appended to all outputs of `list` that are for its track. The cursor has enough of it for them. `before` and `after`
--- have the number of each output's next frame, before and after the call. `old` and `new` are the states, `sinks` and `later` the open outputs.
+-- The block at the cursor `c` was appended to all outputs of `list` that are for its track. The cursor has enough of it for them. `before` and
+-- `after` have the number of each output's next frame, before and after the call. `old` and `new` are the states, `sinks` and `later` the open
+-- outputs. It is the contract of `give_block`. `f` gives the proof's view of the files.
 abbrev pub GivesLent : {S T E : Type 0} → writing.Ghosts S → List TrackOutput → Reading → S → S → List Sink → List Sink → List ℕ → List ℕ → Result T E → Type 0
 GivesLent f list c old new sinks later before after result = (b : Block) → IsEnoughForAll list b c.block → WritesBlock f list old new sinks later before after b result
 
--- The blocks `all` were appended to the outputs `list`, which had no block in the state `old`. In the state `new`, after a failure, they may be there
--- in part. `sinks` and `later` are the open outputs before and after the call.
+-- The blocks `all` were appended to the outputs `list` of an extraction, which had no block in the state `old`. In the state `new`, after a failure,
+-- they may be there in part. `sinks` and `later` are the open outputs before and after the call. Used by `GivesLeft`. `f` gives the proof's view of
+-- the files.
 abbrev pub GivesBlocks : {S T E : Type 0} → writing.Ghosts S → List TrackOutput → S → S → List Sink → List Sink → List Block → Result T E → Type 0
 GivesBlocks f list old new sinks later all (Ok _) = (since : Names) → HaveBeenGiven since (f.names old) (f.holder old) sinks (outputs_of list []) → HaveBeenGiven since (f.names new) (f.holder new) later (outputs_of list all)
 GivesBlocks f list old new sinks later all (Err _) = (since : Names) → HaveBeenGiven since (f.names old) (f.holder old) sinks (outputs_of list []) → ArePrefixes since (f.names new) (outputs_of list all)
 
 -- The outputs `given` were created between the states `old` and `new`, with their content, and `later` has them open. After a failure they exist in
--- part, each with a first part of its content.
+-- part, each with a first part of its content. It is the contract of `make_all`. `f` gives the proof's view of the files.
 abbrev pub MakesOutputs : {S T E : Type 0} → writing.Ghosts S → S → S → List Sink → List Output → Result T E → Type 0
 MakesOutputs f old new later given (Ok _) = HaveBeenGiven (f.names old) (f.names new) (f.holder new) later given
 MakesOutputs f old new later given (Err _) = ArePrefixes (f.names old) (f.names new) given
 
--- A call has written to the outputs `sinks` while it read another file. Afterwards, in `later`, the outputs have the same files, and these are still
--- open in the state `new`. Files with other names that were open in `old` are still open and unchanged.
+-- A call of `write_blocks` has written to the outputs `sinks` while it read another file. Afterwards, in `later`, the outputs have the same files,
+-- which are still open in the state `new`. Files with other names that were open in `old` are still open and unchanged. `r` and `f` give the proof's
+-- view of the files.
 pub record WritesAndReads {S : Type 0} (r : Ghosts S) (f : writing.Ghosts S) (old new : S) (sinks later : List Sink) : Type 0 where
   pub same : ids_of later ≡ ids_of sinks
   pub outputs : AreOpen r new later
   pub kept : KeepsOthers r f (names_under f old sinks) old new
 
 -- While a call worked on a file of `size` bytes, the count of bytes read rose from `before` to `now`. That is by at most `size` if the call
--- succeeded, and by at most twice `size` if it failed.
+-- succeeded, and by at most twice `size` if it failed. Extractions of tracks promise it.
 abbrev pub ReadsFew : {T E : Type 0} → ℕ → ℕ → ℕ → Result T E → Type 0
 ReadsFew size before now (Ok _) = now ≤ before + size
 ReadsFew size before now (Err _) = now ≤ before + 2 * size
 
 -- ---- a walk to the end of a file
 
--- The remaining blocks in the file of cursor `c` were appended to the outputs `list`, which had none in the state `old`. After a failure, in `new`,
--- they may be there in part. `sinks` and `later` are the open outputs before and after the call. It is promised if the file's content is visible to
--- the proof.
+-- The remaining blocks in the file of the cursor `c` were appended to the outputs `list`, which had none in the state `old`. After a failure, in
+-- `new`, they may be there in part. `sinks` and `later` are the open outputs before and after the call. It is promised if the file's content is
+-- visible to the proof. It is the contract of `write_blocks`. `r` and `f` give the proof's view of the files.
 abbrev pub GivesLeft : {S T E : Type 0} → Ghosts S → writing.Ghosts S → List TrackOutput → Reading → S → S → List Sink → List Sink → Result T E → Type 0
 GivesLeft r f list c old new sinks later result = IfTold r old c.file (λ bytes. GivesBlocks f list old new sinks later (blocks_of (left_of bytes c)) result)
 
--- The outputs `list` were created, written with the remaining blocks in the file of cursor `c`, and closed, between the states `old` and `new`. After
--- a failure they may be there in part. It is promised if the file's content is visible to the proof.
+-- The outputs `list` were created, written with the remaining blocks in the file of the cursor `c`, and closed, between the states `old` and `new`.
+-- After a failure they may be there in part. It is promised if the file's content is visible to the proof. It is the contract of `write_tracks`. `r`
+-- and `f` give the proof's view of the files.
 abbrev pub WritesLeft : {S T E : Type 0} → Ghosts S → writing.Ghosts S → List TrackOutput → Reading → S → S → Result T E → Type 0
 WritesLeft r f list c old new result = IfTold r old c.file (λ bytes. AreWritten (f.names old) (f.names new) (outputs_of list (blocks_of (left_of bytes c))) result)
 
--- `result` has the damaged places and the bad frames in the rest of the file of cursor `c`, if the outputs are `list`. It is promised if the file's
--- content is visible to the proof in the state `old`.
+-- `result`, which `write_tracks` returned, has the damaged places and the bad frames in the rest of the file of the cursor `c`, if the outputs are
+-- `list`. It is promised if the file's content is visible to the proof in the state `old`. `r` gives the proof's view of the files.
 abbrev pub TellsLeft : {S E : Type 0} → Ghosts S → List TrackOutput → Reading → S → Result Extracted E → Type 0
 TellsLeft r list c old result = IfTold r old c.file (λ bytes. IfOk result (λ extracted. extracted ≡ told_of list (left_of bytes c)))
 
--- A call has read at most the length of the file `file`, in bytes, or twice that length if it failed. `old` and `new` are the states before and
--- after the call.
+-- A call of `extract` for tracks, or a step of it, has read at most the length of the file `file`, in bytes, or twice that length if it failed. `old`
+-- and `new` are the states before and after the call, and `r` gives the proof's view of them.
 abbrev pub ReadsFewOf : {S T E : Type 0} → Ghosts S → FileId → S → S → Result T E → Type 0
 ReadsFewOf r file old new result = ReadsFew (file_size r old file) (r.octets_read old) (r.octets_read new) result
 
--- The outputs of `job` were written between the states `old` and `new`, with all blocks of source `s`. After a failure they may be there in part. It
--- is promised if the source's content is visible to the proof.
+-- The outputs of `job` were written between the states `old` and `new`, with all blocks of the source `s`. After a failure they may be there in part.
+-- It is promised if the source's content is visible to the proof. It is the contract of `extract` for tracks. `r` and `f` give the proof's view of
+-- the files.
 abbrev pub WritesTaken : {S T E : Type 0} → Ghosts S → writing.Ghosts S → Source → Job → S → S → Result T E → Type 0
 WritesTaken r f s job old new result =
     IfTold r old s.file (λ bytes. AreWritten (f.names old) (f.names new) (outputs_of (outputs_in s job) (blocks_of (events_in s bytes))) result)
 
--- `result` has all damaged places of source `s` and the bad frames that `job` leaves out. It is promised if the source's content is visible to the
--- proof in the state `old`.
+-- `result` has all damaged places of the source `s` and the bad frames that `job` leaves out. It is promised if the source's content is visible to
+-- the proof in the state `old`. It is the contract of `extract` for tracks. `r` gives the proof's view of the files.
 abbrev pub TellsTaken : {S E : Type 0} → Ghosts S → Source → Job → S → Result Extracted E → Type 0
 TellsTaken r s job old result = IfTold r old s.file (λ bytes. IfOk result (λ extracted. extracted ≡ told_of (outputs_in s job) (events_in s bytes)))

@@ -19,8 +19,8 @@ use std::alloc::Global;
 /// Size in bytes of the buffer through which the data of attached files is copied.
 const CHUNK: usize = 65_536;
 
-/// Returns the attached file of `list` with the ID `number`, counted from 1 in the order of the Attachments. There is
-/// none for 0 or a number past the last.
+/// Returns the attached file of `list` with the ID `number`, counted from 1 in the order of the Attachments. Returns
+/// None for 0 or a number past the last. Used by `write_attachment`.
 fn attached_at(list: &List<Attachment>, number: u64) -> Option<&Attachment>
     ensures { option_map (λ a. a.now) result ≡ attached_at list.now number }
 {
@@ -30,8 +30,8 @@ fn attached_at(list: &List<Attachment>, number: u64) -> Option<&Attachment>
     list.get((number - 1) as usize)
 }
 
-/// Creates or replaces the file of `target`, and copies the data of the attached file that it names from the source
-/// through `buffer`. If the source has no such file, nothing is created. It is one step of `write_each`.
+/// Creates or replaces the file of `target`, and copies the data of the attached file that it names from `source`
+/// through `buffer`. If the source has no such attached file, nothing is created. Used by `write_each`.
 fn write_attachment<F: Files>(
     files: &mut F,
     source: &Source,
@@ -83,10 +83,10 @@ fn write_each<F: Files>(
     Ok(())
 }
 
-/// Extracts attached files: it creates or replaces the file of each target
-/// in `targets` whose number the source has, in order. At most 64 KiB of data are in memory at once. Each file is
-/// closed before the next is created. On failure the files of the first targets are complete, and the last file that
-/// was created may have only the start of its data.
+/// Extracts attached files, for `extract FILE attachments`: it creates or replaces the file of each target in `targets`
+/// whose number the source has, in order. At most 64 KiB of data are in memory at once. Each file is closed before the
+/// next is created. On failure the files of the first targets are complete, and the last file that was created may have
+/// only the start of its data.
 pub fn write_attachments<F: Files>(
     alloc: Global,
     files: &mut F,

@@ -20,9 +20,9 @@ use mkv_io::{Damage, Kind};
 use mkv_schema::ids::{BLOCK, SIMPLE_BLOCK};
 use std::alloc::{AllocError, Global};
 
-/// Adds a damaged place to `bad` for each frame of the cursor's block that can't be written in the form of its codec.
-/// Each frame is added once, even if several of the outputs `list` are for its track: all outputs of a track have the
-/// same form.
+/// Adds a damaged place to `bad` for each frame of the cursor's block that can't be written in the form of its codec,
+/// before `extract` writes the block. Each frame is added once, even if several of the outputs `list` are for its
+/// track: all outputs of a track have the same form. The content of `scratch` doesn't matter.
 pub fn add_bad_frames(
     list: &[TrackOutput],
     cursor: &Cursor,
@@ -38,7 +38,8 @@ pub fn add_bad_frames(
     }
 }
 
-/// Returns the first output in `list` for the track with TrackNumber `track`.
+/// Returns the first output in `list` for the track with TrackNumber `track`, or None if there is none. Used by
+/// `add_bad_frames`.
 fn first_of(list: &[TrackOutput], track: u64) -> Option<&TrackOutput>
     ensures { option_copied result ≡ find (λ (o : OutputSeen). o.track == track) list.now }
 {
@@ -46,7 +47,7 @@ fn first_of(list: &[TrackOutput], track: u64) -> Option<&TrackOutput>
 }
 
 /// Adds a damaged place to `bad` for each frame of the cursor's block that `output` can't write. The block must be one
-/// of the track of `output`.
+/// of the track of `output`. The content of `scratch` doesn't matter. Used by `add_bad_frames`.
 fn add_bad_of(
     output: &TrackOutput,
     cursor: &Cursor,
@@ -68,7 +69,7 @@ fn add_bad_of(
 }
 
 /// Adds `damage` to the reported places `told` if `is_one` is true. It keeps the loop over a block's frames without
-/// branches.
+/// branches. Used by `add_bad_of`.
 fn add_if(is_one: bool, damage: Damage, told: &mut Damages)
     ensures { told.new ≡ (if is_one then with_damage told.old damage else told.old) }
 {
@@ -78,7 +79,7 @@ fn add_if(is_one: bool, damage: Damage, told: &mut Damages)
 }
 
 /// Returns the damaged place that is reported for a bad frame at `cursor`: kind BadFrame, with the ID and file offset
-/// of the cursor's block.
+/// of the cursor's block. Used by `add_bad_of`.
 fn bad_frame(cursor: &Cursor) -> Damage
     ensures { result ≡ bad_frame (block_of cursor.now.block) }
 {
@@ -91,7 +92,8 @@ fn bad_frame(cursor: &Cursor) -> Damage
 }
 
 /// Checks whether a frame with the bytes `octets` can't be written in the form of `output`. Its H.264 units don't fill
-/// it exactly, or it is too long for an ADTS header. `scratch` is only working memory; its content doesn't matter.
+/// it exactly, or it is too long for an ADTS header. `scratch` is only working memory; its content doesn't matter. Used
+/// by `add_bad_of`.
 fn is_bad(output: &TrackOutput, octets: &[u8], scratch: &mut Scratch) -> Result<bool, AllocError>
     requires { CanWrite output.now.form }
     ensures { IfOk result (λ bad. bad ≡ is_bad output.now octets.now) }

@@ -24,7 +24,7 @@ use std::alloc::Global;
 /// Writes the frames of the cursor's block, or their timestamps, to `output`, which has index `k` in `outputs`. A block
 /// of another track is passed over. The next frame of the output's track has number `number`, counted from 1; returns
 /// the number of the frame after the block. The cursor needs only the head of a block of another track, and of each
-/// block if only timestamps are written.
+/// block if only timestamps are written. Used by `give_block`.
 fn give_to<F: Files>(
     outputs: &mut Outputs,
     files: &mut F,
@@ -52,7 +52,7 @@ fn give_to<F: Files>(
 }
 
 /// Writes the cursor's block to each output of `list` that is for its track, open in `outputs`. `numbers` has, for each
-/// output, the number of its next frame, counted from 1, and is advanced.
+/// output, the number of its next frame, counted from 1, and is advanced. Used by `take_block`.
 fn give_block<F: Files>(
     list: &[TrackOutput],
     outputs: &mut Outputs,
@@ -77,7 +77,8 @@ fn give_block<F: Files>(
 }
 
 /// Adds the bad frames of the cursor's block to `bad`, and writes its good frames to the outputs in `list` of its
-/// track. `numbers` has the number of each output's next frame, and is advanced. It is one step of `write_blocks`.
+/// track, open in `outputs`. `numbers` has the number of each output's next frame, counted from 1, and is advanced.
+/// `scratch` is working memory. Used by `write_blocks`.
 fn take_block<F: Files>(
     list: &[TrackOutput],
     outputs: &mut Outputs,

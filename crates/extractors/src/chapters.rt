@@ -13,7 +13,8 @@ use srt_chapters::put_simple;
 use std::alloc::Global;
 
 /// Creates or replaces the file `name` with `chapters`, the source's first Chapters, as OGM simple chapters
-/// (`CHAPTER01=..`); without a Chapters the file is empty. The file is closed in any case.
+/// (`CHAPTER01=..`), for `extract FILE chapters`. Without a Chapters (None) the file is empty. The file is closed in
+/// any case.
 pub fn write_chapters<F: Files>(
     alloc: Global,
     files: &mut F,

@@ -20,6 +20,7 @@ const TIMES_HEAD: &[u8] = b"# timestamp format v2\n";
 
 /// Returns how `track` is written in the form `form` that the command line asks for. The coding has the bytes before
 /// its first frame and the form of each frame. The inner error is the reason why the track can't be written so.
+/// `extract` asks before it creates a file, and again to make its outputs.
 pub fn coding_of(
     alloc: Global,
     form: Form,
@@ -37,8 +38,8 @@ pub fn coding_of(
     Ok(Ok(Coding { head, form }))
 }
 
-/// Returns how the frames of `track` are written in the form of its codec, by its CodecID (`Form::ByCodec`). A new
-/// codec gets a case here.
+/// Returns how the frames of `track` are written in the form of its codec, by its CodecID (`Form::ByCodec`). The inner
+/// error is the reason why they can't be. A new codec gets a case here. Used by `coding_of`.
 fn codec_coding(
     alloc: Global,
     track: &Track,
@@ -63,7 +64,7 @@ fn codec_coding(
 }
 
 /// Returns the coding of an H.264 track with the CodecPrivate `private`: an Annex B byte stream that begins with its
-/// parameter sets.
+/// parameter sets. The inner error is BadConfig, for an invalid CodecPrivate. Used by `codec_coding`.
 fn avc_coding(alloc: Global, private: &[u8]) -> Result<Result<Coding, UnsupportedTrack>, AllocError>
     ensures { IfOk result (λ read. read ≡ avc_coding (avc_of private.now)) }
 {
@@ -82,7 +83,8 @@ fn avc_coding(alloc: Global, private: &[u8]) -> Result<Result<Coding, Unsupporte
     }))
 }
 
-/// Returns the coding of an AAC track with the CodecPrivate `private`: each frame after an ADTS header.
+/// Returns the coding of an AAC track with the CodecPrivate `private`: each frame after an ADTS header. Fails with
+/// BadConfig if the CodecPrivate is invalid. Used by `codec_coding`.
 fn aac_coding(alloc: Global, private: &[u8]) -> Result<Coding, UnsupportedTrack>
     ensures { result ≡ aac_coding (aac_of private.now) }
 {
@@ -95,7 +97,8 @@ fn aac_coding(alloc: Global, private: &[u8]) -> Result<Coding, UnsupportedTrack>
     }
 }
 
-/// Returns the CodecPrivate of `track`, or no bytes if it is absent.
+/// Returns the CodecPrivate of `track`, or no bytes if it is absent, for its coding. Used by `coding_of` and
+/// `codec_coding`.
 fn private_of(track: &Track) -> &[u8]
     ensures { result.now ≡ private_of track.now.entry }
 {
@@ -105,7 +108,8 @@ fn private_of(track: &Track) -> &[u8]
     }
 }
 
-/// Returns a copy of `octets` that an output owns.
+/// Returns a copy of `octets`, the bytes before an output's first frame or each frame, that the output owns. Used by
+/// `coding_of` and `output_with`.
 pub fn bytes_of(alloc: Global, octets: &[u8]) -> Result<Bytes, AllocError>
     ensures { IfOk result (λ bytes. bytes ≡ octets.now) }
 {

@@ -20,7 +20,7 @@ use requests::Target;
 use std::alloc::{AllocError, Global};
 
 /// Returns the text of a track's cue points, as `put_cues` writes it; empty if `cues`, the file's first Cues, is None.
-/// `track` is a TrackNumber, and `scale` the nanoseconds per tick.
+/// `track` is a TrackNumber, and `scale` the nanoseconds per tick. Used by `write_track_cues`.
 fn cues_text(
     alloc: Global,
     cues: &Option<Tree>,
@@ -38,7 +38,7 @@ fn cues_text(
 }
 
 /// Creates or replaces the file of `target` with the cue points of its track, one line each. `target.id` is the track's
-/// index in the Tracks, from 0; if the source has no such track, nothing is created.
+/// index in the Tracks of `source`, from 0; if the source has no such track, nothing is created. Used by `write_cues`.
 fn write_track_cues<F: Files>(
     alloc: Global,
     files: &mut F,
@@ -61,10 +61,10 @@ fn write_track_cues<F: Files>(
     write_file(files, target.name.as_str(), text.as_bytes())
 }
 
-/// Extracts the cue points of tracks: it creates or replaces the file of each target in `targets` whose track the
-/// source has, in order. A file has a line for each CueTrackPositions of its track; without a Cues it is empty. Each
-/// file is closed before the next is created. On failure the files of the first targets are complete, and the last file
-/// that was created may have only a first part.
+/// Extracts the cue points of tracks, for `extract FILE cues`: it creates or replaces the file of each target in
+/// `targets` whose track the source has, in order. A file has a line for each CueTrackPositions of its track; without a
+/// Cues it is empty. Each file is closed before the next is created. On failure the files of the first targets are
+/// complete, and the last file that was created may have only a first part.
 pub fn write_cues<F: Files>(
     alloc: Global,
     files: &mut F,

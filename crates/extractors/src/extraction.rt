@@ -64,6 +64,7 @@ pub fn extract<F: Files>(
 }
 
 /// Creates the outputs `list`, writes the remaining blocks of `cursor` to them and closes them, also after a failure.
+/// Returns the damage of the source and the bad frames. Used by `extract`.
 fn write_tracks<F: Files>(
     alloc: Global,
     list: &[TrackOutput],
@@ -87,7 +88,7 @@ fn write_tracks<F: Files>(
 }
 
 /// Creates the outputs `list` in `outputs`, which is empty before, and writes to each its part of the blocks that
-/// `cursor` has left. The outputs stay open in any case: `write_tracks` closes them.
+/// `cursor` has left. The outputs stay open in any case. Used by `write_tracks`, which closes the outputs.
 fn write_all<F: Files>(
     alloc: Global,
     list: &[TrackOutput],
@@ -114,7 +115,7 @@ fn write_all<F: Files>(
 }
 
 /// Creates the outputs `list`, in order, in `outputs`, and writes the bytes that come before the first frame of each.
-/// It is the step before the blocks.
+/// Used by `write_all` before the blocks.
 fn make_all<F: Files>(
     list: &[TrackOutput],
     outputs: &mut Outputs,

@@ -40,7 +40,7 @@ pub struct Scratch {
 }
 
 impl Scratch {
-    /// Makes buffers without content, which take no memory yet.
+    /// Returns buffers without content, which take no memory yet, for one extraction of tracks.
     pub fn new(alloc: Global) -> Scratch {
         Scratch {
             line: String::new(alloc),
@@ -51,7 +51,8 @@ impl Scratch {
 }
 
 /// Returns a frame as it was before the track's header stripping: `prefix`, the bytes that were removed, followed by
-/// `octets`. The bytes are joined in `text` only if the prefix isn't empty.
+/// `octets`. The bytes are joined in `text` only if the prefix isn't empty. `extract` does this for codecs whose whole
+/// frame is needed at once.
 pub(crate) fn whole<'a>(
     text: &'a mut Bytes,
     prefix: &[u8],
@@ -71,7 +72,7 @@ pub(crate) fn whole<'a>(
 /// Writes the frames of the cursor's block to `output`, which has index `k` in `outputs`. It has any form except the
 /// timestamps. Returns the number of the frame after the block, whose first frame has number `number` in its track,
 /// counted from 1. Bad frames are counted, and left out. The content of `scratch` before and after the call doesn't
-/// matter.
+/// matter. Used by `give_to`.
 pub fn give_frames<F: Files>(
     outputs: &mut Outputs,
     files: &mut F,
@@ -110,7 +111,7 @@ pub fn give_frames<F: Files>(
 
 /// Writes the timestamps of the frames of the cursor's block, one line each, to `output`, which has index `k` in
 /// `outputs`. Returns the number of the frame after the block, whose first frame has number `number` in its track,
-/// counted from 1. The cursor needs only the head of the block and the number of its frames.
+/// counted from 1. The cursor needs only the head of the block and the number of its frames. Used by `give_to`.
 pub fn give_times<F: Files>(
     outputs: &mut Outputs,
     files: &mut F,
@@ -138,6 +139,7 @@ pub fn give_times<F: Files>(
 }
 
 /// Writes `frame` to `output`, which has index `k` in `outputs`, in the output's form; writes nothing for a bad frame.
+/// `scratch` is working memory. Used by `give_frames`.
 fn give_frame<F: Files>(
     outputs: &mut Outputs,
     files: &mut F,
@@ -174,7 +176,8 @@ fn give_frame<F: Files>(
     }
 }
 
-/// Writes `prefix` and then `octets` to the output with index `k` in `outputs`. The frame needs no buffer.
+/// Writes `prefix` and then `octets`, the parts of a frame or of an H.264 unit, to the output with index `k` in
+/// `outputs`. The frame needs no buffer.
 fn give_behind<F: Files>(
     outputs: &mut Outputs,
     files: &mut F,
@@ -193,7 +196,7 @@ fn give_behind<F: Files>(
 }
 
 /// Writes the timestamp `time`, in nanoseconds, as a line of milliseconds to the output with index `k` in `outputs`.
-/// `text` is working memory.
+/// `text` is working memory. Used by `give_times`.
 fn give_time<F: Files>(
     outputs: &mut Outputs,
     files: &mut F,
@@ -213,7 +216,7 @@ fn give_time<F: Files>(
 }
 
 /// Writes an entry of SubRip to the output with index `k` in `outputs`; its text is `prefix` and the bytes of `frame`.
-/// `scratch` is working memory.
+/// `scratch` is working memory. Used by `give_frame`.
 fn give_text<F: Files>(
     outputs: &mut Outputs,
     files: &mut F,
@@ -232,7 +235,8 @@ fn give_text<F: Files>(
     outputs.write(files, k, scratch.entry.as_slice())
 }
 
-/// Replaces the entry in `scratch` with an entry of SubRip whose text is `prefix` and the bytes of `frame`.
+/// Replaces the entry in `scratch` with an entry of SubRip whose text is `prefix` and the bytes of `frame`. Used by
+/// `give_text`.
 fn put_text(prefix: &[u8], frame: Framed<'_>, scratch: &mut Scratch) -> Result<(), AllocError>
     ensures { OnOk result (scratch.new.entry ≡ as_text prefix.now frame.entry) }
 {
@@ -249,7 +253,7 @@ fn put_text(prefix: &[u8], frame: Framed<'_>, scratch: &mut Scratch) -> Result<(
 
 /// Writes the H.264 frame `prefix` and `octets` to the output with index `k` in `outputs`, each unit after a start
 /// code. It writes nothing for a bad frame. `length_size` is the number of bytes of each length before a unit. `text`
-/// is working memory.
+/// is working memory. Used by `give_frame`.
 fn give_units<F: Files>(
     outputs: &mut Outputs,
     files: &mut F,
@@ -272,7 +276,7 @@ fn give_units<F: Files>(
 
 /// Writes the units of the whole H.264 frame `frame`, each after a start code, to the output with index `k` in
 /// `outputs`. It writes nothing if the units don't fill the frame exactly. `length_size` is the number of bytes of each
-/// length before a unit.
+/// length before a unit. Used by `give_units`.
 fn give_join<F: Files>(
     outputs: &mut Outputs,
     files: &mut F,
@@ -299,7 +303,7 @@ fn give_join<F: Files>(
 }
 
 /// Writes the AAC frame `prefix` and `octets` after its ADTS header, for the configuration `aac`, to the output with
-/// index `k` in `outputs`. It writes nothing if the frame is too long for the header.
+/// index `k` in `outputs`. It writes nothing if the frame is too long for the header. Used by `give_frame`.
 fn give_headed<F: Files>(
     outputs: &mut Outputs,
     files: &mut F,

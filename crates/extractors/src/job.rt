@@ -15,7 +15,8 @@ use requests::{Form, Job, Target};
 use std::alloc::{AllocError, Global};
 use track_records::{Track, usable};
 
-/// Returns the form of the frames that `job` writes; None if it extracts attached files, cue points or chapters.
+/// Returns the form of the frames that `job`, the extraction that the command line asks for, writes; None if it
+/// extracts attached files, cue points or chapters. Used by `extract` and `job_refusal`.
 pub fn form_of(job: &Job) -> Option<Form>
     ensures { result ≡ form_of job.now }
 {
@@ -25,8 +26,9 @@ pub fn form_of(job: &Job) -> Option<Form>
     }
 }
 
-/// Returns the targets of `job` whose IDs are indexes of tracks: for frames, timestamps and cue points. It returns none
-/// for attached files and chapters.
+/// Returns the targets of `job`, the extraction that the command line asks for, whose IDs are indexes of tracks: for
+/// frames, timestamps and cue points. It returns none for attached files and chapters. Used by `extract` and
+/// `job_refusal`.
 pub fn targets_of(job: &Job) -> &[Target]
     ensures { result.now ≡ targets_of job.now }
 {
@@ -37,7 +39,8 @@ pub fn targets_of(job: &Job) -> &[Target]
 }
 
 /// Returns the outputs that are created for `targets` in the form `form`, in order. `tracks` has the tracks of the
-/// file. A target gets none if its track is missing, or can't be written in this form. No file is touched.
+/// file. A target gets none if its track is missing, or can't be written in this form. No file is touched. Used by
+/// `extract`.
 pub fn track_outputs(
     alloc: Global,
     form: Form,
@@ -63,7 +66,7 @@ pub fn track_outputs(
 }
 
 /// Returns the description of the output `name` for the frames of `track`, with the head and form of `coding`. No file
-/// is created yet.
+/// is created yet. Used by `track_outputs`.
 fn output_with(
     alloc: Global,
     coding: Coding,
@@ -104,8 +107,9 @@ pub fn job_refusal(
     }
 }
 
-/// Returns the refusal for the tracks of `targets` in the form `form`. It is for the first track whose codec has no
-/// form, or else for the first with a missing or invalid configuration.
+/// Returns the refusal for the tracks of `targets` in the form `form`, or None. It is for the first track whose codec
+/// has no form, or else for the first with a missing or invalid configuration. `tracks` has the file's tracks. Used by
+/// `job_refusal`.
 fn first_refusal(
     alloc: Global,
     form: Form,
@@ -128,7 +132,8 @@ fn first_refusal(
 }
 
 /// Returns the refusal for the first track without a form for its codec (`no_extractor`), or else for the first with a
-/// bad configuration (`bad_config`). Both are indexes in the Tracks, from 0.
+/// bad configuration (`bad_config`). Both are indexes in the Tracks, from 0, or None without such a track. Used by
+/// `first_refusal`.
 fn refusal_of(no_extractor: Option<u64>, bad_config: Option<u64>) -> Option<Refusal>
     ensures { result ≡ refusal_of no_extractor bad_config }
 {
@@ -145,8 +150,8 @@ fn refusal_of(no_extractor: Option<u64>, bad_config: Option<u64>) -> Option<Refu
     }
 }
 
-/// Returns the reason why the track of `target` can't be written in the form `form`, if any. A track that is missing in
-/// `tracks` has none.
+/// Returns the reason why the track of `target` can't be written in the form `form`, or None if it can. A track that is
+/// missing in `tracks` has none. Used by `first_refusal`.
 fn unfit_of(
     alloc: Global,
     form: Form,
@@ -163,7 +168,7 @@ fn unfit_of(
     Ok(read.err())
 }
 
-/// Returns a copy of `text` that an output owns.
+/// Returns a copy of `text`, an output's name, that the output owns. Used by `output_with`.
 fn text_of(alloc: Global, text: &str) -> Result<Text, AllocError>
     ensures { IfOk result (λ copy. copy ≡ text.now) }
 {

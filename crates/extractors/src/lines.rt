@@ -19,7 +19,7 @@ use std::fmt::Write;
 /// Appends a line to `out` for each CueTrackPositions of the track with TrackNumber `track`, in the order of `cues`. A
 /// line has the time in nanoseconds, at `scale` nanoseconds per tick, and the two positions as the Cues has them.
 /// CueClusterPosition is in bytes from the start of the Segment's data, CueRelativePosition from the start of the
-/// Cluster's data.
+/// Cluster's data. Used by `cues_text`, for `extract FILE cues`.
 pub fn put_cues(cues: &Tree, track: u64, scale: u64, out: &mut String) -> Result<(), AllocError>
     requires { IsSoundOf ids.CUES cues.now }
     ensures { OnOk result (string_bytes out.new ≡ string_bytes out.old ++ spec.cue_lines scale track cues.now) }
@@ -33,7 +33,7 @@ pub fn put_cues(cues: &Tree, track: u64, scale: u64, out: &mut String) -> Result
 }
 
 /// Appends to `out` the lines of one CuePoint, `point`, for the track with TrackNumber `track`, at `scale` nanoseconds
-/// per tick.
+/// per tick. Used by `put_cues`.
 fn put_point(point: &Tree, track: u64, scale: u64, out: &mut String) -> Result<(), AllocError>
     requires { IsSoundOf ids.CUE_POINT point.now }
     ensures { OnOk result (string_bytes out.new ≡ string_bytes out.old ++ spec.point_lines scale track point.now) }
@@ -48,7 +48,7 @@ fn put_point(point: &Tree, track: u64, scale: u64, out: &mut String) -> Result<(
 }
 
 /// Returns the CueTime of the CuePoint `point` in nanoseconds, at `scale` nanoseconds per tick; None if it has no
-/// CueTime.
+/// CueTime. Used by `put_point`.
 fn time_of(point: &Tree, scale: u64) -> Option<u128>
     requires { IsSoundOf ids.CUE_POINT point.now }
     ensures { result ≡ spec.point_time scale point.now }
@@ -58,7 +58,7 @@ fn time_of(point: &Tree, scale: u64) -> Option<u128>
 }
 
 /// Appends to `out` the line of `place`, a CueTrackPositions of a CuePoint at `time` nanoseconds, if its CueTrack is
-/// `track`.
+/// `track`. Used by `put_point`.
 fn put_place(
     time: Option<u128>,
     place: &Tree,
@@ -75,7 +75,7 @@ fn put_place(
 }
 
 /// Appends one line to `out`: `time` in nanoseconds, and the positions in `place`, a CueTrackPositions. An absent
-/// number is `-`.
+/// number is `-`. Used by `put_place`.
 fn put_line(time: Option<u128>, place: &Tree, out: &mut String) -> Result<(), AllocError>
     requires { IsSoundOf ids.CUE_TRACK_POSITIONS place.now }
     ensures { OnOk result (string_bytes out.new ≡ string_bytes out.old ++ spec.cue_line time place.now) }
@@ -87,7 +87,7 @@ fn put_line(time: Option<u128>, place: &Tree, out: &mut String) -> Result<(), Al
 }
 
 /// Appends to `out` the label `name`, and the first child of `tree` with this `id` in decimal, or `-` if it is absent.
-/// The child is an unsigned integer.
+/// The child is an unsigned integer. Used by `put_line`.
 fn put_integer(name: &str, tree: &Tree, id: u32, out: &mut String) -> Result<(), AllocError>
     requires sound { IsSound tree.now }
     requires uint { HasUint (id_of tree.now) id }
@@ -99,7 +99,8 @@ fn put_integer(name: &str, tree: &Tree, id: u32, out: &mut String) -> Result<(),
     }
 }
 
-/// Appends to `out` the label `name`, and `number` in decimal, or `-` if it is None.
+/// Appends to `out`, a line of a cue point, the label `name`, and `number` in decimal, or `-` if it is None. Used by
+/// `put_line` and `put_integer`.
 fn put_number(name: &str, number: Option<u128>, out: &mut String) -> Result<(), AllocError>
     ensures { OnOk result (string_bytes out.new ≡ string_bytes out.old ++ spec.labelled name.now number) }
 {

@@ -18,7 +18,7 @@ use std::alloc::Global;
 
 /// Reads the first Cues at level 1 of `file`, whose top-level Elements `outline` lists; returns None if there is none.
 /// Refuses the file if the Cues is over 64 MiB (`HeaderTooLarge`), has over 8,388,608 Elements (`TooMany`), or is
-/// damaged inside.
+/// damaged inside. `extract FILE cues` reads its source so. Used by `cues_for` of `mkv_extract`.
 pub fn first_cues<R: Reads>(
     alloc: Global,
     outline: &Outline,

@@ -9,7 +9,7 @@ use crate::frame_form::FrameForm;
 use crate::track_output::TrackOutput;
 use cluster_reader::BlockFilter;
 
-/// Checks whether `form` writes only the timestamps of frames, and not their bytes.
+/// Checks whether `form` writes only the timestamps of frames, and not their bytes. Used by `are_of_times`.
 fn is_of_times(form: &FrameForm) -> bool
     ensures { result ≡ is_of_times form.now }
 {
@@ -20,14 +20,14 @@ fn is_of_times(form: &FrameForm) -> bool
     }
 }
 
-/// Checks whether every output of `list` takes only timestamps, so that no frame need be read.
+/// Checks whether every output of `list` takes only timestamps, so that no frame need be read. Used by `takes_of`.
 fn are_of_times(list: &[TrackOutput]) -> bool
     ensures { result ≡ list_all (λ (o : OutputSeen). is_of_times o.form) list.now }
 {
     list.iter().all(|output| is_of_times(&output.form))
 }
 
-/// Checks whether all outputs of `list` are for the track with TrackNumber `track`.
+/// Checks whether all outputs of `list` are for the track with TrackNumber `track`. Used by `of_one_track`.
 fn are_of_track(list: &[TrackOutput], track: u64) -> bool
     ensures { result ≡ list_all (λ (o : OutputSeen). o.track == track) list.now }
 {
@@ -35,7 +35,7 @@ fn are_of_track(list: &[TrackOutput], track: u64) -> bool
 }
 
 /// Returns the filter that reads only the blocks of one track if all outputs of `list` are for it, and all blocks
-/// otherwise.
+/// otherwise. Used by `takes_of`.
 fn of_one_track(list: &[TrackOutput]) -> BlockFilter
     ensures { result ≡ of_one_track list.now }
 {
@@ -50,7 +50,8 @@ fn of_one_track(list: &[TrackOutput]) -> BlockFilter
 }
 
 /// Returns the filter for the walk over the blocks of the source. It is only the heads of blocks if each output of
-/// `list` takes only timestamps. It is only one track if they are all for it, or else all blocks.
+/// `list` takes only timestamps. It is only one track if they are all for it, or else all blocks. Used by
+/// `write_blocks`.
 pub fn takes_of(list: &[TrackOutput]) -> BlockFilter
     ensures { result ≡ takes_of list.now }
 {

@@ -9,8 +9,8 @@ use cluster_reader::BlockHead;
 use std::alloc::AllocError;
 use std::fmt::Write;
 
-/// Returns the time in nanoseconds of frame `i`, from 0, of the lace in the block with this head. It is the block's
-/// time and `i` times `step`, the track's DefaultDuration in nanoseconds or 0.
+/// Returns the time in nanoseconds of frame `i`, from 0, of the lace in the block with the head `head`, when `extract`
+/// writes it. It is the block's time and `i` times `step`, the track's DefaultDuration in nanoseconds or 0.
 pub fn frame_time(head: &BlockHead, i: usize, step: u64) -> i64
     requires small { IsSmallTime head.now.time }
     requires few { i < 256 }
@@ -21,7 +21,7 @@ pub fn frame_time(head: &BlockHead, i: usize, step: u64) -> i64
 }
 
 /// Appends to `text` the line of a timestamp file for `time`, in nanoseconds: milliseconds, with six decimals unless it
-/// is whole.
+/// is whole. Used by `give_time`.
 pub fn push_time(text: &mut String, time: i64) -> Result<(), AllocError>
     ensures { OnOk result (string_bytes text.new ≡ string_bytes text.old ++ time_line time) }
 {

@@ -7,8 +7,8 @@ ghost use Rattle.extractors.specs.Whole.{CopiesFile, WritesFile};
 use cues_seekhead::{append, copy_data};
 use mkv_io::{FileId, Files, RemuxEnd as OutEnd};
 
-/// Creates or replaces the file `name` with the bytes `octets`, for chapters and cue points. It is closed again in any
-/// case.
+/// Creates or replaces the file `name` with the bytes `octets`, when `extract` writes chapters and cue points. It is
+/// closed again in any case.
 pub fn write_file<F: Files>(files: &mut F, name: &str, octets: &[u8]) -> Result<(), OutEnd>
     ensures { WritesFile F.Reads F.Files.own name.now octets.now 0 files.old files.new result }
 {
@@ -18,8 +18,8 @@ pub fn write_file<F: Files>(files: &mut F, name: &str, octets: &[u8]) -> Result<
     ended
 }
 
-/// Creates or replaces the file `name` with `len` bytes of the open file `from`, starting at offset `at`, for an
-/// attached file. The bytes go through `buffer`; the new file is closed again in any case.
+/// Creates or replaces the file `name` with `len` bytes of the open file `from`, starting at the offset `at`, when
+/// `extract` writes an attached file. The bytes go through `buffer`; the new file is closed again in any case.
 pub fn copy_file<F: Files>(
     files: &mut F,
     name: &str,

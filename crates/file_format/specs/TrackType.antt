@@ -2,7 +2,7 @@
 use Rattle.std.specs.Prelude.{ℕ, ◌==◌, if◌then◌else◌, List, codes}
 use Rattle.mkv_schema.specs.declared.track_type.TheConstants.{VIDEO_TRACK, AUDIO_TRACK, SUBTITLE_TRACK}
 
--- the name that is shown for the TrackType `type`; all types except three have the same name
+-- the name that `info` shows for the TrackType `type`; all types except three have the same name
 unfoldable pub type_name : ℕ → List ℕ
 type_name type =
     if type == VIDEO_TRACK then codes "video" else

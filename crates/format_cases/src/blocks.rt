@@ -12,8 +12,8 @@ use std::fmt::Write;
 /// Nanoseconds per tick of the blocks in the cases.
 const SCALE: u64 = 1_000_000;
 
-/// Appends to `text` a line for each step of a cursor over the blocks of `file`. At the end it makes one more step,
-/// which must be the end again.
+/// Appends to `text` a line for each step of a cursor over the blocks of `file`, in a test case `blocks`. At the end it
+/// makes one more step, which must be the end again. Reads `file` through `src`.
 pub fn tell<R: Reads>(
     alloc: Global,
     src: &mut R,
@@ -31,7 +31,8 @@ pub fn tell<R: Reads>(
     }
 }
 
-/// Appends a line for each step of `cursor` to `text`, up to its second end or 1000 steps.
+/// Appends a line for each step of `cursor` to `text`, up to its second end or 1000 steps. `tell` calls it for a test
+/// case `blocks`. Reads the file through `src`.
 fn tell_steps<R: Reads>(
     cursor: &mut Cursor,
     src: &mut R,
@@ -53,7 +54,8 @@ fn tell_steps<R: Reads>(
     Ok(())
 }
 
-/// Appends the line of one step of `cursor` to `text`: a block, damage, the end, or a failure.
+/// Appends the line of one step of `cursor` to `text`: a block, damage, the end, or a failure. `tell_steps` calls it;
+/// `step` is the result of `advance`.
 fn tell_step(
     cursor: &Cursor,
     step: Result<Step, ReadEnd>,
@@ -68,7 +70,8 @@ fn tell_step(
     }
 }
 
-/// Appends to `text` the kind, ID and offset of `damage`, and whether reading stops at it (`stopped`).
+/// Appends to `text` the kind, ID and offset in bytes of `damage`, and whether reading stops at it (`stopped`), for a
+/// step of a test case `blocks`.
 fn tell_damaged(damage: Damage, stopped: bool, text: &mut String) -> Result<(), AllocError> {
     let kind = damage.kind;
     let id = damage.id;
@@ -78,7 +81,7 @@ fn tell_damaged(damage: Damage, stopped: bool, text: &mut String) -> Result<(), 
 }
 
 /// Appends the line of the cursor's block to `text`: its offset, track and time in nanoseconds, flags, frames, and
-/// other children.
+/// other children, for a step of a test case `blocks`.
 fn tell_block(cursor: &Cursor, text: &mut String) -> Result<(), AllocError> {
     let head = cursor.head();
     let offset = head.offset;
@@ -91,7 +94,7 @@ fn tell_block(cursor: &Cursor, text: &mut String) -> Result<(), AllocError> {
     text.push_str("\n")
 }
 
-/// Appends the flags of the cursor's block that are set to `text`.
+/// Appends the flags of the cursor's block that are set to `text`, for the line of `tell_block`.
 fn tell_flags(cursor: &Cursor, text: &mut String) -> Result<(), AllocError> {
     let head = cursor.head();
     tell_flag(head.key, " key", text)?;
@@ -100,13 +103,13 @@ fn tell_flags(cursor: &Cursor, text: &mut String) -> Result<(), AllocError> {
     tell_flag(head.group, " group", text)
 }
 
-/// Appends `word` to `text` if `flag` is true.
+/// Appends `word` to `text` if `flag` is true, for the line of `tell_block`.
 fn tell_flag(flag: bool, word: &str, text: &mut String) -> Result<(), AllocError> {
     if flag { text.push_str(word) } else { Ok(()) }
 }
 
-/// Appends the lacing of the cursor's block to `text`, the sizes of its frames, and their bytes if there are at most
-/// 16.
+/// Appends the lacing of the cursor's block to `text`, the sizes of its frames in bytes, and their bytes if there are
+/// at most 16, for the line of `tell_block`.
 fn tell_frames(cursor: &Cursor, text: &mut String) -> Result<(), AllocError> {
     let lace = cursor.head().lace;
     let sizes = cursor.sizes();
@@ -118,7 +121,8 @@ fn tell_frames(cursor: &Cursor, text: &mut String) -> Result<(), AllocError> {
     write!(text, " {body:?}")
 }
 
-/// Appends the children of the cursor's BlockGroup other than its Block to `text`: duration, references and the rest.
+/// Appends the children of the cursor's BlockGroup other than its Block to `text`: duration in nanoseconds, references
+/// and the rest, for the line of `tell_block`.
 fn tell_rest(cursor: &Cursor, text: &mut String) -> Result<(), AllocError> {
     if let Some(duration) = cursor.head().duration {
         write!(text, " for {duration}")?;
@@ -127,7 +131,8 @@ fn tell_rest(cursor: &Cursor, text: &mut String) -> Result<(), AllocError> {
     tell_extra(cursor.extra(), text)
 }
 
-/// Appends `references`, the references of a BlockGroup in nanoseconds, to `text`, if it has any.
+/// Appends `references`, the references of a BlockGroup in nanoseconds, to `text`, if it has any, for the line of
+/// `tell_block`. Used by `tell_rest`.
 fn tell_references(references: &[i64], text: &mut String) -> Result<(), AllocError> {
     if references.is_empty() {
         return Ok(());
@@ -135,7 +140,8 @@ fn tell_references(references: &[i64], text: &mut String) -> Result<(), AllocErr
     write!(text, " refs {references:?}")
 }
 
-/// Appends `extra`, the bytes of the other children of a BlockGroup, to `text`, if it has any.
+/// Appends `extra`, the bytes of the other children of a BlockGroup, to `text`, if it has any, for the line of
+/// `tell_block`. Used by `tell_rest`.
 fn tell_extra(extra: &[u8], text: &mut String) -> Result<(), AllocError> {
     if extra.is_empty() {
         return Ok(());

@@ -10,7 +10,7 @@ use mkv_memory::MemFiles;
 use std::alloc::{AllocError, Global};
 
 /// Makes a file `a.mkv` with the bytes `octets` in memory. If `failing` isn't 0, the call on the files with this
-/// number, from 0, fails.
+/// number, counted from 0, fails. `tell_file` calls it for a case.
 fn files_of(alloc: Global, octets: &[u8], failing: u64) -> Result<MemFiles, AllocError> {
     let mut files = MemFiles::new(alloc)?;
     if octets.len() as u64 <= LONGEST_FILE {
@@ -22,8 +22,8 @@ fn files_of(alloc: Global, octets: &[u8], failing: u64) -> Result<MemFiles, Allo
     Ok(files)
 }
 
-/// Appends to `text` the result of the case with the name `word`. If the number of `case` isn't 0, the call on the
-/// files with this number, from 0, fails.
+/// Appends to `text` the result of the case with the name `word`, `level1` or `blocks`. If the number of `case` isn't
+/// 0, the call on the files with this number, counted from 0, fails.
 pub fn tell_file(
     alloc: Global,
     word: &str,
@@ -37,7 +37,8 @@ pub fn tell_file(
     }
 }
 
-/// Appends to `text` the result of the case `word` for the open file `file`.
+/// Appends to `text` the result of the test case `word`, `level1` or `blocks`, for the open file `file`, which it reads
+/// through `src`. `tell_file` calls it.
 fn tell_open<R: Reads>(
     alloc: Global,
     word: &str,

@@ -8,8 +8,8 @@ use mkv_io::{Failed, FileId, Reads};
 use std::alloc::{AllocError, Global};
 use std::fmt::Write;
 
-/// Appends to `text` a line for each Element at level 1 of `file`. At the end it asks once more, which must be the end
-/// again.
+/// Appends to `text` a line for each Element at level 1 of `file`, in a test case `level1`. At the end it asks once
+/// more, which must be the end again. Reads `file` through `src`.
 pub fn tell<R: Reads>(
     alloc: Global,
     src: &mut R,
@@ -27,7 +27,8 @@ pub fn tell<R: Reads>(
     }
 }
 
-/// Appends to `text` a line for each Element that `elements` returns, up to its second end or 1000 calls.
+/// Appends to `text` a line for each Element that `elements` returns, up to its second end or 1000 calls. `tell` calls
+/// it for a test case `level1`. Reads the file through `src`.
 fn tell_elements<R: Reads>(
     elements: &mut LevelOne,
     src: &mut R,
@@ -49,7 +50,8 @@ fn tell_elements<R: Reads>(
     Ok(())
 }
 
-/// Appends to `text` the line of one call of the walk, which returned `found`: a header, the end, or a failed read.
+/// Appends to `text` the line of one call of the walk over level 1, which returned `found`: a header, the end, or a
+/// failed read. Used by `tell_elements`.
 fn tell_found(found: Result<Option<Header>, Failed>, text: &mut String) -> Result<(), AllocError> {
     match found {
         Ok(Some(header)) => tell_header(&header, text),
@@ -58,7 +60,8 @@ fn tell_found(found: Result<Option<Header>, Failed>, text: &mut String) -> Resul
     }
 }
 
-/// Appends to `text` the line of the Element with this `header`: its ID, its offset, and the offset of its data.
+/// Appends to `text` the line of the Element with this `header`: its ID, its offset, and the offset of its data, in
+/// bytes. `tell_found` calls it.
 fn tell_header(header: &Header, text: &mut String) -> Result<(), AllocError> {
     let id = header.id;
     let offset = header.offset;

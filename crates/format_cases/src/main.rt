@@ -18,7 +18,8 @@ mod trees;
 
 use case::Case;
 
-/// Appends `damage`, a damaged place, to `text`: its kind, ID and offset in the file.
+/// Appends `damage`, a damaged place, to `text`: its kind, ID and offset in the file, in bytes. The results of cases
+/// use it.
 fn tell_damage(damage: Damage, text: &mut String) -> Result<(), AllocError> {
     let kind = damage.kind;
     let id = damage.id;
@@ -26,7 +27,7 @@ fn tell_damage(damage: Damage, text: &mut String) -> Result<(), AllocError> {
     write!(text, "  {kind:?} {id:X} {offset}\n")
 }
 
-/// Appends the bytes `octets` in hexadecimal digits to `text`, each after a space.
+/// Appends the bytes `octets` in hexadecimal digits to `text`, each after a space. The results of cases use it.
 fn tell_octets(octets: &[u8], text: &mut String) -> Result<(), AllocError> {
     for octet in octets {
         write!(text, " {octet:02X}")?;
@@ -34,7 +35,8 @@ fn tell_octets(octets: &[u8], text: &mut String) -> Result<(), AllocError> {
     Ok(())
 }
 
-/// Appends to `text` the result of `case`, in lines, for the call that `word` names. An unknown word has none.
+/// Appends to `text` the result of `case`, in lines, for the call that `word` names. An unknown word has none. `answer`
+/// calls it.
 fn tell(alloc: Global, word: &str, case: &Case, text: &mut String) -> Result<(), AllocError> {
     match word {
         "element" => numbers::tell_element(case, text),
@@ -48,7 +50,7 @@ fn tell(alloc: Global, word: &str, case: &Case, text: &mut String) -> Result<(),
     }
 }
 
-/// Returns the result of the case in `line`, as text in lines.
+/// Returns the result of the case in `line`, as text in lines. `main` prints it. Fails only without memory.
 fn answer(alloc: Global, line: &str) -> Result<String, AllocError> {
     let mut text = String::new(alloc);
     let case = Case::read(alloc, line)?;
@@ -56,6 +58,8 @@ fn answer(alloc: Global, line: &str) -> Result<String, AllocError> {
     Ok(text)
 }
 
+/// Reads cases, each in a line of standard input, and prints each line and then the result of its case. It is the
+/// program.
 fn main(rt: HostRuntime) -> io::Result<()> {
     for line in rt.lines(rt.alloc()) {
         let line = line?;

@@ -13,7 +13,8 @@ use mkv_schema::row;
 use std::alloc::AllocError;
 use std::fmt::Write;
 
-/// Reads the Element ID and the data size at the beginning of `octets`.
+/// Reads the Element ID and the data size at the beginning of `octets`, for a test case `element`. Used by
+/// `tell_element`.
 fn header_of(octets: &[u8]) -> Result<(IdRead, SizeRead), NumFault>
     ensures { IfOk result (λ header. IsTrue (is_id header.0.id)) }
 {
@@ -23,7 +24,7 @@ fn header_of(octets: &[u8]) -> Result<(IdRead, SizeRead), NumFault>
 }
 
 /// Appends to `text` the ID and the size at the beginning of the case's bytes, each with the bytes that the code writes
-/// for it.
+/// for it. It is the result of a test case `element`, which `tell` of the test program prints.
 pub fn tell_element(case: &Case, text: &mut String) -> Result<(), AllocError> {
     match header_of(case.octets.as_slice()) {
         Ok((id, size)) => tell_header(id.id, size.size, text),
@@ -32,7 +33,7 @@ pub fn tell_element(case: &Case, text: &mut String) -> Result<(), AllocError> {
 }
 
 #[tactic(auto, unfolding(ebml_numbers::specs::Number::is_id))]
-/// Appends to `text` the ID `id` with its written bytes, and then the size `size`.
+/// Appends to `text` the ID `id` with its written bytes, and then the size `size`. `tell_element` calls it.
 fn tell_header(id: u32, size: Size, text: &mut String) -> Result<(), AllocError>
     requires { IsTrue (is_id id) }
 {
@@ -41,7 +42,7 @@ fn tell_header(id: u32, size: Size, text: &mut String) -> Result<(), AllocError>
     tell_size(size, text)
 }
 
-/// Appends to `text` the size with its written bytes, or `unknown`.
+/// Appends to `text` the size `size` in bytes with its written bytes, or `unknown`. `tell_header` calls it.
 fn tell_size(size: Size, text: &mut String) -> Result<(), AllocError> {
     match size {
         Size::Known(size) if size < LONGEST_FILE => {
@@ -53,7 +54,8 @@ fn tell_size(size: Size, text: &mut String) -> Result<(), AllocError> {
     }
 }
 
-/// Appends to `text` the ID, name and kind of the Matroska table's row for the case's ID.
+/// Appends to `text` the ID, name and kind of the Matroska table's row for the case's ID. It is the result of a test
+/// case `row`, which `tell` of the test program prints.
 pub fn tell_row(case: &Case, text: &mut String) -> Result<(), AllocError> {
     match row(case.id) {
         Some(row) => write!(text, "  {:X} {} {:?}\n", row.id, row.name, row.kind),

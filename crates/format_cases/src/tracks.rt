@@ -20,7 +20,8 @@ use track_records::{Track, read_tracks, usable};
 /// Greatest number of bytes of a master's data in a case.
 const MAX_ITEMS: usize = 1000;
 
-/// Reads the master with the ID `id` and the data `body` as a tree.
+/// Reads the master with the ID `id` and the data `body`, of at most 1000 bytes, as a tree. Its header is at offset 21.
+/// The test cases `info`, `tracks` and `usable` use it.
 fn master_of(alloc: Global, id: u32, body: &[u8]) -> Result<Tree, TreeEnd>
     ensures { IfOk result (IsSoundOf id) }
 {
@@ -30,7 +31,8 @@ fn master_of(alloc: Global, id: u32, body: &[u8]) -> Result<Tree, TreeEnd>
     Tree::parse(alloc, id, 21, body, 26, 99)
 }
 
-/// Appends to `text` the TimestampScale of the Info whose data the case has.
+/// Appends to `text` the TimestampScale of the Info whose data the case has. It is the result of a test case `info`,
+/// which `tell` of the test program prints.
 pub fn tell_info(alloc: Global, case: &Case, text: &mut String) -> Result<(), AllocError> {
     match master_of(alloc, INFO, case.octets.as_slice()) {
         Ok(info) => tell_scale(&info, text),
@@ -38,7 +40,8 @@ pub fn tell_info(alloc: Global, case: &Case, text: &mut String) -> Result<(), Al
     }
 }
 
-/// Appends to `text` the TimestampScale of `info` in nanoseconds, or the damage for which it is refused.
+/// Appends to `text` the TimestampScale of `info` in nanoseconds, or the damage for which it is refused. `tell_info`
+/// calls it.
 fn tell_scale(info: &Tree, text: &mut String) -> Result<(), AllocError>
     requires { IsSoundOf INFO_ID info.now }
 {
@@ -48,7 +51,8 @@ fn tell_scale(info: &Tree, text: &mut String) -> Result<(), AllocError>
     }
 }
 
-/// Reads the tracks of the Tracks Element with the data `body`.
+/// Reads the tracks of the Tracks Element with the data `body`, for the test cases `tracks` and `usable`. Used by
+/// `tell_tracks` and `tell_usable`.
 fn tracks_of(alloc: Global, body: &[u8]) -> Result<List<Track>, TreeEnd>
     ensures { IfOk result (All (λ track. IsEntry track.entry)) }
 {
@@ -56,7 +60,8 @@ fn tracks_of(alloc: Global, body: &[u8]) -> Result<List<Track>, TreeEnd>
     read_tracks(alloc, &tracks)
 }
 
-/// Appends to `text` the tracks of the Tracks whose data the case has, each in a line.
+/// Appends to `text` the tracks of the Tracks whose data the case has, each in a line. It is the result of a test case
+/// `tracks`, which `tell` of the test program prints.
 pub fn tell_tracks(alloc: Global, case: &Case, text: &mut String) -> Result<(), AllocError> {
     match tracks_of(alloc, case.octets.as_slice()) {
         Ok(tracks) => tell_each(tracks.as_slice(), text),
@@ -64,7 +69,7 @@ pub fn tell_tracks(alloc: Global, case: &Case, text: &mut String) -> Result<(), 
     }
 }
 
-/// Appends to `text` a line for each of `tracks`.
+/// Appends to `text` a line for each of `tracks`, for a test case `tracks`. Used by `tell_tracks`.
 fn tell_each(tracks: &[Track], text: &mut String) -> Result<(), AllocError> {
     for track in tracks {
         tell_track(track, text)?;
@@ -73,7 +78,7 @@ fn tell_each(tracks: &[Track], text: &mut String) -> Result<(), AllocError> {
 }
 
 /// Appends to `text` the line of `track`: offset, type, codec, numbers, language, and the written length of its entry
-/// in bytes.
+/// in bytes, for a test case `tracks`. Used by `tell_each`.
 fn tell_track(track: &Track, text: &mut String) -> Result<(), AllocError> {
     let offset = track.offset;
     let kind = track.type_name();
@@ -87,7 +92,7 @@ fn tell_track(track: &Track, text: &mut String) -> Result<(), AllocError> {
 }
 
 /// Appends to `text` the bytes to put before each frame of the first track in the case's Tracks. If its frames can't be
-/// used, it appends the reason.
+/// used, it appends the reason. It is the result of a test case `usable`, which `tell` of the test program prints.
 pub fn tell_usable(alloc: Global, case: &Case, text: &mut String) -> Result<(), AllocError> {
     match tracks_of(alloc, case.octets.as_slice()) {
         Ok(tracks) => tell_first(&tracks, text),
@@ -96,7 +101,8 @@ pub fn tell_usable(alloc: Global, case: &Case, text: &mut String) -> Result<(), 
 }
 
 /// Appends to `text` the bytes that header stripping removed from each frame of the first of `tracks`, the reason why
-/// its frames can't be used, or `none` without a track. It is the result of a case `usable`.
+/// its frames can't be used, or `none` without a track. It is the result of a test case `usable`, which `tell` of the
+/// test program prints.
 fn tell_first(tracks: &List<Track>, text: &mut String) -> Result<(), AllocError>
     requires { All (λ track. IsEntry track.entry) tracks.now }
 {
@@ -107,7 +113,7 @@ fn tell_first(tracks: &List<Track>, text: &mut String) -> Result<(), AllocError>
 }
 
 /// Appends to `text` the bytes that header stripping removed from each frame of `track`, or the reason why they can't
-/// be used.
+/// be used. `tell_first` calls it for a test case `usable`.
 fn tell_prefix(track: &Track, text: &mut String) -> Result<(), AllocError>
     requires { IsEntry track.now.entry }
 {

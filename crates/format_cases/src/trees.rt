@@ -14,8 +14,8 @@ use std::fmt::Write;
 /// Greatest number of bytes of a master's data in a case.
 const MAX_ITEMS: usize = 1000;
 
-/// Reads the master with the ID `id` and the data `body`, of at most `nodes` Elements, as a tree. Its header is at
-/// offset 95 and its data at 100.
+/// Reads the master with the ID `id` and the data `body`, of at most `nodes` Elements and 1000 bytes, as a tree. Its
+/// header is at offset 95 and its data at 100. The test cases `tree`, `uint`, `int` and `text` use it.
 fn master_of(alloc: Global, id: u32, body: &[u8], nodes: u32) -> Result<Tree, TreeEnd>
     ensures { IfOk result IsMaster }
 {
@@ -25,7 +25,7 @@ fn master_of(alloc: Global, id: u32, body: &[u8], nodes: u32) -> Result<Tree, Tr
     Tree::parse(alloc, id, 95, body, 100, nodes)
 }
 
-/// Appends to `text` the reason `end` why a master isn't read.
+/// Appends to `text` the reason `end` why a master isn't read. The results of all cases with a master use it.
 pub fn tell_end(end: TreeEnd, text: &mut String) -> Result<(), AllocError> {
     match end {
         TreeEnd::Damage(damage) => tell_damage(damage, text),
@@ -33,8 +33,9 @@ pub fn tell_end(end: TreeEnd, text: &mut String) -> Result<(), AllocError> {
     }
 }
 
-/// Appends to `text` the result of the case `word` for the master whose data the case has. The case's number is the
-/// greatest number of Elements that it may have.
+/// Appends to `text` the result of the test case `word` for the master whose data the case has. The case's number is
+/// the greatest number of Elements that it may have. It is the result of the test cases `tree`, `uint`, `int` and
+/// `text`.
 pub fn tell_master(
     alloc: Global,
     word: &str,
@@ -48,7 +49,8 @@ pub fn tell_master(
     }
 }
 
-/// Appends to `text` the result of the case `word` for `tree`: its normal form, or the value of its first child.
+/// Appends to `text` the result of the test case `word` for `tree`: its normal form, or the value of its first child.
+/// `tell_master` calls it.
 fn tell_tree(alloc: Global, word: &str, tree: &Tree, text: &mut String) -> Result<(), AllocError> {
     match (word, tree.at(0)) {
         ("tree", _) => tell_normal_form(alloc, tree, text),
@@ -60,7 +62,7 @@ fn tell_tree(alloc: Global, word: &str, tree: &Tree, text: &mut String) -> Resul
 }
 
 /// Appends to `text` the depth of `tree`, the length of its normal form in bytes, and the bytes of a copy's normal
-/// form.
+/// form. It is the result of a test case `tree`, which `tell` of the test program prints.
 fn tell_normal_form(alloc: Global, tree: &Tree, text: &mut String) -> Result<(), AllocError> {
     write!(
         text,
@@ -72,7 +74,8 @@ fn tell_normal_form(alloc: Global, tree: &Tree, text: &mut String) -> Result<(),
     tell_written(alloc, &copy, text)
 }
 
-/// Appends to `text` the bytes of the normal form of `tree`.
+/// Appends to `text` the bytes of the normal form of `tree` in hexadecimal digits, and a line end, for the result of a
+/// test case `tree`. `tell_master` calls it. Used by `tell_normal_form`.
 fn tell_written(alloc: Global, tree: &Tree, text: &mut String) -> Result<(), AllocError> {
     let mut out = Bytes::new(alloc);
     tree.put(&mut out)?;
@@ -80,7 +83,8 @@ fn tell_written(alloc: Global, tree: &Tree, text: &mut String) -> Result<(), All
     text.push_str("\n")
 }
 
-/// Appends to `text` the value of `child` as an unsigned integer, unless it has more than 8 bytes.
+/// Appends to `text` the value of `child` as an unsigned integer, unless it has more than 8 bytes. It is the result of
+/// a test case `uint`, which `tell` of the test program prints.
 fn tell_uint(child: &Tree, text: &mut String) -> Result<(), AllocError> {
     if child.body().len() > 8 {
         return text.push_str("  too long\n");
@@ -88,7 +92,8 @@ fn tell_uint(child: &Tree, text: &mut String) -> Result<(), AllocError> {
     write!(text, "  {}\n", child.uint())
 }
 
-/// Appends to `text` the value of `child` as a signed integer, unless it has more than 8 bytes.
+/// Appends to `text` the value of `child` as a signed integer, unless it has more than 8 bytes. It is the result of a
+/// test case `int`, which `tell` of the test program prints.
 fn tell_int(child: &Tree, text: &mut String) -> Result<(), AllocError> {
     if child.body().len() > 8 {
         return text.push_str("  too long\n");
@@ -96,7 +101,8 @@ fn tell_int(child: &Tree, text: &mut String) -> Result<(), AllocError> {
     write!(text, "  {}\n", child.int())
 }
 
-/// Appends the bytes of the text of `child` up to a zero byte, and all bytes of its data.
+/// Appends to `text` the bytes of the text of `child` up to a zero byte, and all bytes of its data. It is the result of
+/// a test case `text`, which `tell` of the test program prints.
 fn tell_text(child: &Tree, text: &mut String) -> Result<(), AllocError> {
     text.push_str("  text")?;
     tell_octets(child.text(), text)?;

@@ -11,18 +11,20 @@ use Rattle.mkv_generate.specs.declared.blocks.MediaKind.{MediaKind}
 use Rattle.mkv_generate.specs.Files.{file_of, lane_blocks}
 use Rattle.merge_laws.specs.Merge.{HasNoEncodings}
 
--- the greatest N in `generate N PREFIX`; it is this project's
+-- the greatest N in `generate N PREFIX`; it is this project's. The laws on `generate` hold up to it.
 abbrev pub most_pictures : ℕ
 most_pictures = 100000
 
 -- A file with the content `d` is valid. Read by the format's definition, without a reader's limits, it is that content, undamaged. The frames of its
--- tracks are stored unchanged. Its blocks are `bs`, each once and in order, with ticks of a millisecond.
+-- tracks are stored unchanged. Its blocks are `bs`, each once and in order, with ticks of a millisecond. The laws on `generate` state it of each
+-- file.
 pub record HoldsBlocks (d : Document) (bs : List OutputBlock) : Type 0 where
   pub sound : IsSoundDocument d
   pub read : IsReadAs d (layout d)
   pub plain : All HasNoEncodings (entries_of d.front.tracks)
   pub blocks : blocks_read 1000000 (file_events false (layout d) (header_of_segment d)) ≡ bs
 
--- For at most 100,000 pictures both files, of pictures and of sounds, hold their blocks.
+-- For at most 100,000 pictures both files, of pictures and of sounds, hold their blocks. The number of pictures is `n`. The law `files_hold_blocks`
+-- states it.
 abbrev pub FilesHoldBlocks : Type 0
 FilesHoldBlocks = (medium : MediaKind) (n : ℕ) → n ≤ most_pictures → HoldsBlocks (file_of medium n) (lane_blocks medium n)

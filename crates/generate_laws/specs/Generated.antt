@@ -15,20 +15,21 @@ use Rattle.mkv_generate.specs.Generate.{MergeMade, both_words, comes_to, first_w
 use Rattle.merge_laws.specs.Laws.{name_and_blocks}
 use Rattle.generate_laws.specs.Files.{HoldsBlocks, most_pictures}
 
--- the blocks of the merged file for `n` pictures: the blocks of both files, merged by time
+-- the blocks of the merged file for `n` pictures: the blocks of both files, merged by time. For `IsGenerated`, in the law on `generate`.
 abbrev pub both_blocks : ℕ → List OutputBlock
 both_blocks n = merged (blocks_of Pictures n ∷ blocks_of Sounds n ∷ [])
 
--- the split of the merged file: it cuts before the first keyframe picture at least ten seconds after the start of a part
+-- the split of the merged file: it cuts before the first keyframe picture at least ten seconds after the start of a part. For `IsGenerated`, in the
+-- law on `generate`.
 abbrev pub ten_seconds : Split
 ten_seconds = record { spec = Duration 10000000000; size = None; scale = 1000000; drives = drives_by (true ∷ false ∷ []) }
 
--- The output `o` is valid and holds exactly the blocks that it should have.
+-- The output `o` is valid and holds exactly the blocks that it should have. For `Succeeds`, in the law on `generate`.
 abbrev pub HoldsItsBlocks : PlannedOutput → Type 0
 HoldsItsBlocks o = HoldsBlocks o.document o.blocks
 
 -- The merge of `files` with the command line `words` isn't refused, and makes `made`. It gives no warning, meets no damage, and each output holds its
--- blocks.
+-- blocks. For `IsGenerated`, for both merges.
 pub record Succeeds (words : MergeWords) (files : List PlannedOutput) (made : MergeMade) : Type 0 where
   pub unrefused : merge_of words files ≡ Ok made
   pub unwarned : made.warned ≡ []
@@ -37,7 +38,7 @@ pub record Succeeds (words : MergeWords) (files : List PlannedOutput) (made : Me
 
 -- `generate N PREFIX` succeeds, where `n` is N and `prefix` is PREFIX. Both files hold their blocks. Their merge succeeds with one output, which has
 -- the merged list of all blocks. The split of this output succeeds, and its outputs have the blocks of the merged list's parts. The outcome is the
--- status Done, all outputs in sequence, and exactly one line.
+-- status Done, all outputs in sequence, and exactly one line. For `GenerateSucceeds`.
 pub record IsGenerated (n : ℕ) (prefix : List ℕ) : Type 0 where
   pub pictures : HoldsBlocks (file_of Pictures n) (lane_blocks Pictures n)
   pub sounds : HoldsBlocks (file_of Sounds n) (lane_blocks Sounds n)
@@ -51,6 +52,6 @@ pub record IsGenerated (n : ℕ) (prefix : List ℕ) : Type 0 where
       ≡ comes_to Done (two_files n (names_of prefix) ++ both.outputs ++ parts.outputs)
       (line_for n (first_written (map written_of both.outputs)) (length parts.outputs) ∷ [])
 
--- `generate` succeeds for at most 100,000 pictures and each prefix.
+-- `generate` succeeds for at most 100,000 pictures and each prefix. The number of pictures is `n`. The law `generate_succeeds` states it.
 abbrev pub GenerateSucceeds : Type 0
 GenerateSucceeds = (n : ℕ) (prefix : List ℕ) → n ≤ most_pictures → IsGenerated n prefix

@@ -6,13 +6,14 @@
 ghost use Rattle.generate_laws.specs.Files.{FilesHoldBlocks};
 ghost use Rattle.generate_laws.specs.Generated.{GenerateSucceeds};
 
-/// States that both files that `generate` writes and merges are valid and hold their blocks.
+/// States that both files that `generate` writes and merges are valid and hold their blocks. For at most 100,000
+/// pictures. Nothing calls the law.
 pub fn files_hold_blocks()
     ensures { FilesHoldBlocks }
 {}
 
 /// States that for at most 100,000 pictures both merges of `generate` succeed without a warning, and that all files
-/// hold their blocks.
+/// hold their blocks. The promise of the whole program calls it.
 pub fn generate_succeeds()
     ensures { GenerateSucceeds }
 {}

@@ -28,6 +28,7 @@ pub enum ChapterFile {
 }
 
 // Opens the chapter file `name`, reads it whole and closes it. A missing or refused file is a result, not an error.
+// For `read_chapter_file`, when `merge` reads its chapter file.
 fn read_named<F: Files>(alloc: Global, name: &str, files: &mut F) -> Result<ChapterFile, ReadEnd>
     ensures exact { IfVisible (F.names files.old) (λ world. IfOk result (λ given. given ≡ file_with (world name.now))) }
     ensures written { IfOk result CanBeWritten }
@@ -52,7 +53,7 @@ fn read_named<F: Files>(alloc: Global, name: &str, files: &mut F) -> Result<Chap
 }
 
 /// Reads the chapter file `name` that the command line of a merge names by `--chapters`, if any. It is closed again. A
-/// file that can't be opened or read is a `ReadFault`.
+/// file that can't be opened or read is a `ReadFault`. `read_text_files` calls it first.
 pub fn read_chapter_file<F: Files>(
     alloc: Global,
     name: &Option<Text>,

@@ -13,8 +13,8 @@ use mkv_io::{FileId, Files, List, OpenFault};
 use requests::FileWords;
 use std::alloc::Global;
 
-/// Opens the files of a merge's inputs `words`, in the order of the command line. If one fails, those before it are
-/// closed again.
+/// Opens the files of a merge's inputs `words`, in the order of the command line. Returns their files. If one fails,
+/// those before it are closed again. `merge` calls it before it reads an input.
 pub fn open_all<F: Files>(
     alloc: Global,
     words: &[FileWords],
@@ -42,7 +42,8 @@ pub fn open_all<F: Files>(
     Ok(List::from_vec(ids))
 }
 
-/// Returns the error for the input with the index `k`, from 0, which couldn't be opened because of `fault`.
+/// Returns the error for the input with the index `k`, from 0, which couldn't be opened because of `fault`. For
+/// `open_all`, when `merge` opens its inputs.
 fn end_of(fault: OpenFault, k: usize) -> InputsEnd
     ensures { result ≡ end_of k fault }
 {
@@ -53,7 +54,8 @@ fn end_of(fault: OpenFault, k: usize) -> InputsEnd
     }
 }
 
-/// Closes the open files `ids`, whose numbers are increasing, when a merge ends.
+/// Closes the open files `ids`, whose numbers are increasing, when a merge ends. `open_all` also calls it for the first
+/// files, if a later one can't be opened.
 pub fn close_all<F: Files>(files: &mut F, ids: &[FileId])
     requires live { AreLive (live_files F.Reads files.old).live ids.now }
     requires rising { AreRising ids.now }

@@ -19,6 +19,7 @@ pub enum InputsEnd {
 impl From<AllocError> for InputsEnd {
     ghost from_gives = { λ _ end. end ≡ inputs_end.Memory };
 
+    // Converts a lack of memory to a failure to open the inputs of `merge`, for `?` in `open_all`.
     fn from(_error: AllocError) -> InputsEnd {
         InputsEnd::Memory
     }

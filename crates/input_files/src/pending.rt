@@ -14,8 +14,8 @@ use requests::FileWords;
 use sidecar_edit::is_pending;
 use std::alloc::Global;
 
-/// Returns the index, from 0 in the order of the command line, of the first of the inputs `words` whose journal has a
-/// pending edit. The merge then is refused. It reads only the heads of the journals.
+/// Returns the index, from 0, of the first of the inputs `words` whose journal has a pending edit, or None. They are in
+/// the order of the command line. `merge` is refused then. It reads only the heads of the journals.
 pub fn first_pending<F: Files>(
     alloc: Global,
     words: &[FileWords],

@@ -18,8 +18,8 @@ use mkv_io::{Bytes, FileId, List, Reads};
 use srt_chapters::{Entry, read_simple, read_srt};
 use std::alloc::Global;
 
-/// Reads the whole content of `file` by one call. A file of more than `most` bytes is refused as too large, and nothing
-/// is read.
+/// Reads the whole content of the text file `file` by one call. A file of more than `most` bytes is refused as too
+/// large, and nothing is read. For the readers of SubRip, chapter and timestamp files.
 fn read_whole<R: Reads>(
     alloc: Global,
     src: &mut R,
@@ -47,7 +47,7 @@ fn read_whole<R: Reads>(
 }
 
 /// Reads the entries of the SubRip file `file`, sorted by start, or returns the refusal. It reads the file by one call,
-/// unless the file is too large.
+/// unless the file is too large. `merge` calls it for each input that is SubRip.
 pub fn read_entries<R: Reads>(
     alloc: Global,
     src: &mut R,
@@ -69,7 +69,7 @@ pub fn read_entries<R: Reads>(
 }
 
 /// Reads the Chapters that `file`, a file of OGM simple chapters, describes, or returns the refusal. Every identifier
-/// is 0. It reads the file by one call, unless the file is too large.
+/// is 0. It reads the file by one call, unless the file is too large. For the option `--chapters` of `merge`.
 pub fn read_chapters<R: Reads>(
     alloc: Global,
     src: &mut R,
@@ -89,8 +89,8 @@ pub fn read_chapters<R: Reads>(
     Ok(read_simple(alloc, octets.as_slice())?)
 }
 
-/// Reads the frame times in the timestamp file `file`, of at most `most` bytes, or returns the refusal. It reads the
-/// file by one call, unless the file is too large.
+/// Reads the frame times, in nanoseconds, in the timestamp file `file`, of at most `most` bytes, or returns the
+/// refusal. It reads the file by one call, unless the file is too large. For the option `--timestamps` of `merge`.
 pub fn read_track_times<R: Reads>(
     alloc: Global,
     src: &mut R,

@@ -31,6 +31,8 @@ impl From<TextEnd> for TextFileEnd {
 
     ghost from_gives = { λ why end. end ≡ end_of why };
 
+    // Converts the error `why` of a parser to a failure to read a text file of `merge`, for `?` in the readers. A bad
+    // line is a refusal.
     fn from(why: TextEnd) -> TextFileEnd {
         match why {
             TextEnd::Bad { line } => TextFileEnd::Refused(TextRefusal::Bad { line }),
@@ -42,6 +44,7 @@ impl From<TextEnd> for TextFileEnd {
 impl From<AllocError> for TextFileEnd {
     ghost from_gives = { λ _ end. end ≡ file_end.Memory };
 
+    // Converts a lack of memory to a failure to read a text file of `merge`, for `?` in the readers.
     fn from(_error: AllocError) -> TextFileEnd {
         TextFileEnd::Memory
     }

@@ -22,7 +22,7 @@ pub struct TextFiles {
 }
 
 /// Reads the chapter file of a merge, if `chapters` names one, and then the timestamp files that its inputs `words`
-/// name. A file that can't be opened or read is a `ReadFault`.
+/// name. A file that can't be opened or read is a `ReadFault`. `merge` calls it before it opens its inputs.
 pub fn read_text_files<F: Files>(
     alloc: Global,
     chapters: &Option<Text>,

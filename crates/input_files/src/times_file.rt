@@ -44,7 +44,8 @@ pub struct TimesFile {
     pub given: TimesGiven,
 }
 
-// Appends to `named` the timestamp files of the input with the index `input`: `times` has a track and a name for each.
+// Appends to `named` the timestamp files of the input with the index `input`, from 0. `times` has the index of a track
+// and a file name for each. For `times_named`, when `merge` reads its timestamp files.
 fn add_named(
     input: usize,
     times: &[(u64, Text)],
@@ -62,7 +63,8 @@ fn add_named(
     Ok(())
 }
 
-/// Returns the timestamp files that the inputs `words` name, in the order of the inputs.
+/// Returns the timestamp files that the inputs `words` name, in the order of the inputs. For the list of names that no
+/// output may have, and for `read_times_files`.
 pub fn times_named(alloc: Global, words: &[FileWords]) -> Result<List<TimesName>, AllocError>
     ensures { IfOk result (λ named. named ≡ times_named words.now) }
 {
@@ -81,7 +83,7 @@ struct ReadTimes {
 }
 
 // Opens the timestamp file `name`, reads it whole and closes it, if it has at most `room` bytes. A missing or refused
-// file is a result, not an error.
+// file is a result, not an error. For `read_times_files`, when `merge` reads its timestamp files.
 fn read_named<F: Files>(
     alloc: Global,
     name: &str,
@@ -117,7 +119,7 @@ fn read_named<F: Files>(
 
 /// Reads the timestamp files that the inputs `words` name, in the order of the inputs. Each is looked for and read,
 /// even if an earlier one is refused. Together they may have 64 MiB. A file that can't be opened or read is a
-/// `ReadFault`.
+/// `ReadFault`. `read_text_files` calls it after the chapter file.
 pub fn read_times_files<F: Files>(
     alloc: Global,
     words: &[FileWords],

@@ -16,7 +16,7 @@ use std::alloc::{AllocError, Global};
 use track_records::{Track, read_tracks};
 
 /// Returns the TrackEntry of a SubRip file: subtitles of unknown language, without lacing, with TrackUID 0 until the
-/// merge gives one.
+/// merge gives one. For `text_tracks`.
 fn text_entry(alloc: Global) -> Result<Tree, AllocError>
     ensures exact { IfOk result (λ entry. entry ≡ text_entry) }
     ensures whole { IfOk result IsWholeEntry }
@@ -31,7 +31,8 @@ fn text_entry(alloc: Global) -> Result<Tree, AllocError>
     Ok(entry)
 }
 
-/// Returns the tracks of a SubRip file as a merge selects them: one subtitle track, whose entry can be written.
+/// Returns the tracks of a SubRip file as a merge selects them: one subtitle track, whose entry can be written. `merge`
+/// calls it for each input that is SubRip.
 pub fn text_tracks(alloc: Global) -> Result<List<Track>, AllocError>
     ensures exact { IfOk result (λ list. list ≡ track_of text_entry ∷ []) }
     ensures whole { IfOk result (All (λ track. IsWholeEntry track.entry)) }

@@ -3,7 +3,8 @@ ghost use Rattle.std.specs.Prelude.{◌≡◌, ◌≤◌, ◌<◌, ◌^◌};
 ghost use Rattle.lacing.specs.Lace.{bias};
 ghost use Rattle.lacing.specs.Writing.{distance, difference_width};
 
-// Returns the value that encodes a difference of 0 in an integer of `len` bytes.
+// Returns the value that encodes a difference of 0 in an integer of `len` bytes, in EBML lacing. The reader and the
+// writer of EBML laces use it.
 pub(crate) fn bias(len: u8) -> u64
     requires some { 1 ≤ len }
     requires most { len ≤ 8 }
@@ -13,7 +14,8 @@ pub(crate) fn bias(len: u8) -> u64
     (1 << (7 * len - 1)) - 1
 }
 
-// Returns the smallest number of bytes that can hold the difference between the sizes `before` and `size`.
+// Returns the smallest number of bytes that can hold the difference between the sizes `before` and `size`, in bytes, in
+// EBML lacing. `difference_octets` calls it.
 #[tactic(auto, unfolding(crate::specs::Writing::difference_width))]
 pub(crate) fn difference_width(before: u32, size: u32) -> u8
     ensures exact { result ≡ difference_width before size }

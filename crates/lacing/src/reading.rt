@@ -10,8 +10,9 @@ use ebml_numbers::{Size, read_size};
 use smallvec::SmallVec;
 use std::alloc::Global;
 
-/// Divides `bytes`, which follow a block's frame count, into `count` frames by the lacing `kind`. Writes the sizes of
-/// the frames in bytes to `sizes`, and returns the length of the lace's head in bytes.
+/// Divides `bytes`, which follow a block's frame count, into `count` frames by the lacing `kind`. The reader of blocks
+/// calls it for each laced block. Writes the sizes of the frames in bytes to `sizes`, and returns the length of the
+/// lace's head in bytes.
 pub fn split(
     kind: Lace,
     count: u16,
@@ -48,14 +49,14 @@ pub fn split(
     }
 }
 
-/// Checks whether a block may have `count` frames, which is 1 to 256.
+/// Checks whether a block may have `count` frames, which is 1 to 256. `split` and `is_settled` call it first.
 pub(crate) fn is_frame_count(count: u16) -> bool
     ensures { result ≡ is_frame_count count }
 {
     (1..=256).contains(&count)
 }
 
-// Empties `sizes` and reserves room for `count` of them.
+// Empties `sizes` and reserves room for `count` of them, for `split`. If it fails, `sizes` stays as it was.
 fn make_room(count: usize, sizes: &mut SmallVec<u32, 8, Global>) -> Result<(), LaceEnd>
     ensures ok { OnOk result ((sizes.new.items ≡ []) × (count ≤ sizes.new.capacity)) }
     ensures err { OnErr result (sizes.new ≡ sizes.old) }
@@ -71,8 +72,8 @@ fn make_room(count: usize, sizes: &mut SmallVec<u32, 8, Global>) -> Result<(), L
     Ok(())
 }
 
-// Appends the sizes of `count` frames in `bytes` to `sizes`, which has room for them. Returns the length of the lace's
-// head, or None if the bytes aren't such a lace.
+// Appends the sizes of `count` frames in `bytes`, in bytes, to `sizes`, which has room for them. Returns the length of
+// the lace's head in bytes, or None if `bytes` aren't a lace of the kind `kind`. `split` calls it.
 fn frames(
     kind: Lace,
     count: usize,
@@ -95,7 +96,7 @@ fn frames(
 }
 
 // Appends the size of the one frame of a block without lacing to `sizes`. Returns the length of the head, which is 0,
-// or None if the block states another number of frames.
+// or None if the block states another number of frames. `frames` calls it.
 fn one_frame(count: usize, bytes: &[u8], sizes: &mut SmallVec<u32, 8, Global>) -> Option<u32>
     requires short { length bytes.now ≤ 2 ^ 25 }
     requires some { 1 ≤ count }
@@ -111,8 +112,8 @@ fn one_frame(count: usize, bytes: &[u8], sizes: &mut SmallVec<u32, 8, Global>) -
     Some(0)
 }
 
-// Appends the sizes of `count` frames of equal size. Returns the length of the head, which is 0, or None if the bytes
-// can't be divided by `count`.
+// Appends the sizes of `count` frames of equal size to `sizes`, in fixed-size lacing. Returns the length of the head,
+// which is 0, or None if the bytes can't be divided by `count`. `frames` calls it.
 fn equal_frames(count: usize, bytes: &[u8], sizes: &mut SmallVec<u32, 8, Global>) -> Option<u32>
     requires short { length bytes.now ≤ 2 ^ 25 }
     requires some { 1 ≤ count }
@@ -132,8 +133,8 @@ fn equal_frames(count: usize, bytes: &[u8], sizes: &mut SmallVec<u32, 8, Global>
 }
 
 // Appends the sizes of `count` frames in Xiph or EBML lacing to `sizes`. The head at the start of `bytes` has all
-// except the last, which gets the bytes that are left. Returns the length of the head, or None if there is no such
-// lace.
+// except the last, which gets the bytes that are left. Returns the length of the head in bytes, or None if there is no
+// such lace. `frames` calls it.
 fn spelled_frames(
     kind: Lace,
     count: usize,
@@ -164,8 +165,8 @@ fn spelled_frames(
     Some(head as u32)
 }
 
-// Returns the size at the index `at` of `bytes` and the number of bytes that encode it, if its frame fits in the rest.
-// `before` is the previous size, if any.
+// Returns the size at the index `at` of `bytes` and the number of bytes that encode it, if its frame fits in the rest,
+// or None. `before` is the previous size, if any. `spelled_frames` calls it for each size in the head.
 #[tactic(auto, unfolding(crate::specs::Reading::size_in))]
 fn size_in(kind: Lace, before: Option<u32>, bytes: &[u8], at: usize) -> Option<(u32, usize)>
     requires short { length bytes.now ≤ 2 ^ 25 }
@@ -177,8 +178,9 @@ fn size_in(kind: Lace, before: Option<u32>, bytes: &[u8], at: usize) -> Option<(
     fitting_size(kind, before, rest, rest.len())
 }
 
-/// Returns the size at the start of `rest` and the number of bytes that encode it, if its frame fits. `room` bytes are
-/// left for both, and `before` is the previous size, if any.
+/// Returns the size at the start of `rest` and the number of bytes that encode it, if its frame fits, or None. `room`
+/// bytes are left for both, and `before` is the previous size, if any. `size_in` calls it, and `settles_sizes` for the
+/// check of a lace's first bytes.
 pub(crate) fn fitting_size(
     kind: Lace,
     before: Option<u32>,
@@ -202,8 +204,8 @@ pub(crate) fn fitting_size(
     }
 }
 
-// Returns the size at the start of `bytes` in Xiph lacing, and the number of bytes that encode it. It is the sum of
-// bytes 255 and the byte after them.
+// Returns the size at the start of `bytes` in Xiph lacing, and the number of bytes that encode it, or None if it isn't
+// complete. It is the sum of bytes 255 and the byte after them. `fitting_size` calls it.
 fn xiph_size(bytes: &[u8]) -> Option<(u64, usize)>
     requires { length bytes.now ≤ 2 ^ 25 }
     ensures read { result ≡ xiph_size bytes.now }
@@ -213,7 +215,8 @@ fn xiph_size(bytes: &[u8]) -> Option<(u64, usize)>
     Some((255 * run as u64 + u64::from(bytes[run]), run + 1))
 }
 
-// Returns the number of bytes 255 at the start of `bytes`, before the first other byte.
+// Returns the number of bytes 255 at the start of `bytes`, before the first other byte, or None if there is no other.
+// `xiph_size` calls it.
 fn run_of(bytes: &[u8]) -> Option<usize>
     ensures read { result ≡ position (λ octet. not (octet == 255)) bytes.now }
     ensures inside { IfSome result (λ run. run < length bytes.now) }
@@ -221,8 +224,8 @@ fn run_of(bytes: &[u8]) -> Option<usize>
     bytes.iter().position(|octet| *octet != 255)
 }
 
-// Returns the size at the start of `bytes` in EBML lacing, and the number of bytes that encode it. With a previous size
-// `before` they encode the difference.
+// Returns the size at the start of `bytes` in EBML lacing, and the number of bytes that encode it, or None. With a
+// previous size `before` they encode the difference. `fitting_size` calls it.
 fn ebml_size(before: Option<u32>, bytes: &[u8]) -> Option<(u64, usize)>
     ensures read { result ≡ ebml_size before bytes.now }
     ensures small { IfSome result (λ front. (front.0 < 2 ^ 57) × (front.1 < 2 ^ 57)) }
@@ -243,7 +246,7 @@ fn ebml_size(before: Option<u32>, bytes: &[u8]) -> Option<(u64, usize)>
 }
 
 // Returns the value of a variable-size integer of `len` bytes that was read as a size; an unknown size has the value
-// with all bits 1.
+// with all bits 1. `ebml_size` calls it for a difference.
 fn data_of(size: Size, len: u8) -> u64
     requires { len ≤ 8 }
     ensures { result ≡ data_of size len }

@@ -5,8 +5,10 @@ ghost use Rattle.lacing.specs.Settled.{is_settled, settles_sizes};
 use crate::kind::Lace;
 use crate::reading::{fitting_size, is_frame_count};
 
-/// Checks whether `front`, the first of `len` bytes, is enough to know that the bytes are a lace of `count` frames.
-/// It is if the head of the lace lies in `front` and leaves the last frame a size of 0 or more. Doesn't allocate.
+/// Checks whether `front`, the first of `len` bytes, is enough to know that the bytes are a lace of `count` frames. For
+/// Xiph and EBML lacing it is if the head of the lace lies in `front` and leaves the last frame a size of 0 or more;
+/// for other lacing `len` decides. The reader of blocks calls it before it has read the rest of a block. Doesn't
+/// allocate.
 pub fn is_settled(kind: Lace, count: u16, front: &[u8], len: usize) -> bool
     requires inside { length front.now ≤ len }
     requires short { len ≤ 2 ^ 25 }
@@ -22,8 +24,8 @@ pub fn is_settled(kind: Lace, count: u16, front: &[u8], len: usize) -> bool
     }
 }
 
-// Checks whether `front`, the first of `len` bytes, contains all sizes of `count` frames except the last. They must
-// leave the last one a size of 0 or more.
+// Checks whether `front`, the first of `len` bytes, contains all sizes of `count` frames except the last, in Xiph or
+// EBML lacing. They must leave the last one a size of 0 or more. `is_settled` calls it.
 fn settles_sizes(kind: Lace, count: usize, front: &[u8], len: usize) -> bool
     requires inside { length front.now ≤ len }
     requires short { len ≤ 2 ^ 25 }

@@ -9,7 +9,8 @@ use crate::difference::{bias, difference_width};
 use crate::kind::Lace;
 use ebml_numbers::{Octets, put_size, size_width};
 
-/// Returns the length in bytes of the head of a lace of the kind `kind` with the frame sizes `sizes`.
+/// Returns the length in bytes of the head of a lace of the kind `kind` with the frame sizes `sizes`. The writer of
+/// Clusters calls it to know the size of a block.
 pub fn lace_len(kind: Lace, sizes: &[u32]) -> u32
     requires { CanLace kind sizes.now }
     ensures exact { result ≡ length (lace_head kind sizes.now) }
@@ -18,7 +19,8 @@ pub fn lace_len(kind: Lace, sizes: &[u32]) -> u32
     spelled_len(kind, explicit_sizes(sizes))
 }
 
-/// Writes the head of a lace of the kind `kind` with the frame sizes `sizes` to `out`, each size in the fewest bytes.
+/// Writes the head of a lace of the kind `kind` with the frame sizes `sizes`, in bytes, to `out`, each size in the
+/// fewest bytes. The writer of Clusters calls it for each laced block.
 pub fn put_lace(kind: Lace, sizes: &[u32], out: &mut [u8])
     requires can { CanLace kind sizes.now }
     requires room { length out.old ≡ length (lace_head kind sizes.now) }
@@ -31,7 +33,8 @@ pub fn put_lace(kind: Lace, sizes: &[u32], out: &mut [u8])
     put_spelled(kind, explicit_sizes(sizes), out);
 }
 
-// Returns the sizes that the head of a lace contains: all of `sizes` except the last.
+// Returns the sizes that the head of a lace contains: all of `sizes` except the last. `lace_len` and `put_lace` call
+// it.
 fn explicit_sizes(sizes: &[u32]) -> &[u32]
     requires { 1 ≤ length sizes.now }
     ensures { result.now ≡ explicit_sizes sizes.now }
@@ -39,7 +42,7 @@ fn explicit_sizes(sizes: &[u32]) -> &[u32]
     &sizes[..sizes.len() - 1]
 }
 
-// Returns the length in bytes of `sizes` as the head of a lace of the kind `kind` encodes them.
+// Returns the length in bytes of `sizes` as the head of a lace of the kind `kind` encodes them. `lace_len` calls it.
 fn spelled_len(kind: Lace, sizes: &[u32]) -> u32
     requires { length (octets_of_sizes kind None sizes.now) < 2 ^ 32 }
     ensures { result ≡ length (octets_of_sizes kind None sizes.now) }
@@ -54,6 +57,7 @@ fn spelled_len(kind: Lace, sizes: &[u32]) -> u32
 }
 
 // Writes `sizes` in sequence to `out`, which has the length that they take, as a lace of the kind `kind` encodes them.
+// `put_lace` calls it.
 fn put_spelled(kind: Lace, sizes: &[u32], out: &mut [u8])
     requires { length out.old ≡ length (octets_of_sizes kind None sizes.now) }
     ensures { out.new ≡ octets_of_sizes kind None sizes.now }
@@ -67,7 +71,7 @@ fn put_spelled(kind: Lace, sizes: &[u32], out: &mut [u8])
 }
 
 // Returns the number of bytes that encode the size `size` in a lace of the kind `kind`, after the previous size
-// `before`, if any.
+// `before`, if any. `spelled_len` calls it for each size.
 fn size_len(kind: Lace, before: Option<u32>, size: u32) -> u32
     ensures { result ≡ length (octets_of_size kind before size) }
 {
@@ -79,7 +83,7 @@ fn size_len(kind: Lace, before: Option<u32>, size: u32) -> u32
 }
 
 // Writes the bytes that encode the size `size` to `out` at the index `at`, and returns the index after them. `before`
-// is the previous size, if any.
+// is the previous size, if any. `put_spelled` calls it for each size.
 fn put_spelling_at(kind: Lace, before: Option<u32>, size: u32, at: usize, out: &mut [u8]) -> usize
     requires { at + length (octets_of_size kind before size) ≤ length out.old }
     ensures place { result ≡ at + length (octets_of_size kind before size) }
@@ -89,8 +93,8 @@ fn put_spelling_at(kind: Lace, before: Option<u32>, size: u32, at: usize, out: &
     at + put_spelling(kind, before, size, &mut out[at..])
 }
 
-// Writes the bytes that encode the size `size` to the start of `out`, and returns their number. `before` is the
-// previous size, if any.
+// Writes the bytes that encode the size `size` in a lace of the kind `kind` to the start of `out`, and returns their
+// number. `before` is the previous size, if any. `put_spelling_at` calls it.
 fn put_spelling(kind: Lace, before: Option<u32>, size: u32, out: &mut [u8]) -> usize
     requires { length (octets_of_size kind before size) ≤ length out.old }
     ensures len { result ≡ length (octets_of_size kind before size) }
@@ -104,6 +108,7 @@ fn put_spelling(kind: Lace, before: Option<u32>, size: u32, out: &mut [u8]) -> u
 }
 
 // Writes the bytes that encode the size `size` in Xiph lacing to the start of `out`, and returns their number.
+// `put_spelling` calls it.
 fn put_xiph(size: u32, out: &mut [u8]) -> usize
     requires { length (octets_of_size Lace.Xiph None size) ≤ length out.old }
     ensures len { result ≡ length (octets_of_size Lace.Xiph None size) }
@@ -116,7 +121,7 @@ fn put_xiph(size: u32, out: &mut [u8]) -> usize
 }
 
 // Writes the bytes that encode the size `size` in EBML lacing to the start of `out`, and returns their number. `before`
-// is the previous size, if any.
+// is the previous size, if any. `put_spelling` calls it.
 fn put_ebml(before: Option<u32>, size: u32, out: &mut [u8]) -> usize
     requires { length (ebml_octets before size) ≤ length out.old }
     ensures len { result ≡ length (ebml_octets before size) }
@@ -129,7 +134,7 @@ fn put_ebml(before: Option<u32>, size: u32, out: &mut [u8]) -> usize
 }
 
 // Returns the bytes that encode the size `size` in EBML lacing, as few as possible. They have its difference to the
-// previous size `before`, or the size if it is the first.
+// previous size `before`, or the size if it is the first. `size_len` and `put_ebml` call it.
 fn ebml_octets(before: Option<u32>, size: u32) -> Octets
     ensures octets { octets_of result ≡ ebml_octets before size }
     ensures len { result.len ≡ length (ebml_octets before size) }
@@ -141,7 +146,7 @@ fn ebml_octets(before: Option<u32>, size: u32) -> Octets
 }
 
 // Returns the bytes that encode the difference from the size `before` to the size `size` in EBML lacing, as few as
-// possible.
+// possible. `ebml_octets` calls it.
 fn difference_octets(before: u32, size: u32) -> Octets
     ensures octets { octets_of result ≡ difference_octets before size }
     ensures len { result.len ≡ length (difference_octets before size) }

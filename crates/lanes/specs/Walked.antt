@@ -9,11 +9,12 @@ use Rattle.merge_model.specs.declared.link.Link.{Link}
 use Rattle.lanes.specs.Ends.{end_of}
 use Rattle.lanes.specs.declared.survey_result.Survey.{Survey}
 
--- `s` has the greatest end of the blocks in `events` for `links`, in nanoseconds, and whether damage ends the reading.
+-- `s` has the greatest end of the blocks in `events` for `links`, in nanoseconds, and whether damage ends the reading. Used by `WalksLeft`.
 pub record IsWalked (events : List Event) (links : List Link) (s : Survey) : Type 0 where
   pub end : s.end ≡ end_of events links
   pub stopped : s.stopped ≡ is_some (last_of events)
 
--- A survey of all that the cursor `c` has left of its file had the expected result, if the file is visible to the proof.
+-- A survey of all that the cursor `c` has left of its file, for `links`, had the expected result, if the file is visible to the proof. `src` is the
+-- state of the files. The contract of `walk` has it. `r` gives the proof's view of the files.
 abbrev pub WalksLeft : {S : Type 0} → Ghosts S → S → Reading → List Link → Result Survey ReadEnd → Type 0
 WalksLeft r src c links result = IfTold r src c.file (λ bytes. IfOk result (IsWalked (left_of bytes c) links))

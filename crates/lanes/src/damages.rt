@@ -16,7 +16,8 @@ pub struct LinkDamage {
 }
 
 /// Returns the damaged place with the number `k`, counted from 0, among the ones in `told` that are reported one by
-/// one. They are counted link after link; `told` has an item for each link of an output track.
+/// one, or None if there are fewer. They are counted link after link; `told` has an item for each link of an output
+/// track. `Lane::damage` calls it.
 pub fn damage_at(told: &[Damages], k: usize) -> Option<LinkDamage>
     ensures { result ≡ slice_get (link_damages told.now) k }
 {
@@ -35,7 +36,7 @@ pub fn damage_at(told: &[Damages], k: usize) -> Option<LinkDamage>
 }
 
 /// Returns the number of damaged places of the link with the number `link`, counted from 0, that aren't reported one by
-/// one. `told` has an item for each link of an output track.
+/// one, or 0 if there is no such link. `told` has an item for each link of an output track. `Lane::more` calls it.
 pub fn more_of(told: &[Damages], link: usize) -> u64
     ensures { result ≡ more_of told.now link }
 {

@@ -17,7 +17,7 @@ use merge_model::{Link, TextLink, TrackLink};
 use mkv_io::Entry;
 
 /// Returns the duration of a block of `frames` frames, in nanoseconds: its own `duration`, or else the track's
-/// `default_duration` for each frame, or else 0.
+/// `default_duration` for each frame, or else 0. `track_end` adds it to the block's time.
 fn lasting(duration: Option<u64>, default_duration: Option<u64>, frames: u16) -> u64
     requires duration { IfSome duration (λ d. d < TOO_LARGE_TIME) }
     requires default { IfSome default_duration (λ d. d < 2 ^ 48) }
@@ -36,7 +36,7 @@ fn lasting(duration: Option<u64>, default_duration: Option<u64>, frames: u16) ->
 
 /// Returns the end in nanoseconds of the block at `cursor` in the output track that `track` feeds, with the delay and
 /// without the append offset. `before` frames of the track precede it. The end is 0 if the block isn't the track's or
-/// is dropped.
+/// is dropped. `link_end` calls it.
 fn track_end(track: &TrackLink, before: u64, cursor: &Cursor) -> u64
     requires { IsTimedTrack track.now }
     ensures exact { result ≡ track_end track.now before (by_head cursor.now.block) }
@@ -53,8 +53,8 @@ fn track_end(track: &TrackLink, before: u64, cursor: &Cursor) -> u64
     t + lasting(block.duration, track.default_duration, cursor.frames())
 }
 
-/// Returns the end in nanoseconds of the block at `cursor` for one link, without the append offset. `before` frames of
-/// the link's track precede it. The end is 0 for a text, which has no such block.
+/// Returns the end in nanoseconds of the block at `cursor` for `link`, without the append offset. `before` frames of
+/// the link's track precede it. The end is 0 for a text, which has no such block. `greatest_end` calls it.
 fn link_end(link: &Link, before: u64, cursor: &Cursor) -> u64
     requires { IsTimed link.now }
     ensures exact { result ≡ link_end (by_head cursor.now.block) before link.now }
@@ -67,7 +67,7 @@ fn link_end(link: &Link, before: u64, cursor: &Cursor) -> u64
 }
 
 /// Returns the number of frames that the block at `cursor` adds to the track of `link`; 0 for another track's block or
-/// a text.
+/// a text. `count_frames` calls it.
 fn link_frames(link: &Link, cursor: &Cursor) -> u64
     ensures exact { result ≡ link_frames (by_head cursor.now.block) link.now }
     ensures few { result ≤ 256 }
@@ -78,8 +78,8 @@ fn link_frames(link: &Link, cursor: &Cursor) -> u64
     }
 }
 
-/// Returns the greatest of `end` and the ends of the block at `cursor` for all links, in nanoseconds. For each link,
-/// `before` has the number of frames of its track that precede the block.
+/// Returns the greatest of `end` and the ends of the block at `cursor` for all `links`, in nanoseconds. For each link,
+/// `before` has the number of frames of its track that precede the block. The survey of a file calls it for each block.
 pub fn greatest_end(links: &[Link], before: &[u64], cursor: &Cursor, end: u64) -> u64
     requires links { All IsTimed links.now }
     requires each { length before.now ≡ length links.now }
@@ -94,8 +94,8 @@ pub fn greatest_end(links: &[Link], before: &[u64], cursor: &Cursor, end: u64) -
     end
 }
 
-/// Adds the frames of the block at `cursor` to `counts`, which has the number of frames met up to now for each link's
-/// track.
+/// Adds the frames of the block at `cursor` to `counts`, which has the number of frames met up to now for the track of
+/// each of `links`. The survey of a file calls it for each block.
 pub fn count_frames(links: &[Link], cursor: &Cursor, counts: &mut [u64])
     requires each { length counts.old ≡ length links.now }
     requires room { All (λ n. n < 2 ^ 63) counts.old }
@@ -107,8 +107,8 @@ pub fn count_frames(links: &[Link], cursor: &Cursor, counts: &mut [u64])
     }
 }
 
-/// Returns the end in nanoseconds of the subtitle `entry`, with the delay and without the append offset; 0 if it is
-/// dropped.
+/// Returns the end in nanoseconds of the subtitle `entry` of `text`, with the delay and without the append offset; 0 if
+/// it is dropped. `text_end` calls it.
 fn entry_end(text: &TextLink, entry: &Entry) -> u64
     requires moves { CanMove text.now.delay text.now.shift }
     requires small { IsSmallEntry entry.now }
@@ -121,7 +121,7 @@ fn entry_end(text: &TextLink, entry: &Entry) -> u64
     }
 }
 
-/// Returns the greatest of `end` and the ends of the subtitles of `text`, in nanoseconds.
+/// Returns the greatest of `end` and the ends of the subtitles of `text`, in nanoseconds. `texts_end` calls it.
 fn text_end(text: &TextLink, end: u64) -> u64
     requires moves { CanMove text.now.delay text.now.shift }
     requires small { All IsSmallEntry text.now.entries }
@@ -136,7 +136,8 @@ fn text_end(text: &TextLink, end: u64) -> u64
     end
 }
 
-/// Returns the greatest end of the subtitles in those links that are texts, in nanoseconds, or 0 if there is none.
+/// Returns the greatest end of the subtitles in those of `links` that are texts, in nanoseconds, or 0 if there is none.
+/// The survey of a file begins with it.
 pub fn texts_end(links: &[Link]) -> u64
     requires { All IsTimed links.now }
     ensures exact { result ≡ texts_end links.now }

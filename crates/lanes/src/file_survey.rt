@@ -20,8 +20,8 @@ use merge_model::{Link, TrackLink};
 use mkv_io::{List, ReadEnd, Reads};
 use std::alloc::Global;
 
-/// Reads the heads of all blocks that are left of the file at `cursor`, and returns the greatest end for the links.
-/// `counts` has the number of frames met up to now for each link's track.
+/// Reads the heads of all blocks that are left of the file at `cursor`, and returns the greatest end for `links`, in
+/// nanoseconds. `counts` has the number of frames met up to now for each link's track. `survey` calls it.
 fn walk<R: Reads>(
     cursor: &mut Cursor,
     links: &[Link],
@@ -53,7 +53,8 @@ fn walk<R: Reads>(
     }
 }
 
-/// Returns the first link to a track of a file. A survey reads its file, since all links are of the same one.
+/// Returns the first of `links` to a track of a file, or None if all are texts. `survey` reads its file, since all
+/// links are of the same one.
 fn first_track(links: &[Link]) -> Option<&TrackLink>
     ensures { option_copied result ≡ first_track links.now }
 {
@@ -66,7 +67,8 @@ fn first_track(links: &[Link]) -> Option<&TrackLink>
 }
 
 /// Returns the end of the file of `links` in nanoseconds, without its append offset, and whether damage ends its
-/// reading. Each link is for a track of that file, or the only text. Reads the heads of its blocks; for a text nothing.
+/// reading. `merge` calls it for an input that another one is appended to. Each link is for a track of that file, or
+/// the only text. Reads the heads of its blocks through `src`; for a text nothing.
 pub fn survey<R: Reads>(alloc: Global, src: &mut R, links: &List<Link>) -> Result<Survey, ReadEnd>
     requires open { All (IsOpenLink (live_files R.Reads src.old)) links.now }
     requires timed { All IsTimed links.now }

@@ -9,7 +9,8 @@ ghost use Rattle.lanes.specs.Frames.{by_head, frames_of};
 use cluster_reader::Cursor;
 use merge_model::TrackLink;
 
-/// Returns the number of frames of `track` in the block at `cursor`, or 0 if it is another track's block.
+/// Returns the number of frames of `track` in the block at `cursor`, or 0 if it is another track's block. An output
+/// track and the survey of a file count frames by it. Used by `link_frames` and `turn_track`.
 pub fn frames_of(track: &TrackLink, cursor: &Cursor) -> u64
     ensures exact { result ≡ frames_of track.now (by_head cursor.now.block) }
     ensures few { result ≤ 256 }
@@ -21,8 +22,9 @@ pub fn frames_of(track: &TrackLink, cursor: &Cursor) -> u64
     }
 }
 
-/// Returns the time in nanoseconds of a block that `before` frames of the track precede, without delay and append
-/// offset. It is its `own` time, or its first frame's time in a timestamp file.
+/// Returns the time in nanoseconds of a block that `before` frames of `track` precede, without delay and append offset.
+/// It is its `own` time, or its first frame's time in a timestamp file. Called for each block that is placed or
+/// surveyed.
 pub fn time_of(track: &TrackLink, before: u64, own: i64) -> i64
     requires { IsSmallTime own }
     ensures exact { result ≡ time_for (listing_of track.now) before own }

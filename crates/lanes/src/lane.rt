@@ -32,7 +32,8 @@ pub enum LaneStep {
     End,
 }
 
-// Returns the text of the subtitle that a walk has placed last, if `next` is the index of the next one, counted from 0.
+// Returns the text of the subtitle of `text` that a walk has placed last, if `next` is the index of the next one,
+// counted from 0. `Lane::lent` calls it.
 fn text_before(text: &TextLink, next: usize) -> &[u8]
     ensures exact { result.now ≡ text_of (slice_get text.now.entries (next - 1)) }
     ensures most { All IsSmallEntry text.now.entries → length result.now ≤ MAX_BLOCK_LEN }
@@ -80,8 +81,8 @@ impl Model for Lane {
 }
 
 impl Lane {
-    /// Returns an output track with the links in `spec`, before its first block. The output has `scale` nanoseconds per
-    /// tick. Allocates memory for the damaged places, and reads nothing.
+    /// Returns an output track with the links in `spec`, before its first block, for a merge of output tracks. The
+    /// output has `scale` nanoseconds per tick. Allocates memory for the damaged places, and reads nothing.
     pub fn start(alloc: Global, spec: LaneSpec, scale: u64) -> Result<Lane, AllocError>
         requires scale { 1 ≤ scale }
         requires most { length spec.links ≤ MAX_LINKS }
@@ -100,8 +101,9 @@ impl Lane {
         })
     }
 
-    /// Reads the next block, which `lent` then returns. Returns `End` after the last one, at each call. After an error
-    /// the same block is due, and damaged places that were met stay reported.
+    /// Reads the next block, which `lent` then returns. The merge of output tracks calls it for each block. Returns
+    /// `End` after the last one, at each call. After an error the same block is due, and damaged places that were met
+    /// stay reported.
     pub fn advance<R: Reads>(&mut self, src: &mut R) -> Result<LaneStep, ReadEnd>
         requires { IsReady (live_files R.Reads src.old) self.old }
         ensures gives { GivesIfTold (live_files R.Reads src.old) self.old self.new result }
@@ -131,8 +133,9 @@ impl Lane {
         }
     }
 
-    /// Returns the damaged place with the number `k`, counted from 0, among the ones that were met up to now. Only the
-    /// first hundred of each link count, link after link.
+    /// Returns the damaged place with the number `k`, counted from 0, among the ones that were met up to now, or None
+    /// if there are fewer. Only the first hundred of each link count, link after link. The test of failed reads calls
+    /// it.
     pub fn damage(&self, k: usize) -> Option<LinkDamage>
         ensures { result ≡ slice_get (link_damages self.now.walk.told.items) k }
     {
@@ -140,29 +143,32 @@ impl Lane {
     }
 
     /// Returns the number of damaged places of the link with the number `link`, counted from 0, after its first
-    /// hundred.
+    /// hundred. No command calls it: the summary of a merge reads `damages`.
     pub fn more(&self, link: usize) -> u64
         ensures { result ≡ more_of self.now.walk.told.items link }
     {
         more_of(self.walk.told.as_slice(), link)
     }
 
-    /// Returns the damaged places that were met up to now in the file of the link `link`, counted from 0. They are the
-    /// first hundred, and the number of others.
+    /// Returns the damaged places that were met up to now in the file of the link `link`, counted from 0, or None if
+    /// there is no such link. They are the first hundred, and the number of others. The summary of a merge has them.
+    /// Used by `damage_at` and `more_of`.
     pub fn damages(&self, link: usize) -> Option<&Damages>
         ensures { option_copied result ≡ slice_get self.now.walk.told.items link }
     {
         self.walk.told.get(link)
     }
 
-    /// Returns the head of the last block, with its order number for the merge.
+    /// Returns the head of the last block, with its order number for the merge of output tracks. `lent` and the merge
+    /// call it.
     pub fn head(&self) -> &OutHead
         ensures { result.now ≡ (lent self.now).head }
     {
         &self.walk.placed.head
     }
 
-    /// Returns the last block, with the head and the references that it has in the output.
+    /// Returns the last block, with the head and the references that it has in the output. The merge writes it to a
+    /// Cluster before it reads the next one.
     pub fn lent(&self) -> LaneBlock<'_>
         ensures exact { as_lent result ≡ lent self.now }
         ensures few { HasFew result }

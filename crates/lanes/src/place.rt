@@ -35,7 +35,7 @@ pub struct Placed {
 }
 
 impl Placed {
-    /// Returns the parts of no block, for an output track before its first one.
+    /// Returns the parts of no block, for an output track before its first one. `Walk::start` calls it.
     pub fn nothing() -> Placed {
         let head = OutHead {
             tick: 0,
@@ -56,7 +56,7 @@ impl Placed {
 }
 
 // Writes the `references` of a block at `t` nanoseconds of the output to `into`: the distances in nanoseconds become
-// ticks of `scale` nanoseconds.
+// ticks of `scale` nanoseconds. `place_block` calls it.
 fn put_references(scale: u64, t: u64, references: &[i64], into: &mut ArrayVec<i64, 64>)
     requires scale { 1 ≤ scale }
     requires early { t < most_time }
@@ -72,7 +72,7 @@ fn put_references(scale: u64, t: u64, references: &[i64], into: &mut ArrayVec<i6
 }
 
 // Returns the duration in ticks of `scale` nanoseconds of a block at `t` nanoseconds of the output, if it has a
-// `duration` in nanoseconds.
+// `duration` in nanoseconds; otherwise None. `place_block` calls it.
 fn duration_ticks(scale: u64, t: u64, duration: Option<u64>) -> Option<u64>
     requires scale { 1 ≤ scale }
     requires early { t < most_time }
@@ -86,7 +86,8 @@ fn duration_ticks(scale: u64, t: u64, duration: Option<u64>) -> Option<u64>
     }
 }
 
-// Returns the lacing of a block in the output: `lace`, or none for a single frame. `sizes` has the sizes of its frames.
+// Returns the lacing of a block in the output: `lace`, or none for a single frame. `sizes` has the sizes of its frames
+// in bytes. `place_block` calls it.
 #[tactic(auto, using(crate::proofs::PlaceLemmas::laces))]
 fn lace_for(sizes: &[u32], lace: Lace) -> Lace
     ensures { (body : AList ℕ) → result ≡ lace_for (frames_cut sizes.now body) lace }
@@ -94,9 +95,10 @@ fn lace_for(sizes: &[u32], lace: Lace) -> Lace
     if sizes.len() == 1 { Lace::None } else { lace }
 }
 
-/// Places the block at `cursor` in the output, and writes its parts to `placed`. `before` frames of the track precede
-/// it, and `greatest` is the greatest tick of the output track up to now. Returns false if the block is dropped: it is
-/// another track's, or before time 0.
+/// Places the block at `cursor` in an output with `scale` nanoseconds per tick, and writes its parts to `placed`. An
+/// output track calls it for each block of the file of `track`. `before` frames of the track precede it, and `greatest`
+/// is the greatest tick of the output track up to now. Returns false if the block is dropped: it is another track's, or
+/// before time 0.
 #[tactic(auto, using(crate::proofs::TickLemmas::few))]
 pub fn place_block(
     track: &TrackLink,
@@ -139,8 +141,9 @@ pub fn place_block(
     true
 }
 
-/// Places the subtitle `entry` in the output, and writes its parts to `placed`. `greatest` is the greatest tick of the
-/// output track up to now. Returns false if the subtitle is dropped: it is before time 0.
+/// Places the subtitle `entry` of `text` in an output with `scale` nanoseconds per tick, and writes its parts to
+/// `placed`. An output track calls it for each subtitle. `greatest` is the greatest tick of the output track up to now.
+/// Returns false if the subtitle is dropped: it is before time 0.
 #[tactic(auto, using(crate::proofs::TickLemmas::few))]
 pub fn place_entry(
     text: &TextLink,

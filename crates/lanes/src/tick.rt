@@ -6,7 +6,8 @@ ghost use Rattle.output_model.specs.Ticks.{since_start, tick_of, ticks_for, tick
 ghost use Rattle.merge_model.specs.declared.limits.TheConstants.{MAX_SHIFT, TOO_LARGE_DELAY};
 ghost use Rattle.lanes.specs.Times.{output_time, most_time, ticks_back};
 
-/// Returns `time` with `delay`, both in nanoseconds, or nothing if that is before time 0.
+/// Returns `time` with `delay`, both in nanoseconds, or None if that is before time 0. Used for the placing of blocks
+/// and for their ends.
 pub fn delayed(time: i64, delay: i64) -> Option<u64>
     requires time { IsSmallTime time }
     requires delay { nat_abs delay < TOO_LARGE_DELAY }
@@ -20,8 +21,8 @@ pub fn delayed(time: i64, delay: i64) -> Option<u64>
     Some(delayed as u64)
 }
 
-/// Returns the time in the output of a block at `time` in its file, or nothing if it is before time 0. `delay` comes
-/// from the options, and `shift` is the append offset; all are in nanoseconds.
+/// Returns the time in the output of a block at `time` in its file, or None if it is before time 0. `delay` comes from
+/// the options, and `shift` is the append offset; all are in nanoseconds. `place_block` and `place_entry` call it.
 pub fn output_time(time: i64, delay: i64, shift: u64) -> Option<u64>
     requires time { IsSmallTime time }
     requires delay { nat_abs delay < TOO_LARGE_DELAY }
@@ -32,8 +33,9 @@ pub fn output_time(time: i64, delay: i64, shift: u64) -> Option<u64>
     Some(delayed(time, delay)? + shift)
 }
 
-/// Returns the tick nearest to the time `t`, if a tick has `scale` nanoseconds. If two ticks are equally near, it is
-/// the later.
+/// Returns the tick nearest to the time `t` in nanoseconds, if a tick has `scale` nanoseconds. If two ticks are equally
+/// near, it is the later. Every block of an output has its time from it. Used by `place_block`, `place_entry` and
+/// others.
 pub fn tick_of(scale: u64, t: u64) -> u64
     requires { 1 ≤ scale }
     ensures { result ≡ tick_of scale t }
@@ -48,7 +50,7 @@ pub fn tick_of(scale: u64, t: u64) -> u64
 }
 
 /// Returns the duration in ticks of `duration` nanoseconds from the time `t`, in nanoseconds: the distance of the ticks
-/// nearest to start and end.
+/// nearest to start and end. A tick has `scale` nanoseconds. Used for durations and references of blocks.
 #[tactic(auto, using(crate::proofs::TickLemmas::small))]
 pub fn ticks_for(scale: u64, t: u64, duration: u64) -> u64
     requires scale { 1 ≤ scale }
@@ -60,7 +62,7 @@ pub fn ticks_for(scale: u64, t: u64, duration: u64) -> u64
 }
 
 // Returns the distance in ticks from the time `t` to the time `size` nanoseconds before it, between the ticks nearest
-// to both. That time may be before time 0.
+// to both. A tick has `scale` nanoseconds. That time may be before time 0. `ticks_to` calls it.
 #[tactic(auto, using(crate::proofs::TickLemmas::small))]
 fn ticks_back(scale: u64, t: u64, size: u64) -> u64
     requires { 1 ≤ scale }
@@ -79,7 +81,8 @@ fn ticks_back(scale: u64, t: u64, size: u64) -> u64
 }
 
 /// Returns the distance in ticks from the time `t` to the time `away` nanoseconds after it, or before it if `away` is
-/// negative. It is the distance of the ticks nearest to both.
+/// negative. It is the distance of the ticks nearest to both; a tick has `scale` nanoseconds. `put_references` calls
+/// it.
 pub fn ticks_to(scale: u64, t: u64, away: i64) -> i64
     requires scale { 1 ≤ scale }
     requires early { t < most_time }

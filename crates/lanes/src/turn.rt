@@ -19,15 +19,16 @@ use merge_model::{Link, TextLink, TrackLink};
 use mkv_io::{ReadEnd, Reads};
 use std::alloc::Global;
 
-// Checks whether damage ended the reading of the track's file, and with it the output track.
+// Checks whether damage ended the reading of the file of `track` at `cursor`, and with it the output track.
+// `turn_track` calls it at each damaged place.
 fn stopped(track: &TrackLink, cursor: &Cursor) -> bool
     ensures { result ≡ (not track.now.goes_on && cursor.now.stopped) }
 {
     !track.goes_on && cursor.stopped()
 }
 
-// Takes one turn in the file of the link `track`: opens it, or reads its next event. Returns `None` if no block was
-// placed.
+// Takes one turn in the file of the link `track`, one of `links`: opens it, or reads its next event, and changes
+// `walk`. Returns `None` if no block was placed. `take_turn` calls it.
 fn turn_track<R: Reads>(
     alloc: Global,
     links: &[Link],
@@ -82,8 +83,8 @@ fn turn_track<R: Reads>(
     }
 }
 
-// Takes one turn in the text of the link `text`: places its next subtitle, or leaves it. Returns `None` if no subtitle
-// was placed.
+// Takes one turn in the text of the link `text`, one of `links`: places its next subtitle, or leaves it, and changes
+// `walk`. Returns `None` if no subtitle was placed. `take_turn` calls it.
 fn turn_text(links: &[Link], text: &TextLink, scale: u64, walk: &mut Walk) -> Option<LaneStep>
     requires here { slice_get links.now walk.old.at ≡ Some (AText text.now) }
     requires scale { 1 ≤ scale }
@@ -107,8 +108,8 @@ fn turn_text(links: &[Link], text: &TextLink, scale: u64, walk: &mut Walk) -> Op
     }
 }
 
-/// Takes one turn of the walk of an output track over `links`. Returns `None` if no block was placed and the walk
-/// hasn't ended; `Lane::advance` then takes another.
+/// Takes one turn of the walk `walk` of an output track over `links`. Returns `None` if no block was placed and the
+/// walk hasn't ended; `Lane::advance` then takes another. `scale` is the nanoseconds per tick of the output.
 pub fn take_turn<R: Reads>(
     alloc: Global,
     links: &[Link],

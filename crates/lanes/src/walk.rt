@@ -30,7 +30,8 @@ pub struct Walk {
 }
 
 impl Walk {
-    /// Returns the walk over `count` links at its start. Allocates memory for the damaged places.
+    /// Returns the walk over `count` links at its start. `Lane::start` calls it. Allocates memory for the damaged
+    /// places.
     pub fn start(alloc: Global, count: usize) -> Result<Walk, AllocError>
         ensures { IfOk result (Begins count) }
     {
@@ -50,7 +51,8 @@ impl Walk {
         })
     }
 
-    /// Leaves the current link: goes to the next one, or past all `count` links if damage ended the reading.
+    /// Leaves the current link: goes to the next one, or past all `count` links if damage ended the reading. A turn
+    /// that reaches the end of a link calls it.
     pub fn leave(&mut self, count: usize)
         requires { self.old.at < count }
         ensures { self.new ≡ behind_link count self.old }

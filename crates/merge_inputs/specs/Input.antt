@@ -45,10 +45,10 @@ pub data BlocksRead : Type 0 where
   Clusters : Header → ℕ → BlocksRead
   Entries : List Entry → BlocksRead
 
--- an input of a merge as it is read, before its blocks. `held` is the number of bytes of its Info, Tracks, Chapters and Tags, which count for a
--- limit. `count` is the number of its tracks, and `taken` the selected ones. `attachments`, `chapters` and `tags` are the kept ones, and `keep` the
--- choice of Tags. `shift` is the append offset in nanoseconds: 0 until it is known, None if the input isn't appended. `times` has the timestamps of
--- timestamp files, by track ID.
+-- an input of a merge as the definitions read it, before its blocks. `held` is the number of bytes of its Info, Tracks, Chapters and Tags, which
+-- count for a limit. `count` is the number of its tracks, and `taken` the selected ones. `attachments`, `chapters` and `tags` are the kept ones, and
+-- `keep` the choice of Tags. `shift` is the append offset in nanoseconds: 0 until it is known, None if the input isn't appended. `times` has the
+-- timestamps of timestamp files, by track ID, counted from 0.
 pub record InputRead : Type 0 where
   pub blocks : BlocksRead
   pub title : List ℕ
@@ -64,21 +64,22 @@ pub record InputRead : Type 0 where
 
 -- ---- reading a content
 
--- the result of `more` with a value that was found; damage instead of it refuses the input
+-- the result of `more` with a value that was found in an input's file; damage instead of it refuses the input. Used by `file_read`.
 abbrev pub found_then : {A B : Type 0} → Result A Damage → (A → Result B InputRefusal) → Result B InputRefusal
 found_then (Ok x) more = more x
 found_then (Err d) more = Err (Damaged d)
 
--- `input`, or its refusal, if there is one
+-- the input `input` of `merge`, or its refusal, the first argument, if there is one
 abbrev pub input_or_refusal : Option InputRefusal → InputRead → Result InputRead InputRefusal
 input_or_refusal None input = Ok input
 input_or_refusal (Some why) input = Err why
 
--- the refusal of an input with valid records because of the first of the selected tracks `taken` whose frames can't be used
+-- the refusal of an input with valid records because of the first of the selected tracks `taken` whose frames can't be used, or None. Used by
+-- `file_read`.
 abbrev pub refusal_of : List TakenTrack → Option InputRefusal
 refusal_of taken = option_map Damaged (first_unusable taken)
 
--- the input for a file with the outline `o` and the records `r`. Its options are `words`, and `webm` is true if the output is WebM.
+-- the input of `merge` for a file with the outline `o` and the records `r`. Its options are `words`, and `webm` is true if the output is WebM.
 abbrev pub input_with : FileWords → Bool → Outlined → FileRecords → InputRead
 input_with words webm o r = record {
   blocks = Clusters o.segment (scale_of_info r.info);
@@ -94,15 +95,15 @@ input_with words webm o r = record {
   times = [];
 }
 
--- the input for a file with Clusters and the content `bytes`, or its refusal because of outline, records or selected tracks. The inputs before it
--- have `held` bytes of limited Elements, and `webm` is true if the output is WebM.
+-- the input of `merge` for a file with Clusters and the content `bytes`, or its refusal because of outline, records or selected tracks. `words` has
+-- its options, and `webm` is true if the output is WebM. The inputs before it have `held` bytes of Info, Tracks, Chapters and Tags.
 abbrev pub file_read : FileWords → Bool → ℕ → List ℕ → Result InputRead InputRefusal
 file_read words webm held bytes =
     found_then (outline_of held bytes) (λ (o : Outlined).
     found_then (file_records bytes o.segment) (λ (r : FileRecords).
     input_or_refusal (refusal_of (taken_from words 0 r.tracks)) (input_with words webm o r)))
 
--- the input for a text with the subtitles `entries`: one track, and no other records
+-- the input of `merge` for a SubRip text with the subtitles `entries` and the options `words`: one track, and no other records
 abbrev pub text_with : FileWords → List Entry → InputRead
 text_with words entries = record {
   blocks = Entries entries;
@@ -118,42 +119,45 @@ text_with words entries = record {
   times = [];
 }
 
--- the input that `more` makes of the subtitles of a text; a refused text refuses the input
+-- the input that `more` makes of the subtitles of a SubRip text, the first argument; a refused text refuses the input
 abbrev pub text_then : Result (List Entry) TextRefusal → (List Entry → InputRead) → Result InputRead InputRefusal
 text_then (Ok entries) more = Ok (more entries)
 text_then (Err why) more = Err (Text why)
 
--- the input for a SubRip text with the content `bytes`, or its refusal; `words` has its options
+-- the input of `merge` for a SubRip text with the content `bytes`, or its refusal; `words` has its options
 abbrev pub text_read : FileWords → List ℕ → Result InputRead InputRefusal
 text_read words bytes = text_then (srt_text bytes) (text_with words)
 
--- the input with the content `bytes`, or its refusal: a SubRip text, or a file with Clusters. `words` has its name and options, and `webm` is true if
--- the output is WebM. The inputs before it have `held` bytes of limited Elements.
+-- the input of `merge` with the content `bytes`, or its refusal: a SubRip text, or a file with Clusters. `words` has its name and options, and `webm`
+-- is true if the output is WebM. The inputs before it have `held` bytes of Info, Tracks, Chapters and Tags.
 abbrev pub input_of : FileWords → Bool → ℕ → List ℕ → Result InputRead InputRefusal
 input_of words webm held bytes = if is_srt words.name bytes then text_read words bytes else file_read words webm held bytes
 
 -- ---- an input that was read
 
--- the source of an opened input's blocks as the definitions have it, without the data that the code keeps of the file
+-- the source of an opened input's blocks, as the code has it, as the definitions have it, without the data that the code keeps of the file; for
+-- `read_in`
 abbrev pub blocks_in : Blocks → BlocksRead
 blocks_in (held_by.Clusters outline scale) = Clusters outline.value.segment scale
 blocks_in (held_by.Entries entries) = Entries entries
 
--- the number of bytes of an input's Info, Tracks, Chapters and Tags, given the source of its blocks; 0 for a text
+-- the number of bytes of the Info, Tracks, Chapters and Tags of an input, given the source of its blocks; 0 for a text. It counts against the limit
+-- for later inputs. Used by `read_in`.
 abbrev pub held_in : Blocks → ℕ
 held_in (held_by.Clusters outline scale) = outline.value.held
 held_in (held_by.Entries entries) = 0
 
--- the length in bytes of an input's file as its outline has it, given the source of its blocks; 0 for a text
+-- the length in bytes of an input's file as its outline has it, given the source of its blocks; 0 for a text. The data of its attached files are
+-- within it. Used by `IsInput`.
 abbrev pub total_in : Blocks → ℕ
 total_in (held_by.Clusters outline scale) = outline.value.total
 total_in (held_by.Entries entries) = 0
 
--- the timestamps of timestamp files as the definitions have them, by track ID
+-- the timestamps of timestamp files for an input, as the code has them, as the definitions have them, by track ID. Used by `read_in` and others.
 abbrev pub listings_in : List TrackTimes → List (ℕ × Listing)
 listings_in times = map (λ (t : TrackTimes). (t.id, t.times.value)) times
 
--- the opened input `i` as the definitions have it, without the data that the code keeps of its file
+-- the opened input `i` of `merge` as the definitions have it, without the data that the code keeps of its file
 abbrev pub read_in : Input → InputRead
 read_in i = record {
   blocks = blocks_in i.blocks;
@@ -169,45 +173,48 @@ read_in i = record {
   times = listings_in i.times;
 }
 
--- the blocks and damage in a file with the content `bytes`, given the source of an input's blocks; none for a text
+-- the blocks and damage in a file with the content `bytes`, given the source of an input's blocks, the first argument; none for a text. Used by
+-- `events_in`, `AreOwnEvents` and others.
 abbrev pub events_by : BlocksRead → List ℕ → List Event
 events_by (Clusters segment scale) bytes = events_of (with_limits scale) bytes segment
 events_by (Entries entries) bytes = []
 
--- the blocks and damage in the file of the input `i`, whose content is `bytes`
+-- the blocks and damage in the file of the input `i` of `merge`, whose content is `bytes`; the definition of the merge reads them
 abbrev pub events_in : InputRead → List ℕ → List Event
 events_in i bytes = events_by i.blocks bytes
 
--- The blocks and damage that are read with the input's nanoseconds per tick are the ones of the format's definition. `bytes` is the content of its
--- file.
+-- The blocks and damage that are read with the nanoseconds per tick in the given source of an input's blocks are the ones of the format's definition.
+-- `bytes` is the content of its file. `read_input` promises it.
 abbrev pub AreOwnEvents : Blocks → List ℕ → Type 0
 AreOwnEvents (held_by.Clusters outline scale) bytes = events_by (Clusters outline.value.segment scale) bytes ≡ file_events true bytes outline.value.segment
 AreOwnEvents (held_by.Entries entries) bytes = ⊤
 
--- The reader's result is as the definitions expect, where `found` is the input or its refusal. A read may fail, and memory may run out.
+-- The last argument, which a reader of an input returned, is as the definitions expect, where `found` is the input or its refusal. A read may fail,
+-- and memory may run out.
 abbrev pub ReadsInput : Result InputRead InputRefusal → Result Input InputEnd → Type 0
 ReadsInput found (Ok i) = found ≡ Ok (read_in i)
 ReadsInput found (Err (input_end.Refused why)) = found ≡ Err why
 ReadsInput found (Err input_end.ReadFault) = ⊤
 ReadsInput found (Err input_end.Memory) = ⊤
 
--- The input `i` was read from the file `id`, and its append offset isn't known yet. `words` has its options.
+-- The input `i` of `merge` was read by `read_input` from the file `id`, and its append offset isn't known yet. `words` has its options.
 pub record IsReadOf (id : FileId) (words : FileWords) (i : Input) : Type 0 where
   pub file : i.file ≡ id
   pub unmoved : i.shift ≡ unmoved words
 
--- The outline `outline` is of a file with `octets` bytes, and a tick has `nanoseconds` nanoseconds, at least one.
+-- The outline `outline` of an input is of a file with `octets` bytes, and a tick has `nanoseconds` nanoseconds, at least one. Used by `CanBeGiven`.
 pub record AreClusters (octets : ℕ) (outline : FileOutline) (nanoseconds : ℕ) : Type 0 where
   pub size : octets ≡ outline.total
   pub scale : 1 ≤ nanoseconds
 
--- The source of an input's blocks fits its file of `size` bytes: its outline has this size. Subtitles are within the limits of a text.
+-- The given source of an input's blocks fits its file of `size` bytes: its outline has this size. Subtitles are within the limits of a text. It is a
+-- condition of a valid input.
 abbrev pub CanBeGiven : ℕ → Blocks → Type 0
 CanBeGiven size (held_by.Clusters outline scale) = AreClusters size outline.value scale
 CanBeGiven size (held_by.Entries entries) = AreWithin MAX_SRT_LEN entries
 
--- The opened input `i` is valid. Its file is live, its blocks can be read, and its selected tracks can be copied. The data of its attached files are
--- in it, and its Chapters and Tags were read.
+-- The opened input `i` of `merge` is valid, as planning requires. Its file is live among `files`, its blocks can be read, and its selected tracks can
+-- be copied. The data of its attached files are in it, and its Chapters and Tags were read.
 pub record IsInput (files : LiveFiles) (i : Input) : Type 0 where
   pub live : files.live i.file.n ≡ true
   pub blocks : CanBeGiven (files.size i.file.n) i.blocks

@@ -14,12 +14,14 @@ use Rattle.requests.specs.declared.merge.FileWords.{FileWords}
 use Rattle.merge_inputs.specs.Select.{is_taken}
 use Rattle.merge_inputs.specs.declared.taken.TakenTrack.{TakenTrack}
 
--- the value that an option gives to the track with the ID `id`, if any. Values are given with the IDs, and the first counts.
+-- the value that an option of `merge` gives to the track with the ID `id`, or None. The last argument has the IDs with their values, and the first
+-- for an ID counts.
 abbrev pub value_for : {T : Type 0} → ℕ → List (ℕ × T) → Option T
 value_for id [] = None
 value_for id (pair ∷ pairs) = if pair.0 == id then Some pair.1 else value_for id pairs
 
--- the flags that the options `words` give to the track with the ID `id`; the first value of an option for a track counts
+-- the flags that the options `words` of an input give to its track with the ID `id`, counted from 0; the first value of an option for a track counts.
+-- Used by `taken_track`.
 abbrev pub flags_for : ℕ → FlagWords → FlagChange
 flags_for id words = record {
   enabled = value_for id words.enabled;
@@ -30,7 +32,8 @@ flags_for id words = record {
   commentary = value_for id words.commentary;
 }
 
--- the selected track `t` with the ID `id` and the options in `words` for it; its delay is 0 by default
+-- the selected track `t` of an input with the ID `id`, counted from 0, and the options in `words` for it; its delay in nanoseconds is 0 by default.
+-- Used by `taken_one`.
 abbrev pub taken_track : FileWords → ℕ → Track → TakenTrack
 taken_track words id t = record {
   id = id;
@@ -45,23 +48,25 @@ taken_track words id t = record {
   cues = value_for id words.cues;
 }
 
--- the track `t` with the ID `id`, with its options, if `words` selects it, and otherwise nothing
+-- the track `t` of an input with the ID `id`, with its options, as a list of one, if `words` selects it, and otherwise an empty list; for
+-- `taken_from`
 abbrev pub taken_one : FileWords → ℕ → Track → List TakenTrack
 taken_one words id t = if is_taken words id t.kind then taken_track words id t ∷ [] else []
 
--- the tracks that `words` selects, with their options, in a list of tracks with IDs from `id` onwards
+-- the tracks that the options `words` of an input select, with their options, in the given list of its tracks with IDs from `id` onwards. Used by
+-- `taken_of`, `input_with` and others.
 abbrev pub taken_from : FileWords → ℕ → List Track → List TakenTrack
 taken_from words id [] = []
 taken_from words id (t ∷ ts) = taken_one words id t ++ taken_from words (id + 1) ts
 
--- the first damage that makes the frames of one of the selected tracks `taken` unusable, if there is one
+-- the first damage that makes the frames of one of the selected tracks `taken` of an input unusable, or None; the input is refused for it
 abbrev pub first_unusable : List TakenTrack → Option Damage
 first_unusable taken = first_damage (flat_map (λ (t : TakenTrack). usable_causes t.track.entry) taken)
 
 -- ---- facts about copied tracks
 
--- The selected track `t` can be copied. It agrees with its TrackEntry, which is valid and fits in a Tracks Element. Its frames can be used, and its
--- delay is below 2^55 nanoseconds in either direction.
+-- The selected track `t` of an input can be copied by `merge`. It agrees with its TrackEntry, which is valid and fits in a Tracks Element. Its frames
+-- can be used, and its delay is below 2^55 nanoseconds in either direction.
 pub record IsTaken (t : TakenTrack) : Type 0 where
   pub said : t.track ≡ track_of t.track.entry
   pub entry : IsEntry t.track.entry

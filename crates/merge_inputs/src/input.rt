@@ -82,6 +82,7 @@ impl From<OutlineEnd> for InputEnd {
 
     ghost from_gives = { λ why end. end ≡ end_of why };
 
+    /// Returns the end of reading an input, by the end `why` of reading its outline or records.
     fn from(why: OutlineEnd) -> InputEnd {
         match why {
             OutlineEnd::Refused(damage) => InputEnd::Refused(InputRefusal::Damaged(damage)),
@@ -94,6 +95,7 @@ impl From<OutlineEnd> for InputEnd {
 impl From<AllocError> for InputEnd {
     ghost from_gives = { λ _ end. end ≡ input_end.Memory };
 
+    /// Returns the end of reading an input when memory ran out.
     fn from(_error: AllocError) -> InputEnd {
         InputEnd::Memory
     }
@@ -102,6 +104,7 @@ impl From<AllocError> for InputEnd {
 impl From<AllocFailed<Outline>> for InputEnd {
     ghost from_gives = { λ _ end. end ≡ input_end.Memory };
 
+    /// Returns the end of reading an input when memory ran out for its outline.
     fn from(_failed: AllocFailed<Outline>) -> InputEnd {
         InputEnd::Memory
     }
@@ -112,6 +115,7 @@ impl From<TextFileEnd> for InputEnd {
 
     ghost from_gives = { λ why end. end ≡ text_end_of why };
 
+    /// Returns the end of reading an input, by the end `why` of reading its SubRip text.
     fn from(why: TextFileEnd) -> InputEnd {
         match why {
             TextFileEnd::Refused(why) => InputEnd::Refused(InputRefusal::Text(why)),
@@ -124,6 +128,7 @@ impl From<TextFileEnd> for InputEnd {
 impl From<Failed> for InputEnd {
     ghost from_gives = { λ _ end. end ≡ input_end.ReadFault };
 
+    /// Returns the end of reading an input after a failed read.
     fn from(_failed: Failed) -> InputEnd {
         InputEnd::ReadFault
     }

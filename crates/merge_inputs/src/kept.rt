@@ -13,22 +13,22 @@ use record_changes::without_statistics;
 use requests::FileWords;
 use std::alloc::{AllocError, Global};
 
-/// Returns the attached files `files` of an input if `is_kept`, and none otherwise.
+/// Returns the attached files `files` of an input if `is_kept`, and none otherwise. Used by `read_file`.
 pub fn kept_files(alloc: Global, is_kept: bool, files: List<Attachment>) -> List<Attachment>
     ensures { result ≡ kept_list is_kept files }
 {
     if is_kept { files } else { List::new(alloc) }
 }
 
-/// Returns `tree`, the Chapters or Tags of an input, if `is_kept`, and none otherwise.
+/// Returns `tree`, the Chapters or Tags of an input, if `is_kept`, and None otherwise. Used by `read_file`.
 pub fn kept_tree(is_kept: bool, tree: Option<Tree>) -> Option<Tree>
     ensures { result ≡ kept_one is_kept tree }
 {
     if is_kept { tree } else { None }
 }
 
-/// Returns the Tags `tags` of an input if its options `words` keep some, without statistics if the options leave these
-/// out.
+/// Returns the Tags `tags` of an input if its options `words` keep some, or None. They lack the statistics if the
+/// options leave the statistics out. Used by `read_file`.
 pub fn kept_tags(
     alloc: Global,
     words: &FileWords,

@@ -2,7 +2,8 @@
 
 ghost use Rattle.merge_inputs.specs.Laws.{InputsStay};
 
-/// Law: an input stays valid while its own file is unchanged, whatever happens to other files.
+/// States that an input stays valid while its own file is unchanged, whatever happens to other files. A law for
+/// `merge`, which reads its inputs one after another; no command calls it.
 pub fn inputs_stay()
     ensures { InputsStay }
 {}

@@ -24,7 +24,7 @@ use std::rc::Rc;
 
 /// Reads the open file `file` before its Clusters, or returns the first refusal because of its outline, its records or
 /// the tracks that `words` selects. The inputs before it hold `held` bytes of Info, Tracks, Chapters and Tags, which
-/// count for a limit. With `webm` attached files and Chapters are left out.
+/// count for a limit of 64 MiB. With `webm` attached files and Chapters are left out. Used by `read_input`.
 fn read_file<R: Reads>(
     alloc: Global,
     words: &FileWords,
@@ -75,7 +75,8 @@ fn read_file<R: Reads>(
     })
 }
 
-/// Reads the open SubRip text `file`: its subtitles, and its only track if `words` selects it.
+/// Reads the open SubRip text `file`: its subtitles, and its only track if the options `words` select it. Used by
+/// `read_input`.
 fn read_text<R: Reads>(
     alloc: Global,
     words: &FileWords,
@@ -109,8 +110,8 @@ fn read_text<R: Reads>(
     })
 }
 
-/// Checks whether the open file `file` is read as SubRip: its name ends in `.srt`, and it doesn't begin as an EBML
-/// file. Reads at most 4 bytes.
+/// Checks whether the open file `file` is read as SubRip: its name in `words` ends in `.srt`, and it doesn't begin as
+/// an EBML file. Reads at most 4 bytes. Used by `read_input`.
 fn is_text<R: Reads>(words: &FileWords, src: &mut R, file: FileId) -> Result<bool, Failed>
     requires { IsLive R.Reads src.old file }
     ensures exact { IfTold R.Reads src.old file (λ bytes. IfOk result (λ is. is ≡ is_srt words.now.name bytes)) }
@@ -127,9 +128,10 @@ fn is_text<R: Reads>(words: &FileWords, src: &mut R, file: FileId) -> Result<boo
     Ok(!begins_ebml(&octets[..known]))
 }
 
-/// Reads the open file `file` before its blocks, or returns the refusal. A SubRip text has subtitles, another file the
-/// Elements before its Clusters. The inputs before it hold `held` bytes of Info, Tracks, Chapters and Tags, which count
-/// for a limit. With `webm` attached files and Chapters are left out.
+/// Reads the open file `file`, an input of `merge` with the options `words`, before its blocks, or returns the refusal.
+/// A SubRip text has subtitles, another file the Elements before its Clusters. The inputs before it hold `held` bytes
+/// of Info, Tracks, Chapters and Tags, which count for a limit of 64 MiB. With `webm` attached files and Chapters are
+/// left out.
 pub fn read_input<R: Reads>(
     alloc: Global,
     words: &FileWords,

@@ -29,8 +29,8 @@ pub struct TakenTrack {
     pub cues: Option<CueWord>,
 }
 
-/// Returns the tracks of an input that its options `words` select, in the file's order, with the options for each. The
-/// ID of a track is its index in `tracks`, counted from 0.
+/// Returns the tracks of an input of `merge` that its options `words` select, in the file's order, with the options for
+/// each. The ID of a track is its index in `tracks`, counted from 0.
 pub fn taken_of(
     alloc: Global,
     words: &FileWords,
@@ -48,7 +48,7 @@ pub fn taken_of(
     Ok(taken)
 }
 
-/// Returns the selected track `track`, whose ID is `id`, with the options for it in `words`.
+/// Returns the selected track `track`, whose ID is `id`, with the options for it in `words`. Used by `taken_of`.
 fn taken_track(
     alloc: Global,
     words: &FileWords,
@@ -72,7 +72,7 @@ fn taken_track(
 }
 
 /// Returns the flags that the options `words` give to the track with the ID `id`. An option that is given more than
-/// once counts the first time.
+/// once counts the first time. Used by `taken_track`.
 fn flags_for(id: u64, words: &FlagWords) -> FlagChange
     ensures { result ≡ flags_for id words.now }
 {
@@ -86,8 +86,8 @@ fn flags_for(id: u64, words: &FlagWords) -> FlagChange
     }
 }
 
-/// Returns the value that the option with the values `list` gives to the track with the ID `id`. If there are several,
-/// the first counts.
+/// Returns the value that the option with the values `list`, pairs of a track ID and a value, gives to the track with
+/// the ID `id`, or None. If there are several, the first counts. Used by `taken_track`.
 fn value_for<T>(id: u64, list: &[(u64, T)]) -> Option<&T>
     ensures { option_copied result ≡ value_for id list.now }
 {
@@ -99,8 +99,8 @@ fn value_for<T>(id: u64, list: &[(u64, T)]) -> Option<&T>
     None
 }
 
-/// Returns a copy of the text that the option with the values `list` gives to the track with the ID `id`. If there are
-/// several, the first counts.
+/// Returns a copy of the text that the option with the values `list`, pairs of a track ID and a text, gives to the
+/// track with the ID `id`, or None. If there are several, the first counts. Used by `taken_track`.
 fn text_for(alloc: Global, id: u64, list: &[(u64, Text)]) -> Result<Option<Text>, AllocError>
     ensures { IfOk result (λ text. text ≡ value_for id list.now) }
 {
@@ -110,8 +110,8 @@ fn text_for(alloc: Global, id: u64, list: &[(u64, Text)]) -> Result<Option<Text>
     }
 }
 
-/// Returns the damage that makes the frames of one of the selected tracks unusable, if there is one: an encoding that
-/// can't be undone.
+/// Returns the damage that makes the frames of one of the selected tracks `taken` unusable, or None: an encoding that
+/// can't be undone. Used by `read_file`.
 pub fn first_unusable(taken: &[TakenTrack]) -> Option<Damage>
     requires { All (λ t. IsEntry t.track.entry) taken.now }
     ensures { result ≡ first_unusable taken.now }

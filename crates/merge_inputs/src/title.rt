@@ -9,7 +9,7 @@ use mkv_io::Text;
 use mkv_schema::ids::TITLE;
 use std::alloc::{AllocError, Global};
 
-/// Returns the title in `info`, the first Info of a file, or an empty text if absent.
+/// Returns the title in `info`, the first Info of a file, or an empty text if absent. Used by `read_file`.
 pub fn title_of(alloc: Global, info: &Option<Tree>) -> Result<Text, AllocError>
     requires { IfSome info.now IsGoodInfo }
     ensures { IfOk result (λ title. title ≡ title_of_info info.now) }

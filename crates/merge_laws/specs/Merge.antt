@@ -35,72 +35,77 @@ use Rattle.merge_laws.specs.Sources.{HoldsOctets}
 
 -- ---- selected blocks, and blocks that are read
 
--- for each output track of the merge of `sources` its blocks: all blocks of the selected tracks outside any damage. Each has its own timestamp or the
--- timestamp file's, with its delay, in ticks of the output. The bytes that header stripping removed are back before each frame.
+-- for each output track of the merge `words` of `sources` its blocks: all blocks of the selected tracks outside any damage. Each has its own
+-- timestamp or the timestamp file's, with its delay, in ticks of `words.scale` nanoseconds. The bytes that header stripping removed are back before
+-- each frame. Used by `SelectedBlocksAreSound`, `DamagedLanesGoOn` and others.
 abbrev pub lanes_selected : MergeWords → List Source → List (List OutputBlock)
 lanes_selected words sources = map (lane_blocks words.scale) (lanes_taken words sources)
 
--- the blocks and damage in the content `bytes` of the output `o`, read without a reader's limits as the Segment of the output's document
+-- the blocks and damage in the content `bytes` of the planned output `o`, read without a reader's limits as the Segment of its document. The laws of
+-- a successful merge compare them with what was planned.
 abbrev pub events_read : PlannedOutput → List ℕ → List Event
 events_read o bytes = file_events false bytes (header_of_segment o.document)
 
--- the block `b` without its offset in the file
+-- the block `b` with the offset 0, since `blocks_held` compares a read block with a planned one, which has no place in a file yet
 abbrev pub without_place : Block → Block
 without_place b = record b { offset = 0 }
 
--- the blocks in the content `bytes` of the output `o`, without their offsets
+-- the blocks in the content `bytes` of the planned output `o`, without their offsets in the file. `HoldsOutput` compares them with the planned
+-- blocks.
 abbrev pub blocks_held : PlannedOutput → List ℕ → List Block
 blocks_held o bytes = map without_place (blocks_found (events_read o bytes))
 
--- The TrackEntry has no ContentEncodings, so the frames of its track are stored unchanged.
+-- The TrackEntry `entry` has no ContentEncodings, so the frames of its track are stored unchanged. It is promised for each track of an output of
+-- `merge` and `generate`.
 abbrev pub HasNoEncodings : Node → Type 0
 HasNoEncodings entry = first_child CONTENT_ENCODINGS entry ≡ None
 
 -- ---- the merge
 
--- The content `bytes` holds the output `o` of the merge `words`. It is read by the format's definition, without a reader's limits. It is the output's
--- document: undamaged, with its scale, records, Seeks and cue points, each at its block. The frames of its tracks are stored unchanged. Its blocks
--- are the output's, each once and in order. They keep their frames, laces and flags; timestamps, durations and references have the nanoseconds of
--- their ticks.
+-- The content `bytes` holds the output `o` of the merge `words`, as `IsMerged` promises. It is read by the format's definition, without a reader's
+-- limits. It is the output's document: undamaged, with its scale, records, Seeks and cue points, each at its block. The frames of its tracks are
+-- stored unchanged. Its blocks are the output's, each once and in order. They keep their frames, laces and flags; timestamps, durations and
+-- references have the nanoseconds of their ticks.
 pub record HoldsOutput (words : MergeWords) (o : PlannedOutput) (bytes : List ℕ) : Type 0 where
   pub document : IsReadAs o.document bytes
   pub plain : All HasNoEncodings (entries_of o.document.front.tracks)
   pub blocks : blocks_held o bytes ≡ map (block_in_place words.scale 0) o.blocks
 
--- If the merge isn't split, the content `bytes` of its output `o` has the selected blocks of each output track.
+-- If the merge `words` of `sources` isn't split, the content `bytes` of its output `o` has the selected blocks of each output track. `IsMerged`
+-- promises it.
 abbrev pub HoldsLanes : MergeWords → List Source → PlannedOutput → List ℕ → Type 0
 HoldsLanes words sources o bytes =
     words.split ≡ None → lanes_read words.scale 1 (length (lanes_given sources)) (events_read o bytes) ≡ lanes_selected words sources
 
 -- ---- parts
 
--- the blocks of the section `x` as they are in its part: their ticks count from the section's start
+-- the blocks of the section `x` as they are in its part: their ticks count from the section's start. `ArePartsOf` requires them of each output.
 abbrev pub blocks_in_part : Section → List OutputBlock
 blocks_in_part x = map (in_part x.start) x.blocks
 
--- The lists `blocks` are the blocks of the parts that the merged list is cut into by the rule `s`. It is divided into sections, with cuts between
--- them and nowhere else. The parts are the written sections, in order.
+-- The lists `blocks`, one for each output of a merge, are the parts that the merged list `merged` is cut into by the rule `s`. It is divided into
+-- sections, with cuts between them and nowhere else. The parts are the written sections, in order. `IsMerged` promises it.
 pub record ArePartsOf (s : Split) (merged : List OutputBlock) (blocks : List (List OutputBlock)) : Type 0 where
   pub sections : List Section
   pub are : AreSections s merged sections
   pub written : blocks ≡ map blocks_in_part (filter (is_written s) sections)
 
--- Parts that are cut at a number of bytes keep the limit `limit`. Each part except the last reaches it. In each part it isn't reached before a block
--- that allows a cut.
+-- The parts of the merged list `blocks`, which is cut at a number of bytes by the rule `s`, keep the limit `limit` in bytes. Each part except the
+-- last reaches it. In each part it isn't reached before a block that allows a cut. `IsMerged` promises it.
 pub record KeepsLimit (s : Split) (blocks : List OutputBlock) (limit : ℕ) : Type 0 where
   pub full : AllButLast (IsFull limit) (parts s blocks)
   pub small : All (IsSmall s limit) (parts s blocks)
 
 -- ---- the whole
 
--- the output `o` as it is written: its name, and the bytes of its document
+-- the planned output `o` of a merge as it is written: its name, and the bytes of its document. `IsMerged` promises that the files become it.
 abbrev pub laid_out : PlannedOutput → Output
 laid_out o = record { name = o.name; content = layout o.document }
 
--- The merge `words` of the files `world` was written, and the files are `new` after it. Its outputs have exactly the bytes of their documents, and
--- every other name keeps its content. The records of the sources can be read again, and identifiers have 64 bits. Each output has at most 2^48 bytes,
--- and its document is valid. Each output holds its blocks and document; one that isn't split holds all output tracks. Together the outputs are the
--- parts of the merged list, and parts that are cut at a number of bytes keep its limit.
+-- The merge `words` of the files `world` was written, and the files are `new` after it: what `HasMerged` promises. Its outputs have exactly the bytes
+-- of their documents, and every other name keeps its content. The records of the sources can be read again, and identifiers have 64 bits. Each output
+-- has at most 2^48 bytes, and its document is valid. Each output holds its blocks and document; one that isn't split holds all output tracks.
+-- Together the outputs are the parts of the merged list, and parts that are cut at a number of bytes keep its limit.
 pub record IsMerged (world : List ℕ → Option (List ℕ)) (words : MergeWords) (new : Names) : Type 0 where
   pub sources : List Source
   pub taken : sources_of world words ≡ Ok sources
@@ -116,12 +121,13 @@ pub record IsMerged (world : List ℕ → Option (List ℕ)) (words : MergeWords
 -- ---- a run
 
 -- If the command line `words` is a merge, it was written: the files were `old` before it and are `new` after it. This holds if `old` is visible to
--- the proof and all contents are bytes.
+-- the proof and all contents are bytes. The contract of the program promises it for the exit codes 0 and 1.
 abbrev pub HasMerged : Names → List (List ℕ) → Names → Type 0
 HasMerged old words new =
     IfVisible old (λ world. HoldsOctets world → (merge : MergeWords) → command words ≡ Ok (Merge merge) → IsMerged world merge new)
 
--- `HasMerged` holds between the files `old` and `new`, if the run of the command line `words` ended without an error; a warning is allowed.
+-- `HasMerged` holds between the files `old` and `new`, if the run of the command line `words` ended without an error; a warning is allowed. The last
+-- argument is the status of the run. The contract of `run` promises it.
 abbrev pub MergesWell : Names → List (List ℕ) → Names → Status → Type 0
 MergesWell old words new Done = HasMerged old words new
 MergesWell old words new Warned = HasMerged old words new

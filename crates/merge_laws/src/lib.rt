@@ -7,50 +7,57 @@
 ghost use Rattle.merge_laws.specs.Bound.{OnlyAppendingWalks, ReadsAreBounded};
 ghost use Rattle.merge_laws.specs.Laws.{DamagedLanesGoOn, LayoutsHoldOutputs, MergedDocumentsAreSound, SelectedBlocksAreSound, SourcesAreRead, UndamagedLanesStay, WholeMergesAreOne};
 
-/// Law: the contents of a merge's sources are bytes, and their tracks can be written.
+/// Law: if all files consist of bytes, the contents of the sources of `merge` do, and their tracks can be written. The
+/// proofs about a repeated merge use it.
 pub fn sources_are_read()
     ensures { SourcesAreRead }
 {}
 
-/// Law: the blocks of the selected tracks can be written.
+/// Law: every block of a selected track of a merge can be written as a SimpleBlock or BlockGroup. A promise to users;
+/// no code calls it.
 pub fn selected_blocks_are_sound()
     ensures { SelectedBlocksAreSound }
 {}
 
-/// Law: the document of each output of a merge can be written and read again.
+/// Law: the document of each output of `merge` can be written and read again, if the output has at most 2^48 bytes. The
+/// proof that a repeated merge gives the same bytes uses it.
 pub fn merged_documents_are_sound()
     ensures { MergedDocumentsAreSound }
 {}
 
-/// Law: a merge that isn't split has one output.
+/// Law: a merge without `--split` has one output, with the name and all blocks of the merge. A promise to users; no
+/// code calls it.
 pub fn whole_merges_are_one()
     ensures { WholeMergesAreOne }
 {}
 
-/// Law: the bytes of each output of a merge, read by the format's definition, have the tracks, blocks and records that
-/// the merge gives it. The output must have at most 2^48 bytes.
+/// Law: the bytes of each output of `merge`, read by the format's definition, have the tracks, blocks and records that
+/// the merge gives it. The output must have at most 2^48 bytes. The proof that a repeated merge gives the same bytes
+/// uses it.
 pub fn layouts_hold_outputs()
     ensures { LayoutsHoldOutputs }
 {}
 
-/// Law: if damage ends the reading of no input, the option `--append-damaged` changes nothing.
+/// Law: if damage ends the reading of no input, `--append-damaged` changes no output track of `merge`. A promise to
+/// users; no code calls it.
 pub fn undamaged_lanes_stay()
     ensures { UndamagedLanesStay }
 {}
 
-/// Law: with the option `--append-damaged` an output track has all blocks of all inputs that it continues with.
+/// Law: with `--append-damaged` an output track of `merge` has all blocks of all inputs that continue it, even after a
+/// damaged input. A promise to users; no code calls it.
 pub fn damaged_lanes_go_on()
     ensures { DamagedLanesGoOn }
 {}
 
-/// Law: a merge reads at most 16 times its inputs' lengths for each output track, and 48 times these lengths besides.
-/// It adds at most 1 MiB, and each text file once.
+/// Law: `merge` reads at most 16 times the sum of its inputs' lengths for each output track, and 48 times this sum
+/// besides. It adds at most 1 MiB, and each text file once, all in bytes. The page PROVED cites it.
 pub fn reads_are_bounded_by_lengths()
     ensures { ReadsAreBounded }
 {}
 
 /// Law: a merge that appends no file walks none to its end before the blocks. It reads its inputs at most 25 times, and
-/// twice for each output track.
+/// twice for each output track. The page PROVED cites it.
 pub fn only_appending_walks()
     ensures { OnlyAppendingWalks }
 {}

@@ -13,23 +13,24 @@ use Rattle.output_model.specs.Ticks.{since_start, tick_of, ticks_for, ticks_to}
 
 -- ---- a link
 
--- the placing of a source's blocks in the output. It has the delay of their timestamps, the append offset, the default duration of a frame, and the
--- bytes before each frame. Times are in nanoseconds.
+-- the placing of a source's blocks in the output of a merge. It has the delay of their timestamps, the append offset, the default duration of a
+-- frame, and the bytes before each frame. Times are in nanoseconds. Used by `lasting`, `end_at` and others.
 pub record Placing : Type 0 where
   pub delay : ℤ
   pub shift : ℕ
   pub default_duration : Option ℕ
   pub prefix : List ℕ
 
--- a source of an output track. It has the blocks of a track in the order of the file, and the damage of the file. `stops` is true if the damage ends
--- the reading of the sources after it.
+-- a source of an output track, as the definition of a merge has it. It has the blocks of a track in the order of the file, and the damage of the
+-- file. `stops` is true if the damage ends the reading of the sources after it. Used by `file_end`, `timed_given` and others.
 pub record Given : Type 0 where
   pub blocks : List Block
   pub damages : List Damage
   pub stops : Bool
   pub placing : Placing
 
--- the source for the track with the TrackNumber `number` in a file with the events `events`; `p` is the placing
+-- the source of an output track for the track with the TrackNumber `number` in a file with the events `events` (blocks and damage); `p` is the
+-- placing. It stops if damage ends the reading of its file.
 abbrev pub track_given : Placing → ℕ → List Event → Given
 track_given p number events = record {
   blocks = filter (λ (b : Block). b.track == number) (blocks_of events);
@@ -38,11 +39,12 @@ track_given p number events = record {
   placing = p;
 }
 
--- the source `g`; if `goes_on`, damage in it doesn't end the reading of the sources after it
+-- the source `g`; if `goes_on`, an option of `merge`, damage in it doesn't end the reading of the sources after it
 abbrev pub going_on : Bool → Given → Given
 going_on goes_on g = record g { stops = not goes_on && g.stops }
 
--- the subtitle `e` of a text as a block: a group of one frame, with the duration of the subtitle
+-- the subtitle `e` of a SubRip text as a block that `merge` can place: a group of one frame, with the start and the duration of the subtitle in
+-- nanoseconds
 abbrev pub entry_block : Entry → Block
 entry_block e = record {
   track = 0;
@@ -59,7 +61,8 @@ entry_block e = record {
   offset = 0;
 }
 
--- the source for the subtitles `entries` of a text, with this delay and append offset in nanoseconds
+-- the source of an output track for the subtitles `entries` of a SubRip text, with the delay `delay` and the append offset `shift` in nanoseconds;
+-- for `text_with` and `given_from`
 abbrev pub text_given : ℤ → ℕ → List Entry → Given
 text_given delay shift entries = record {
   blocks = map entry_block entries;
@@ -70,13 +73,14 @@ text_given delay shift entries = record {
 
 -- ---- a block in the output
 
--- the lacing of a written block with these frames: none for a single frame, and otherwise the input's, `kind`
+-- the lacing of a written block with the given frames: none for a single frame, and otherwise the input's, `kind`; for `output_block`
 abbrev pub lace_for : List (List ℕ) → Lace → Lace
 lace_for [] kind = kind
 lace_for (frame ∷ []) kind = lace.None
 lace_for (frame ∷ other ∷ frames) kind = kind
 
--- the block `b` at `t` nanoseconds of an output with `scale` nanoseconds per tick, with `prefix` before each frame. Its output track isn't known yet.
+-- the block `b` of an input as it is at `t` nanoseconds of an output with `scale` nanoseconds per tick, with `prefix` before each frame. Its output
+-- track isn't known yet, so its number is 0. Used by `placed_at`.
 abbrev pub output_block : ℕ → List ℕ → ℕ → Block → OutputBlock
 output_block scale prefix t b = record {
   lane = 0;
@@ -92,19 +96,23 @@ output_block scale prefix t b = record {
   kept = b.kept;
 }
 
--- the timestamp of the block `b` with the delay in `p`, in nanoseconds, or None if it is before time 0
+-- the timestamp of the block `b` of an input with the delay in `p`, in nanoseconds, or None if it is before time 0, so that the block is dropped; for
+-- `block_end` and `placed`
 abbrev pub delayed : Placing → Block → Option ℕ
 delayed p b = since_start (b.time +ℤ p.delay)
 
--- the block `b` as it is in the output, given its timestamp with the delay in nanoseconds; without one it is dropped
+-- the block `b` as a list of one, as it is in an output with `scale` nanoseconds per tick. The last argument is its timestamp with the delay of `p`
+-- in nanoseconds; without one the block is dropped, and the list is empty. Used by `placed`.
 abbrev pub placed_at : ℕ → Placing → Block → Option ℕ → List OutputBlock
 placed_at scale p b None = []
 placed_at scale p b (Some t) = output_block scale p.prefix (t + p.shift) b ∷ []
 
--- the block `b` of a source with the placing `p`, as it is in an output of `scale` nanoseconds per tick. A block before time 0 is dropped.
+-- the block `b` of a source with the placing `p` as a list of one, as it is in an output of `scale` nanoseconds per tick. The list is empty if the
+-- block is before time 0. Used by `given_blocks`.
 abbrev pub placed : ℕ → Placing → Block → List OutputBlock
 placed scale p b = placed_at scale p b (delayed p b)
 
--- the blocks of the source `g` as they are in an output of `scale` nanoseconds per tick, without the dropped ones
+-- the blocks of the source `g` of an output track as they are in an output of `scale` nanoseconds per tick, without the dropped ones; for
+-- `DamagedLanesGoOn` and `lane_blocks`
 abbrev pub given_blocks : ℕ → Given → List OutputBlock
 given_blocks scale g = flat_map (placed scale g.placing) g.blocks

@@ -7,14 +7,16 @@ use Rattle.output_records.specs.Chapters.{chapter_numbers, edition_numbers}
 use Rattle.merge_inputs.specs.Input.{InputRead}
 use Rattle.merge_plan.specs.Records.{records_of, tracks_taken, uids_of}
 
--- The identifiers in an output: TrackUIDs, EditionUIDs, ChapterUIDs and FileUIDs.
+-- The identifiers in an output: TrackUIDs, EditionUIDs, ChapterUIDs and FileUIDs, each in the order of the Elements. Used for the Targets of Tags.
+-- Used by `identifiers_of`, `Have64Bits` and others.
 pub record Identifiers : Type 0 where
   pub tracks : List ℕ
   pub editions : List ℕ
   pub chapters : List ℕ
   pub files : List ℕ
 
--- the identifiers in the output of a merge of the inputs `reads`
+-- the identifiers in the output of a merge of the inputs `reads`, after the ones that occur again were changed. `CanBeWritten` and the laws on a
+-- repeated merge use them.
 abbrev pub identifiers_of : List InputRead → Identifiers
 identifiers_of reads = record {
   tracks = uids_of (tracks_taken reads);
@@ -23,7 +25,8 @@ identifiers_of reads = record {
   files = file_numbers (records_of reads);
 }
 
--- Each identifier in `ids` is below 2^64, and so can be stored.
+-- Each identifier in `ids` is below 2^64, and so can be stored. A condition of the plan that `merge` carries out, and of the laws on a repeated
+-- merge.
 pub record Have64Bits (ids : Identifiers) : Type 0 where
   pub tracks : All (λ n. n < 2 ^ 64) ids.tracks
   pub editions : All (λ n. n < 2 ^ 64) ids.editions

@@ -30,18 +30,20 @@ use Rattle.merge_plan.specs.Front.{attachments_of, attached_length, front_of}
 use Rattle.merge_plan.specs.Plan.{Source, drives_given, inputs_given, lanes_taken, limits_of, rules_given, split_given}
 use Rattle.merge_plan.specs.Refusal.{plan_refusal}
 
--- the source of the opened input `i`: its content among the live files `f`, and its data before the blocks
+-- the source of the opened input `i`: its content among the live files `f`, and its data before the blocks. Contracts of the plan use it. Used by
+-- `EndsAt`, `end_behind` and others.
 abbrev pub source_in : LiveFiles → Input → Source
 source_in f i = (octets_in f i.file.n, read_in i)
 
--- The content of the file of the input `i` is visible to the proof.
+-- The content of the file of the input `i`, live in `f`, is visible to the proof. Contracts of the plan depend on it. Used by `EndsAt`, `IsBehind`
+-- and others.
 abbrev pub IsToldInput : LiveFiles → Input → Type 0
 IsToldInput f i = f.content i.file.n ≡ Some (octets_in f i.file.n)
 
 -- ---- the records of an output
 
 -- The records `r` are the output's for `inputs`. If the contents of files are visible to the proof, its attached files have their data. The data have
--- the lengths that the inputs give.
+-- the lengths that the inputs give. Used by the contract of `output_of`.
 pub record AreRecordsOf (inputs : List Input) (r : OutputRecords) : Type 0 where
   pub tracks : r.tracks ≡ tracks_of_output (map read_in inputs)
   pub attachments : (f : LiveFiles) → All (IsToldInput f) inputs → map (attached_file f) r.attachments ≡ attachments_of (map (source_in f) inputs)
@@ -49,7 +51,7 @@ pub record AreRecordsOf (inputs : List Input) (r : OutputRecords) : Type 0 where
   pub chapters : r.chapters ≡ chapters_of (map read_in inputs)
   pub tags : r.tags ≡ tags_of (map read_in inputs)
 
--- The data of the attached file `a` are in the file of one of `inputs`.
+-- The data of the attached file `a` are in the file of one of `inputs`. A condition for `merge` to copy them.
 pub record StandsInInput (inputs : List Input) (a : Attachment) : Type 0 where
   pub number : ℕ
   pub input : Input
@@ -58,7 +60,7 @@ pub record StandsInInput (inputs : List Input) (a : Attachment) : Type 0 where
   pub same : a.file ≡ input.file
   pub within : a.at + a.len ≤ total_in input.blocks
 
--- The records `r` of the output for `inputs` can be written and read again, and its identifiers have 64 bits.
+-- The records `r` of the output for `inputs` can be written and read again, and its identifiers have 64 bits. Used by the contract of `output_of`.
 pub record AreSound (inputs : List Input) (r : OutputRecords) : Type 0 where
   pub tracks : IsRecord TRACKS r.tracks
   pub attachments : All IsAttached r.attachments
@@ -67,7 +69,8 @@ pub record AreSound (inputs : List Input) (r : OutputRecords) : Type 0 where
   pub tags : IfSome r.tags (IsRecord TAGS)
   pub numbers : Have64Bits (identifiers_of (map read_in inputs))
 
--- The result of planning the records of the output: the records for `inputs`, which `words` doesn't refuse, or the refusal. Memory may run out.
+-- The result of planning the records of the output: the records for `inputs`, which `words` doesn't refuse, or the refusal. Memory may run out. Used
+-- by the contract of `records_for`.
 abbrev pub GivesRecords : MergeWords → List Input → Result OutputRecords PlanEnd → Type 0
 GivesRecords words inputs (Ok r) = (plan_refusal words (map read_in inputs) ≡ None) × AreRecordsOf inputs r
 GivesRecords words inputs (Err (Refused why)) = plan_refusal words (map read_in inputs) ≡ Some why
@@ -77,7 +80,8 @@ GivesRecords words inputs (Err Memory) = ⊤
 
 -- The plan `p` is the one for the options `words` and the inputs `inputs`. It has the output's name, the rule for cuts, the limits of Clusters, and
 -- the segment identifiers. It has the records before and after the Clusters, with the attached files, and its Info gets a Duration exactly with
--- `--duration`. It has the output tracks, each with its links, the numbers of their inputs, and its rules for cue points and cuts.
+-- `--duration`. It has the output tracks, each with its links, the numbers of their inputs, and its rules for cue points and cuts. It is the result
+-- of `plan_of`.
 pub record IsPlanOf (words : MergeWords) (inputs : List Input) (p : MergePlan) : Type 0 where
   pub output : p.output ≡ words.output
   pub split : p.split ≡ split_given words (map read_in inputs)
@@ -95,7 +99,8 @@ pub record IsPlanOf (words : MergeWords) (inputs : List Input) (p : MergePlan) :
   pub rules : rules_of p.lanes ≡ rules_given (map read_in inputs)
   pub drives : drivers_of p.lanes ≡ drives_given (map read_in inputs)
 
--- The result of planning the merge `words`: the plan for `inputs`, which aren't refused, or the refusal. Memory may run out.
+-- The result of planning the merge `words`: the plan for `inputs`, which aren't refused, or the refusal. Memory may run out. Used by the contract of
+-- `plan_of`.
 abbrev pub Plans : MergeWords → List Input → Result MergePlan PlanEnd → Type 0
 Plans words inputs (Ok p) = (plan_refusal words (map read_in inputs) ≡ None) × IsPlanOf words inputs p
 Plans words inputs (Err (Refused why)) = plan_refusal words (map read_in inputs) ≡ Some why
@@ -103,23 +108,23 @@ Plans words inputs (Err Memory) = ⊤
 
 -- ---- facts of every plan
 
--- `P` holds for each link of each output track of the plan `p`.
+-- `P` holds for each link of each output track of the plan `p`. Used by `CanBeWritten`.
 abbrev pub AllLinks : (Link → Type 0) → MergePlan → Type 0
 AllLinks P p = All (All P) (links_of p.lanes)
 
--- The link doesn't read a live file for whose number `test` is true, such as a file that is written.
+-- The link doesn't read a live file for whose number `test` is true, such as a file that is written. Used by `CanBeWritten`.
 abbrev pub IsSparedLink : (ℕ → Bool) → Link → Type 0
 IsSparedLink test (Track t) = test t.file.n ≡ false
 IsSparedLink test (Entries e) = ⊤
 
--- The output track `l` has at most one link for each of `inputs`, and a number of an input for each link.
+-- The output track `l` has at most one link for each of `inputs`, and a number of an input for each link. Used by `CanBeWritten`.
 pub record IsLinked (inputs : List Input) (l : PlannedLane) : Type 0 where
   pub few : length l.spec.links ≤ length inputs
   pub numbered : length l.inputs ≡ length l.spec.links
 
 -- The plan `p` for `inputs` can be carried out. It has at most 64 output tracks, each with at most one link for each input. Each link reads the file
 -- of an input and is within its limits. The records of the output can be read again, and the data of attached files are in the inputs. Its
--- identifiers have 64 bits.
+-- identifiers have 64 bits. Used by the contract of `plan_of`.
 pub record CanBeWritten (inputs : List Input) (p : MergePlan) : Type 0 where
   pub few : length p.lanes ≤ MAX_LANES
   pub linked : All (IsLinked inputs) p.lanes

@@ -11,36 +11,38 @@ use Rattle.merge_plan.specs.declared.refusal.PlanRefusal.TheVariants.{NoLane, To
 use Rattle.merge_plan.specs.Records.{chapters_of, tags_of, tracks_of_output, tracks_taken}
 use Rattle.merge_plan.specs.Webm.{is_webm_codec}
 
--- `x`, if the test is true; otherwise none
+-- Some `x`, if the first argument is true; otherwise None. `no_lane` and `too_many_lanes` use it.
 abbrev pub where_so : {A : Type 0} → Bool → A → Option A
 where_so true x = Some x
 where_so false x = None
 
--- the refusal if no track is selected; `taken` has the tracks that begin output tracks
+-- the refusal if no track is selected, or None; `taken` has the tracks that begin output tracks. A part of `lanes_refusal`.
 abbrev pub no_lane : List TakenTrack → Option PlanRefusal
 no_lane taken = where_so (length taken == 0) NoLane
 
--- the refusal if more tracks begin output tracks than an output may have, which is 64
+-- the refusal if more tracks begin output tracks than an output may have, which is 64, or None; `taken` has the tracks. A part of `lanes_refusal`.
 abbrev pub too_many_lanes : List TakenTrack → Option PlanRefusal
 too_many_lanes taken = where_so (nat_lt MAX_LANES (length taken)) TooManyLanes
 
--- the CodecID of the first of the tracks `taken` that WebM doesn't allow
+-- the CodecID of the first of the tracks `taken` that WebM doesn't allow, if there is one. `not_webm` uses it.
 abbrev pub other_codec : List TakenTrack → Option (List ℕ)
 other_codec taken = option_map (λ (t : TakenTrack). t.track.codec) (find (λ (t : TakenTrack). not (is_webm_codec t.track.codec)) taken)
 
--- the refusal of a WebM output because of the first of the tracks `taken` with another codec; `webm` is true if the output is WebM
+-- the refusal of a WebM output because of the first of the tracks `taken` with another codec, or None; `webm` is true if the output is WebM. A part
+-- of `lanes_refusal`.
 abbrev pub not_webm : Bool → List TakenTrack → Option PlanRefusal
 not_webm webm taken = if webm then option_map NotWebm (other_codec taken) else None
 
--- the refusal because of the tracks `taken` that begin output tracks: none, too many, or a codec that WebM doesn't allow. `webm` is true if the
--- output is WebM.
+-- the refusal because of the tracks `taken` that begin output tracks, or None: none, too many, or a codec that WebM doesn't allow. `webm` is true if
+-- the output is WebM. A part of `plan_refusal`.
 abbrev pub lanes_refusal : Bool → List TakenTrack → Option PlanRefusal
 lanes_refusal webm taken = option_or (no_lane taken) (option_or (too_many_lanes taken) (not_webm webm taken))
 
--- the refusal if the Tracks, Chapters or Tags of the output would be too large to be read again; the first of them is named
+-- the refusal of a merge of the inputs `reads` if the Tracks, Chapters or Tags of the output would be too large to be read again, or None; the first
+-- of them is named. A part of `plan_refusal`.
 abbrev pub records_refusal : List InputRead → Option PlanRefusal
 records_refusal reads = option_map HeaderTooLarge (first_too_large (tracks_of_output reads) (chapters_of reads) (tags_of reads))
 
--- the refusal of the merge `words` of the inputs `reads`, in the order of the checks
+-- the refusal of the merge `words` of the inputs `reads`, in the order of the checks, or None. `Plans`, in the contract of `plan_of`, uses it.
 abbrev pub plan_refusal : MergeWords → List InputRead → Option PlanRefusal
 plan_refusal words reads = option_or (lanes_refusal words.webm (tracks_taken reads)) (records_refusal reads)

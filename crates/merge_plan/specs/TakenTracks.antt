@@ -33,43 +33,46 @@ use Rattle.merge_plan.specs.Plan.{append_offset, rule_of}
 use Rattle.merge_plan.specs.Records.{is_appended}
 use Rattle.ext_times.specs.Listing.{Listing}
 
--- a selected track, its opened input, and the input's number, counted from 0
+-- a selected track, its opened input, and the input's number, counted from 0. A list of spots is what an output track consists of. Used by `spot`,
+-- `spots_in` and others.
 pub record Spot : Type 0 where
   pub number : ℕ
   pub input : Input
   pub track : TakenTrack
 
--- the selected track `t` of the input `i`, which has the number `number`, counted from 0
+-- the selected track `t` of the input `i`, which has the number `number`, counted from 0. `spots_in` uses it.
 abbrev pub spot : ℕ → Input → TakenTrack → Spot
 spot number i t = record { number = number; input = i; track = t }
 
--- the selected tracks of an opened input, which is given with its number, counted from 0
+-- the selected tracks of an opened input, which is given with its number, counted from 0. `spots_from` uses them.
 abbrev pub spots_in : ℕ × Input → List Spot
 spots_in each = map (spot each.0 each.1) each.1.taken
 
--- The opened input `i` is appended to the previous one, and so continues its output tracks.
+-- The opened input `i` is appended to the previous one, and so continues its output tracks. `appended` and `spots_from` use it.
 abbrev pub goes_on : Input → Bool
 goes_on i = is_appended (read_in i)
 
--- for each output track the selected tracks that it consists of; the first of `inputs` has the number `number`, counted from 0
+-- for each output track the selected tracks that it consists of; the first of `inputs` has the number `number`, counted from 0. `AreLanesOf` uses
+-- them.
 abbrev pub spots_from : ℕ → List Input → List (List Spot)
 spots_from number inputs = lanes_by (λ (each : ℕ × Input). goes_on each.1) spots_in (enumerate_from number inputs)
 
--- the selected track at index `place`, counted from 0, of an input that is given with its number, if it has one
+-- the selected track at index `place`, counted from 0, of an input that is given with its number, if it has one. The contract of `go_on` uses it.
 abbrev pub spots_at : ℕ → ℕ × Input → List Spot
 spots_at place each = option_to_list (slice_get (spots_in each) place)
 
--- the selected tracks at index `place` of the inputs `others`, which are appended to one and have numbers from `number`. They continue its output
--- track.
+-- the selected tracks at index `place`, counted from 0, of the inputs `others`, which are appended to one and have numbers from `number`. They
+-- continue its output track. The contract of `lane_of` uses them.
 abbrev pub spots_behind : ℕ → ℕ → List Input → List Spot
 spots_behind place number others = at_place place (map spots_in (enumerate_from number others))
 
--- the timestamps of the frames of the selected track `t` of the input `i`, if a timestamp file lists them
+-- the timestamps of the frames of the selected track `t` of the input `i`, if a timestamp file lists them. The contract of `times_of` uses them.
 abbrev pub times_listed : Input → TakenTrack → Option Listing
 times_listed i t = value_for t.id (read_in i).times
 
 -- `link` reads the selected track `t` of the input `i`, whose file has the outline `read` and `nanoseconds` nanoseconds in a tick. At most
--- MAX_PREFIX_LEN bytes were removed from the start of each frame. If `b`, the links after it are read even if damage ends its reading.
+-- MAX_PREFIX_LEN bytes were removed from the start of each frame. If `b`, the links after it are read even if damage ends its reading. Used by the
+-- contract of `track_of`.
 pub record IsLinkOf (b : Bool) (i : Input) (read : FileOutline) (nanoseconds : ℕ) (t : TakenTrack) (link : TrackLink) : Type 0 where
   pub file : link.file ≡ i.file
   pub outline : link.outline.value ≡ read
@@ -83,38 +86,40 @@ pub record IsLinkOf (b : Bool) (i : Input) (read : FileOutline) (nanoseconds : �
   pub on : link.goes_on ≡ b
   pub short : length link.prefix ≤ MAX_PREFIX_LEN
 
--- `link` reads the selected track `t` of the input `i`, which is a text with the entries `read`.
+-- `link` reads the selected track `t` of the input `i`, which is a text with the entries `read`. Used by the contract of `text_of`.
 pub record IsTextOf (i : Input) (read : List Entry) (t : TakenTrack) (link : TextLink) : Type 0 where
   pub entries : link.entries ≡ read
   pub delay : link.delay ≡ t.delay
   pub shift : link.shift ≡ append_offset (read_in i)
 
--- The link reads the selected track `t` of the input `i`, a file with Clusters or a text. If `b`, the links after it are read even if damage ends its
--- reading.
+-- The link reads the selected track `t` of the input `i`, a file with Clusters or a text, as the third argument gives it. If `b`, the links after it
+-- are read even if damage ends its reading. Used by `IsLink`.
 abbrev pub IsLinkBy : Bool → Input → Blocks → TakenTrack → Link → Type 0
 IsLinkBy b i (held_by.Clusters outline scale) t (Track link) = IsLinkOf b i outline.value scale t link
 IsLinkBy b i (held_by.Clusters outline scale) t (Entries text) = ⊥
 IsLinkBy b i (held_by.Entries entries) t (Track link) = ⊥
 IsLinkBy b i (held_by.Entries entries) t (Entries text) = IsTextOf i entries t text
 
--- `link` reads the selected track `t` of the input `i`. If `b`, the links after it are read even if damage ends its reading.
+-- `link` reads the selected track `t` of the input `i`. If `b`, the links after it are read even if damage ends its reading. Used by the contract of
+-- `link_of`.
 abbrev pub IsLink : Bool → Input → TakenTrack → Link → Type 0
 IsLink b i t link = IsLinkBy b i i.blocks t link
 
--- `link` reads the selected track `s`. If `b`, the links after it are read even if damage ends its reading.
+-- `link` reads the selected track `s`. If `b`, the links after it are read even if damage ends its reading. Used by `IsLaneOf`.
 abbrev pub IsLinkAt : Bool → Spot → Link → Type 0
 IsLinkAt b s link = IsLink b s.input s.track link
 
--- `links` read the selected tracks of the input `i`, one each.
+-- `links` read the selected tracks of the input `i`, one each. Used by the contract of `links_of`.
 abbrev pub AreLinksOf : Input → List Link → Type 0
 AreLinksOf i links = AllZip (IsLink false i) i.taken links
 
--- the rule for cue points of an output track that consists of the given selected tracks: the rule of the first
+-- the rule for cue points of an output track that consists of the given selected tracks: the rule of the first. Used by `IsLaneOf`.
 abbrev pub rule_at : List Spot → CueRule
 rule_at [] = Never
 rule_at (s ∷ spots) = rule_of s.track
 
--- The output track `new` is `old`, continued with the selected tracks `spots`. If `b`, damage in them doesn't end it.
+-- The output track `new` is `old`, continued with the selected tracks `spots`. If `b`, damage in them doesn't end it. Used by the contract of
+-- `go_on`.
 pub record GoesOn (b : Bool) (spots : List Spot) (old new : PlannedLane) : Type 0 where
   pub more : List Link
   pub links : new.spec.links ≡ old.spec.links ++ more
@@ -123,35 +128,40 @@ pub record GoesOn (b : Bool) (spots : List Spot) (old new : PlannedLane) : Type 
   pub rule : new.cues ≡ old.cues
   pub drives : new.drives ≡ old.drives
 
--- The output track `l` consists of the selected tracks `spots`, in sequence. If `b`, damage in them doesn't end it.
+-- The output track `l` consists of the selected tracks `spots`, in sequence. If `b`, damage in them doesn't end it. Used by the contract of
+-- `lane_of`.
 pub record IsLaneOf (b : Bool) (spots : List Spot) (l : PlannedLane) : Type 0 where
   pub links : AllZip (IsLinkAt b) spots l.spec.links
   pub inputs : l.inputs ≡ map (λ (s : Spot). s.number) spots
   pub rule : l.cues ≡ rule_at spots
 
--- The planned output tracks `lanes` consist of the selected tracks of `inputs`. If `b`, damage doesn't end them.
+-- The planned output tracks `lanes` consist of the selected tracks of `inputs`. If `b`, damage doesn't end them. Used by the contract of `lanes_of`.
 abbrev pub AreLanesOf : Bool → List Input → List PlannedLane → Type 0
 AreLanesOf b inputs lanes = AllZip (IsLaneOf b) (spots_from 0 inputs) lanes
 
--- Each of the output tracks `lanes` states whether its keyframes allow a cut; `videos` has for each whether it is a video track.
+-- Each of the output tracks `lanes` states whether its keyframes allow a cut; `videos` has for each whether it is a video track. Used by the contract
+-- of `lanes_of`.
 abbrev pub AreDriven : List Bool → List PlannedLane → Type 0
 AreDriven videos lanes = drivers_of lanes ≡ map (is_driver videos) (range_with_len 0 (length lanes))
 
--- If the blocks of an input are a text's, its entries are within the limits of a text file.
+-- If the blocks of an input are a text's, its entries are within the limits of a text file. Used by `HasTaken`.
 abbrev pub IsShortText : Blocks → Type 0
 IsShortText (held_by.Clusters outline scale) = ⊤
 IsShortText (held_by.Entries entries) = AreWithin MAX_SRT_LEN entries
 
--- The selected tracks of the input `i` can be copied, and a text is within its limits.
+-- The selected tracks of the input `i` can be copied, and a text is within its limits. The plan of a merge requires it of each input. Used by
+-- `output_of`, `records_for` and others.
 pub record HasTaken (i : Input) : Type 0 where
   pub taken : All IsTaken i.taken
   pub text : IsShortText i.blocks
 
--- The append offset of the input `i` is within the limit of a link.
+-- The append offset of the input `i` is within the limit of a link. The plan of a merge requires it of each input. Used by `end_of`, `shift_behind`
+-- and others.
 abbrev pub HasPlace : Input → Type 0
 HasPlace i = append_offset (read_in i) ≤ MAX_SHIFT
 
--- The data of the attached files of the input `i` are in its file, and its Chapters and Tags were read.
+-- The data of the attached files of the input `i` are in its file, and its Chapters and Tags were read. The plan of a merge requires it of each
+-- input. Used by `output_of`, `records_for` and others.
 pub record HasRecords (i : Input) : Type 0 where
   pub attachments : All (IsAttachedIn i.file (total_in i.blocks)) i.attachments
   pub chapters : IfSome i.chapters (IsRead CHAPTERS)

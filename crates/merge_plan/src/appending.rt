@@ -20,7 +20,8 @@ pub struct AppendDiffers {
 }
 
 // Compares the selected tracks of an appended input, `taken`, with the tracks that began the output tracks, `lanes`.
-// Returns the ID of the first Element that differs. Both lists have the same length.
+// Returns the ID of the first Element that differs, or None. Both lists have the same length. `differing` calls it
+// after it has compared the lengths.
 fn first_differing(lanes: &[TakenTrack], taken: &[TakenTrack]) -> Option<u32>
     requires { length lanes.now ≡ length taken.now }
     ensures { result ≡ first_differing lanes.now taken.now }
@@ -34,7 +35,8 @@ fn first_differing(lanes: &[TakenTrack], taken: &[TakenTrack]) -> Option<u32>
 }
 
 // Compares the selected tracks of an appended input, `taken`, with the tracks that began the output tracks, `lanes`.
-// Returns the ID of the first Element that differs, or TrackEntry if the lengths differ.
+// Returns the ID of the first Element that differs, TrackEntry if the lengths differ, or None. Used by `append_refusal`
+// through `difference_at`.
 fn differing(lanes: &[TakenTrack], taken: &[TakenTrack]) -> Option<u32>
     ensures { result ≡ differing lanes.now taken.now }
 {
@@ -45,8 +47,8 @@ fn differing(lanes: &[TakenTrack], taken: &[TakenTrack]) -> Option<u32>
     }
 }
 
-// Returns the ID of the first Element that keeps `input` from being appended. `before` has the tracks that began the
-// output tracks; an input that isn't appended is never compared.
+// Returns the ID of the first Element that keeps `input` from being appended, or None. `before` has the tracks that
+// began the output tracks; an input that isn't appended is never compared. `append_refusal` calls it for each input.
 fn difference_at(before: &[TakenTrack], input: &Input) -> Option<u32>
     ensures { result ≡ difference_at before.now (read_in input.now) }
 {
@@ -57,8 +59,8 @@ fn difference_at(before: &[TakenTrack], input: &Input) -> Option<u32>
     }
 }
 
-// Returns the tracks that the next input is compared with, if it is appended: the ones that began the output tracks. An
-// appended `input` leaves `before` as it is.
+// Returns the tracks that the input after `input` is compared with, if it is appended: the ones that began the output
+// tracks. An appended `input` leaves `before` as it is. `append_refusal` calls it after each input.
 fn lane_tracks<'a>(before: &'a [TakenTrack], input: &'a Input) -> &'a [TakenTrack]
     ensures { result.now ≡ lane_tracks before.now (read_in input.now) }
 {
@@ -69,9 +71,9 @@ fn lane_tracks<'a>(before: &'a [TakenTrack], input: &'a Input) -> &'a [TakenTrac
     }
 }
 
-/// Returns the first appended input whose tracks can't continue the output tracks of the previous one. Their number
-/// differs, or a track differs from its output track in its type, its codec with its private data, its size or its
-/// sampling.
+/// Returns the first of `inputs` that is appended and whose tracks can't continue the output tracks of the previous
+/// one, or None. Their number differs, or a track differs from its output track in its type, its codec with its private
+/// data, its size or its sampling. `merge` refuses the command because of it, before it looks for append offsets.
 pub fn append_refusal(inputs: &[Input]) -> Option<AppendDiffers>
     ensures { result ≡ append_refusal (map read_in inputs.now) }
 {

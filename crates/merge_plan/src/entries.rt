@@ -15,7 +15,8 @@ use record_changes::renumber;
 use std::alloc::{AllocError, Global};
 use track_records::{TrackChange, written};
 
-/// Returns the tracks of an input that begin output tracks: none if it is appended to another input.
+/// Returns the tracks of `input` that begin output tracks: its selected tracks, or none if it is appended to another
+/// input. The plan of a merge calls it for each input.
 pub(crate) fn tracks_begun(input: &Input) -> &[TakenTrack]
     ensures { result.now ≡ tracks_begun (read_in input.now) }
 {
@@ -26,7 +27,8 @@ pub(crate) fn tracks_begun(input: &Input) -> &[TakenTrack]
     }
 }
 
-/// Returns the tracks that begin output tracks, input after input. The output tracks are numbered from 1 in this order.
+/// Returns the tracks of `inputs` that begin output tracks, input after input. The output tracks are numbered from 1 in
+/// this order. `plan_of` calls it before it builds the TrackEntries.
 pub(crate) fn tracks_taken(alloc: Global, inputs: &[Input]) -> Result<Vec<&TakenTrack>, AllocError>
     ensures { IfOk result (λ taken. lent taken.items ≡ tracks_taken (map read_in inputs.now)) }
 {
@@ -40,6 +42,7 @@ pub(crate) fn tracks_taken(alloc: Global, inputs: &[Input]) -> Result<Vec<&Taken
 }
 
 /// Returns the TrackUIDs of the output tracks that the tracks `taken` begin: their own, or another if one occurs again.
+/// `output_of` calls it for the TrackEntries, and for the Targets of Tags.
 pub(crate) fn uids_of(alloc: Global, taken: &[&TakenTrack]) -> Result<List<u64>, AllocError>
     ensures { IfOk result (λ uids. uids ≡ uids_of (lent taken.now)) }
 {
@@ -48,7 +51,7 @@ pub(crate) fn uids_of(alloc: Global, taken: &[&TakenTrack]) -> Result<List<u64>,
 }
 
 /// Builds the output's TrackEntry of the selected track `taken`, with the TrackNumber `number`, the TrackUID `uid` and
-/// the changes that the options ask for.
+/// the changes that the options ask for. `entries_of` calls it for each output track.
 fn entry_of(alloc: Global, number: u64, uid: u64, taken: &TakenTrack) -> Result<Tree, AllocError>
     requires { IsTaken taken.now }
     ensures exact { IfOk result (λ entry. entry ≡ entry_of number uid taken.now) }
@@ -67,7 +70,8 @@ fn entry_of(alloc: Global, number: u64, uid: u64, taken: &TakenTrack) -> Result<
     written(alloc, &taken.track, &change)
 }
 
-/// Builds the output's TrackEntries of the selected tracks `taken`, with the TrackUIDs `uids` and TrackNumbers from 1.
+/// Builds the output's TrackEntries of the selected tracks `taken`, with the TrackUIDs `uids` and TrackNumbers from 1,
+/// for the Tracks that `output_of` builds.
 pub(crate) fn entries_of(
     alloc: Global,
     taken: &[&TakenTrack],

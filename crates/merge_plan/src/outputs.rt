@@ -27,7 +27,7 @@ pub(crate) struct OutputRecords {
 }
 
 /// Builds the Tracks, attached files, Chapters and Tags of the output. The tracks `taken` of `inputs` begin the output
-/// tracks.
+/// tracks. `plan_of` calls it, through `records_for`, if the tracks aren't refused.
 pub(crate) fn output_of(
     alloc: Global,
     taken: &[&TakenTrack],

@@ -21,7 +21,7 @@ use mkv_io::{List, ReadEnd, Reads};
 use std::alloc::Global;
 
 /// Returns the end of `input` in the output, in nanoseconds, including its append offset. Its file is walked over,
-/// unless it is a text. It is the append offset of the next input, if that is appended.
+/// unless it is a text. `shift_behind` calls it for an input that another one is appended to.
 fn end_of<R: Reads>(alloc: Global, input: &Input, src: &mut R) -> Result<u64, ReadEnd>
     requires input { IsInput (live_files R.Reads src.old) input.now }
     requires place { HasPlace input.now }
@@ -37,7 +37,8 @@ fn end_of<R: Reads>(alloc: Global, input: &Input, src: &mut R) -> Result<u64, Re
 }
 
 /// Returns the append offset, in nanoseconds, of an input after the inputs `before`: the end of the last of them, or 0
-/// if there is none. An input that isn't appended has no `shift`, and gets no offset.
+/// if there is none. An input that isn't appended has no `shift`, and the result is None. `assign_append_offsets` calls
+/// it for each input.
 fn shift_behind<R: Reads>(
     alloc: Global,
     before: &[Input],
@@ -61,8 +62,9 @@ fn shift_behind<R: Reads>(
     }
 }
 
-/// Returns `inputs` with the append offset of each appended one: the end of the previous input, in nanoseconds. Files
-/// are read for this only before an appended input, and not if they are texts.
+/// Returns `inputs` with the append offset of each appended one: the end of the previous input, in nanoseconds. `merge`
+/// calls it after all inputs were read, and before `plan_of`. Files are read for this only before an appended input,
+/// and not if they are texts.
 pub fn assign_append_offsets<R: Reads>(
     alloc: Global,
     inputs: List<Input>,

@@ -24,7 +24,8 @@ use requests::MergeWords;
 use splitter::split_size;
 use std::alloc::{AllocError, Global};
 
-/// Returns the CodecID of the first of the tracks `taken` that WebM doesn't allow. The message of the refusal names it.
+/// Returns the CodecID of the first of the tracks `taken` that WebM doesn't allow, or None. `lanes_refusal` puts it in
+/// the refusal of a merge to WebM.
 fn other_codec<'a>(taken: &[&'a TakenTrack]) -> Option<&'a Text>
     ensures { option_copied result ≡ other_codec (lent taken.now) }
 {
@@ -36,8 +37,9 @@ fn other_codec<'a>(taken: &[&'a TakenTrack]) -> Option<&'a Text>
     None
 }
 
-/// Returns the refusal if the tracks `taken` can't begin the output tracks: there are none, or too many, or a codec
-/// that WebM doesn't allow. `webm` is true if the output is WebM.
+/// Returns the refusal if the tracks `taken` can't begin the output tracks, or None: there are none, or more than 64,
+/// or a codec that WebM doesn't allow. `webm` is true if the output is WebM. `records_for` calls it before it builds
+/// the records.
 fn lanes_refusal(webm: bool, taken: &[&TakenTrack]) -> Result<Option<PlanRefusal>, AllocError>
     ensures { IfOk result (λ refusal. refusal ≡ lanes_refusal webm (lent taken.now)) }
 {
@@ -57,8 +59,8 @@ fn lanes_refusal(webm: bool, taken: &[&TakenTrack]) -> Result<Option<PlanRefusal
     Ok(None)
 }
 
-/// Builds the records of the output, or returns the first refusal. The causes are the selected tracks, and a record
-/// that would be too large to be read again.
+/// Builds the records of the output for the options `words` and the read `inputs`, or returns the first refusal. The
+/// causes are the selected tracks, and a record that would be too large to be read again. `plan_of` calls it first.
 fn records_for(
     alloc: Global,
     words: &MergeWords,
@@ -80,7 +82,7 @@ fn records_for(
     }
 }
 
-/// Returns a copy of the segment identifiers in `words`, for the plan.
+/// Returns a copy of the SegmentUUIDs in `words`, the values of `--segment-uid`, for the plan that `plan_of` builds.
 fn uuids_of(alloc: Global, words: &MergeWords) -> Result<List<u128>, AllocError>
     ensures { IfOk result (λ uuids. uuids ≡ words.now.uuids) }
 {
@@ -88,9 +90,10 @@ fn uuids_of(alloc: Global, words: &MergeWords) -> Result<List<u128>, AllocError>
     Ok(List::from_vec(uuids))
 }
 
-/// Plans the output for the options `words` and the read `inputs`, or returns the first refusal. A merge is refused if
-/// no track or more than 64 tracks are selected, or if WebM doesn't allow a codec. It is also refused if Tracks,
-/// Chapters or Tags would be too large to be read again. Reads no file.
+/// Plans the output for the options `words` and the read `inputs`, or returns the first refusal. `merge` calls it after
+/// the append offsets were found and before it creates a file. A merge is refused if no track or more than 64 tracks
+/// are selected, or if WebM doesn't allow a codec. It is also refused if Tracks, Chapters or Tags would be too large to
+/// be read again. Reads no file.
 pub fn plan_of(alloc: Global, words: &MergeWords, inputs: &[Input]) -> Result<MergePlan, PlanEnd>
     requires tracks { All HasTaken inputs.now }
     requires records { All HasRecords inputs.now }

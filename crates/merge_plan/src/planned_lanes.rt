@@ -25,7 +25,7 @@ use std::rc::Rc;
 use track_records::usable;
 
 /// Returns the default rule for cue points of a track of the TrackType `kind`: keyframes of video and subtitle tracks
-/// get one, other blocks don't.
+/// get one, other blocks don't. `rule_of` uses it if the track has no option.
 fn default_rule(kind: u64) -> CueRule
     ensures { result ≡ default_rule kind }
 {
@@ -36,7 +36,7 @@ fn default_rule(kind: u64) -> CueRule
 }
 
 /// Returns the rule for cue points of the output track that `taken` begins: the one of the option `--cues`, or else the
-/// default.
+/// default. `lane_of` calls it for the plan.
 fn rule_of(taken: &TakenTrack) -> CueRule
     ensures { result ≡ rule_of taken.now }
 {
@@ -49,7 +49,7 @@ fn rule_of(taken: &TakenTrack) -> CueRule
 }
 
 /// Returns the bytes that header stripping removed from the start of each frame of the track `taken`. They are put back
-/// in the output. RFC 9559, section 5.1.4 (Tracks), ContentEncodings.
+/// in the output. `track_of` calls it for each link. RFC 9559, section 5.1.4 (Tracks), ContentEncodings.
 fn prefix_of(alloc: Global, taken: &TakenTrack) -> Result<Bytes, AllocError>
     requires { IsTaken taken.now }
     ensures exact { IfOk result (λ prefix. prefix ≡ prefix_of taken.now.track.entry) }
@@ -63,15 +63,16 @@ fn prefix_of(alloc: Global, taken: &TakenTrack) -> Result<Bytes, AllocError>
     Ok(prefix)
 }
 
-/// Returns the append offset of an input, in nanoseconds, or 0 if it isn't appended.
+/// Returns the append offset of `input`, in nanoseconds, or 0 if it isn't appended. Links to its tracks shift their
+/// blocks by it. `track_of` and `text_of` call it.
 fn append_offset(input: &Input) -> u64
     ensures { result ≡ append_offset (read_in input.now) }
 {
     input.shift.unwrap_or(0)
 }
 
-/// Returns the timestamps of the frames of the track `taken` of `input`, if a timestamp file lists them. They are
-/// shared.
+/// Returns the timestamps of the frames of the track `taken` of `input`, if a timestamp file lists them, and otherwise
+/// None. They are shared. `track_of` calls it for the link to the track.
 fn times_of(input: &Input, taken: &TakenTrack) -> Result<Option<Rc<Times>>, AllocError>
     ensures { IfOk result (λ times. option_map (λ shared. shared.value) times ≡ times_listed input.now taken.now) }
 {
@@ -84,7 +85,8 @@ fn times_of(input: &Input, taken: &TakenTrack) -> Result<Option<Rc<Times>>, Allo
 }
 
 /// Builds the link of an output track to the track `taken` of `input`, whose file has the outline `outline` and `scale`
-/// nanoseconds in a tick. With `past_damage` the links after it are read even if damage ends its reading.
+/// nanoseconds in a tick. With `past_damage` the links after it are read even if damage ends its reading. `link_of`
+/// calls it for a file with Clusters.
 fn track_of(
     alloc: Global,
     input: &Input,
@@ -110,7 +112,7 @@ fn track_of(
     })
 }
 
-/// Returns a copy of the subtitles `entries` of a text, since each link has its own.
+/// Returns a copy of the subtitles `entries` of a text, since each link has its own. `text_of` calls it.
 fn copies(alloc: Global, entries: &[Entry]) -> Result<List<Entry>, AllocError>
     ensures { IfOk result (λ copies. copies ≡ entries.now) }
 {
@@ -125,8 +127,8 @@ fn copies(alloc: Global, entries: &[Entry]) -> Result<List<Entry>, AllocError>
     Ok(copies)
 }
 
-/// Builds the link of an output track to `taken`, the only track of an input that is a text with the subtitles
-/// `entries`.
+/// Builds the link of an output track to `taken`, the only track of `input`, a text with the subtitles `entries`.
+/// `link_of` calls it for a SubRip file.
 fn text_of(
     alloc: Global,
     input: &Input,
@@ -143,7 +145,8 @@ fn text_of(
 }
 
 /// Builds the link of an output track to the track `taken` of `input`, which is a file with Clusters or a text. With
-/// `past_damage` the links after it are read even if damage ends its reading.
+/// `past_damage` the links after it are read even if damage ends its reading. `lane_of` calls it for the first link,
+/// and `go_on` for the next ones.
 fn link_of(
     alloc: Global,
     input: &Input,
@@ -165,7 +168,8 @@ fn link_of(
     }
 }
 
-/// Builds links to the selected tracks of `input`, for a survey that finds the end of the input.
+/// Builds links to the selected tracks of `input`, for the survey with which `assign_append_offsets` finds the end of
+/// the input.
 pub fn links_of(alloc: Global, input: &Input) -> Result<List<Link>, AllocError>
     requires { HasTaken input.now }
     ensures { IfOk result (AreLinksOf input.now) }
@@ -178,7 +182,7 @@ pub fn links_of(alloc: Global, input: &Input) -> Result<List<Link>, AllocError>
 }
 
 /// Returns the first of `inputs`, as long as each is appended to the input before it. They continue the output tracks
-/// of the input before `inputs`.
+/// of the input before `inputs`. `lanes_of` calls it for each input.
 fn appended(inputs: &[Input]) -> &[Input]
     ensures { result.now ≡ take_while goes_on inputs.now }
 {
@@ -190,9 +194,9 @@ fn appended(inputs: &[Input]) -> &[Input]
     inputs
 }
 
-/// Appends to the output track `lane` the link to the track at index `place` among the selected tracks of `input`, if
-/// there is one. The input's `number` counts from 0. With `past_damage` the links after it are read even if damage ends
-/// its reading.
+/// Appends to the output track `lane` the link to the track at index `place`, counted from 0, among the selected tracks
+/// of `input`, if there is one. The input's `number` counts from 0. With `past_damage` the links after it are read even
+/// if damage ends its reading. `lane_of` calls it for each appended input.
 fn go_on(
     alloc: Global,
     place: usize,
@@ -212,9 +216,10 @@ fn go_on(
     Ok(())
 }
 
-/// Builds the output track that the track `taken` begins. It is at index `place` among the selected tracks of the input
-/// number `number`, counted from 0. The track at this index of each input in `behind`, the ones appended to it,
-/// continues it. With `past_damage` it does so even after damage. `drives` is true if its keyframes allow a cut.
+/// Builds the output track that the track `taken` begins. It is at index `place`, counted from 0, among the selected
+/// tracks of the input number `number`, counted from 0. The track at this index of each input in `behind`, the ones
+/// appended to it, continues it. With `past_damage` it does so even after damage. `drives` is true if its keyframes
+/// allow a cut. `lanes_of` calls it for each output track.
 fn lane_of(
     alloc: Global,
     number: usize,
@@ -247,8 +252,9 @@ fn lane_of(
     Ok(lane)
 }
 
-/// Builds the output tracks of a merge of `inputs`. For each selected track of an input that isn't appended, `videos`
-/// is true if it is a video track. With `past_damage` damage doesn't end an output track.
+/// Builds the output tracks of a merge of `inputs`, for the plan that `plan_of` makes. For each selected track of an
+/// input that isn't appended, `videos` is true if it is a video track. With `past_damage` damage doesn't end an output
+/// track.
 pub(crate) fn lanes_of(
     alloc: Global,
     inputs: &[Input],

@@ -14,7 +14,8 @@ use output_model::Attachment;
 use output_records::InputRecords;
 use std::alloc::{AllocError, Global};
 
-// Returns a copy of the attached files `files`, without their data, which stay in the inputs.
+// Returns a copy of the attached files `files` of an input, without their data, which stay in the inputs. `records_in`
+// calls it.
 fn copies(alloc: Global, files: &[Attachment]) -> Result<List<Attachment>, AllocError>
     ensures { IfOk result (λ copies. copies ≡ files.now) }
 {
@@ -31,7 +32,7 @@ fn copies(alloc: Global, files: &[Attachment]) -> Result<List<Attachment>, Alloc
     Ok(copies)
 }
 
-// Returns a copy of Chapters or Tags, if present.
+// Returns a copy of `tree`, the Chapters or Tags of an input, or None if it is absent. `records_in` calls it.
 fn copy_of(alloc: Global, tree: &Option<Tree>) -> Result<Option<Tree>, AllocError>
     ensures { IfOk result (λ copy. copy ≡ tree.now) }
 {
@@ -42,7 +43,7 @@ fn copy_of(alloc: Global, tree: &Option<Tree>) -> Result<Option<Tree>, AllocErro
 }
 
 /// Returns the records of `input` that are merged into the output's: attached files, Chapters and Tags. Its output
-/// tracks have the TrackUIDs `numbers`.
+/// tracks have the TrackUIDs `numbers`. `records_of` calls it for each input.
 fn records_in(alloc: Global, numbers: &[u64], input: &Input) -> Result<InputRecords, AllocError>
     requires { HasRecords input.now }
     ensures exact { IfOk result (λ records. records ≡ records_in numbers.now (kept_in input.now)) }
@@ -65,22 +66,25 @@ fn records_in(alloc: Global, numbers: &[u64], input: &Input) -> Result<InputReco
     })
 }
 
-// Returns the first `count` of the TrackUIDs `numbers`, or all if there are fewer.
+// Returns the first `count` of the TrackUIDs `numbers`, or all if there are fewer. `uids_at` calls it for the output
+// tracks of an input.
 fn first(numbers: &[u64], count: usize) -> &[u64]
     ensures { result.now ≡ take count numbers.now }
 {
     &numbers[..count.min(numbers.len())]
 }
 
-// Returns the TrackUIDs in `numbers` after the first `count`.
+// Returns the TrackUIDs in `numbers` after the first `count`. `uids_behind` calls it to skip the output tracks of an
+// input.
 fn behind(numbers: &[u64], count: usize) -> &[u64]
     ensures { result.now ≡ drop count numbers.now }
 {
     &numbers[count.min(numbers.len())..]
 }
 
-// Returns the TrackUIDs of the output tracks of `input`, in order to redirect its Chapters and Tags to them. For an
-// appended input they are the previous input's, `before`, and for another the first ones in `left`.
+// Returns the TrackUIDs of the output tracks of `input`, in order to redirect the Targets of its Tags to them. For an
+// appended input they are the previous input's, `before`, and for another the first ones in `left`. `records_of` calls
+// it.
 fn uids_at<'a>(before: &'a [u64], left: &'a [u64], input: &Input) -> &'a [u64]
     ensures { result.now ≡ uids_at before.now left.now (read_in input.now) }
 {
@@ -91,7 +95,8 @@ fn uids_at<'a>(before: &'a [u64], left: &'a [u64], input: &Input) -> &'a [u64]
     }
 }
 
-// Returns the TrackUIDs in `left` that are for the inputs after `input`.
+// Returns the TrackUIDs in `left` that are for the inputs after `input`. `records_of` calls it, to go on to the next
+// input.
 fn uids_behind<'a>(left: &'a [u64], input: &Input) -> &'a [u64]
     ensures { result.now ≡ uids_behind left.now (read_in input.now) }
 {
@@ -102,8 +107,8 @@ fn uids_behind<'a>(left: &'a [u64], input: &Input) -> &'a [u64]
     }
 }
 
-/// Returns the records of all inputs that are merged into the output's, besides tracks and blocks. The output tracks
-/// have the TrackUIDs `numbers`, in their order.
+/// Returns the records of all `inputs` that are merged into the output's, besides tracks and blocks, in the order of
+/// `inputs`. The output tracks have the TrackUIDs `numbers`, in their order. `output_of` calls it before it joins them.
 pub(crate) fn records_of(
     alloc: Global,
     numbers: &[u64],

@@ -17,7 +17,8 @@ use requests::MergeWords;
 use splitter::{SplitSpec, split_spec};
 use std::alloc::{AllocError, Global};
 
-/// Returns the starts of the output's top-level chapters, in nanoseconds, for cuts at chapters.
+/// Returns the starts of the top-level chapters in `chapters`, the output's Chapters, in nanoseconds. `split_of` calls
+/// it for cuts at chapters; without Chapters there are none.
 fn starts_in(alloc: Global, chapters: &Option<Tree>) -> Result<List<u64>, AllocError>
     requires { IfSome chapters.now (IsRead CHAPTERS) }
     ensures { IfOk result (λ starts. starts ≡ starts_in chapters.now) }
@@ -29,7 +30,7 @@ fn starts_in(alloc: Global, chapters: &Option<Tree>) -> Result<List<u64>, AllocE
 }
 
 /// Returns the rule for cutting the output of `words` into parts, if it has the Chapters `chapters`. Times are in
-/// nanoseconds.
+/// nanoseconds. `plan_of` calls it.
 pub(crate) fn split_of(
     alloc: Global,
     words: &MergeWords,
@@ -42,14 +43,16 @@ pub(crate) fn split_of(
     split_spec(alloc, &words.split, starts.as_slice())
 }
 
-/// Checks whether a selected track is a video track. Keyframes of video tracks decide about the places of cuts.
+/// Checks whether the selected track `taken` is a video track. `videos_of` calls it, because keyframes of video tracks
+/// decide about the places of cuts.
 fn is_video(taken: &TakenTrack) -> bool
     ensures { result ≡ is_video taken.now }
 {
     taken.track.kind == VIDEO_TRACK
 }
 
-/// Returns for each of the tracks `taken` whether it is a video track.
+/// Returns for each of the tracks `taken` whether it is a video track. `plan_of` calls it before it builds the output
+/// tracks.
 pub(crate) fn videos_of(alloc: Global, taken: &[&TakenTrack]) -> Result<List<bool>, AllocError>
     ensures { IfOk result (λ videos. videos ≡ map is_video (lent taken.now)) }
 {

@@ -20,23 +20,25 @@ use Rattle.merge_words.specs.Options.{same}
 use Rattle.word_values.specs.Place.{due, is_option}
 use Rattle.word_values.specs.Values.{flag_of, value_of}
 
--- The item `i` is the name of an input.
+-- The item `i` is the name of an input. Options before it are for it. Used to divide the command line of `merge` into inputs.
 abbrev pub is_file : Item → Bool
 is_file i = same i.subject subject.File
 
--- the number of inputs that the items `items` name
+-- the number of inputs that the items `items` name. For the limit of inputs, and for the refusals of `+` and of no input.
 abbrev pub files_in : List Item → ℕ
 files_in items = count_by is_file items
 
--- the items after the last input, which are options for the next one, or all items if there is no input
+-- the items after the last input, which are options for the next one, or all items if there is no input. For refusals of repetitions and of options
+-- without an input. Used by `repeats_in`, `repeats_for` and others.
 unfoldable pub since_file : List Item → List Item
 since_file items = after_last is_file items
 
--- One of the items `items` has the subject `subject`.
+-- One of the items `items` has the subject `subject`. Used for options without a value, for `+`, and for options that must be given.
 abbrev pub stands : Subject → List Item → Bool
 stands subject items = list_any (λ i. same i.subject subject) items
 
--- the index, counted from 0, of the track that an option value is for, if it is for one track
+-- the index, counted from 0, of the track that an option value is for, if it is for one track. For repetitions and for the tracks that options name.
+-- Used by `ids_of`, `stands_for` and others.
 abbrev pub track_in : Value → Option ℕ
 track_in (TrackDelay id delay) = Some id
 track_in (TrackText id text) = Some id
@@ -47,47 +49,54 @@ track_in (TrackCues id cues) = Some id
 track_in (TrackFile id name) = Some id
 track_in _ = None
 
--- The optional track number is the number `id`.
+-- The optional track number is the number `id`. For `stands_for`, when the command line of `merge` is read.
 abbrev pub is_track : ℕ → Option ℕ → Bool
 is_track id None = false
 is_track id (Some k) = k == id
 
--- One of the items `items` has the subject `subject` and is for the track with the index `id`, counted from 0.
+-- One of the items `items` has the subject `subject` and is for the track with the index `id`, counted from 0. For `repeats_for`, when the command
+-- line of `merge` is read.
 abbrev pub stands_for : Subject → ℕ → List Item → Bool
 stands_for subject id items = list_any (λ i. same i.subject subject && is_track id (track_in i.value)) items
 
--- An option with this subject is among the items `before`, and its scope allows it only once.
+-- An option with this subject is among the items `before`, and its scope allows it only once. For `repeats`, when the command line of `merge` is
+-- read.
 abbrev pub repeats_in : Scope → Subject → List Item → Bool
 repeats_in scope.Output subject before = stands subject before
 repeats_in scope.File subject before = stands subject (since_file before)
 repeats_in scope.Track subject before = false
 
--- An option that means `means` is among the items `before`, and is allowed only once.
+-- An option that means `means` is among the items `before`, and is allowed only once. For `option_at`, when the command line of `merge` is read.
 abbrev pub repeats : Meaning → List Item → Bool
 repeats means before = repeats_in means.scope means.subject before
 
--- An option with this subject for the same track, if it is for one, is among the items `before` since the last input.
+-- An option with this subject for the same track, if it is for one, is among the items `before` since the last input. For `option_at`, when the
+-- command line of `merge` is read.
 abbrev pub repeats_for : Subject → Option ℕ → List Item → Bool
 repeats_for subject None before = false
 repeats_for subject (Some id) before = stands_for subject id (since_file before)
 
--- the value that was read from the argument with number `at`, or its refusal if the argument doesn't have the form
+-- the value that was read from the argument with number `at`, or its refusal if the argument doesn't have the form. For `value_at`, when the command
+-- line of `merge` is read.
 abbrev pub read_value : {X : Type 0} → ℕ → Option X → Result X Usage
 read_value at None = wrong at BadValue
 read_value at (Some value) = Ok value
 
--- the value of the form `form` in the argument `next`, which has the number `at` of `count` arguments and must be present
+-- the value of the form `form` in the argument `next`, which has the number `at` of `count` arguments and must be present, or its refusal. For
+-- `said`, when the command line of `merge` is read.
 abbrev pub value_at : ℕ → ValueForm → Option (List ℕ) → ℕ → Result Value Usage
 value_at at form next count = do
   word ← due count next
   read_value at (value_of form word)
 
--- the value of an option at argument number `at`: the one that its form implies, or the one in the next argument, `next`
+-- the value of an option at argument number `at`: the one that its form implies, or the one in the next argument, `next`. For `option_at`, when the
+-- command line of `merge` is read.
 abbrev pub said : ℕ → ValueForm → Option (List ℕ) → ℕ → Result Value Usage
 said at form next count = unwrap_or (option_map (λ (v : Value). Ok v) (flag_of form)) (value_at (at + 1) form next count)
 
--- the item of an option that means `means`, at argument number `at`. A repetition is refused before its value is read, except of an option for a
--- track.
+-- the item of an option that means `means`, at argument number `at`, after the items `before`, or its refusal. `next` is the argument after it, and
+-- `count` the number of arguments. A repetition is refused before its value is read, except of an option for a track. For `item_at`, when the command
+-- line of `merge` is read.
 unfoldable pub option_at : List Item → ℕ → Meaning → Option (List ℕ) → ℕ → Result Item Usage
 option_at before at means next count =
     if same means.subject subject.Identify then wrong at ExtraWord
@@ -97,39 +106,44 @@ option_at before at means next count =
       if repeats_for means.subject (track_in value) before then wrong at RepeatedOption
           else Ok (record { at = at; subject = means.subject; scope = means.scope; value = value })
 
--- the item `+` at argument number `at`, which needs an input among the items `before`, and is allowed once before the next input
+-- the item `+` at argument number `at`, or its refusal. It needs an input among the items `before`, and is allowed once before the next input. For
+-- `item_at`, when the command line of `merge` is read.
 unfoldable pub append_at : List Item → ℕ → Result Item Usage
 append_at before at =
     if files_in before == 0 then wrong at AppendFirst
     else if stands subject.Append (since_file before) then wrong at ExtraWord
     else Ok (record { at = at; subject = subject.Append; scope = scope.File; value = Flag })
 
--- the item of an input's name `word` at argument number `at`; a merge has at most 64 inputs
+-- the item of an input's name `word` at argument number `at`; a merge has at most 64 inputs. `before` are the items before it. For `item_at`.
 unfoldable pub file_at : List Item → ℕ → List ℕ → Result Item Usage
 file_at before at word =
     if nat_le MAX_FILES (files_in before) then wrong at TooManyInputs
     else Ok (record { at = at; subject = subject.File; scope = scope.Output; value = File word })
 
--- the item of an argument that looks like an option, at argument number `at`, given its meaning; without one it is refused
+-- the item of an argument that looks like an option, at argument number `at`, given its meaning; without one it is refused. It has the arguments of
+-- `option_at`. For `item_at`, when the command line of `merge` is read.
 abbrev pub known : List Item → ℕ → Option Meaning → Option (List ℕ) → ℕ → Result Item Usage
 known before at None next count = wrong at UnknownOption
 known before at (Some means) next count = option_at before at means next count
 
--- The beginning of an item: the number of its argument, the argument, its meaning as an option, and the argument after it.
+-- The beginning of an item: the number of its argument, the argument, its meaning as an option, and the argument after it. `items` reads each item
+-- from one.
 pub record Start : Type 0 where
   pub at : ℕ
   pub word : List ℕ
   pub means : Option Meaning
   pub next : Option (List ℕ)
 
--- the item that begins with `s`, after the items `before`, on a command line of `count` arguments
+-- the item that begins with `s`, after the items `before`, on a command line of `count` arguments. For `items`, when the command line of `merge` is
+-- read.
 unfoldable pub item_at : List Item → Start → ℕ → Result Item Usage
 item_at before s count =
     if bytes_eq s.word (codes "+") then append_at before s.at
     else if is_option s.word then known before s.at s.means s.next count
     else file_at before s.at s.word
 
--- the item that begins with the argument `word`, which has the number `at` among `words` and means `means` as an option, after the items `before`
+-- the item that begins with the argument `word`, which has the number `at` among `words` and means `means` as an option, after the items `before`.
+-- The contract of `item_at` states it; `count` is the number of arguments.
 abbrev pub item_in : List Item → List (List ℕ) → ℕ → List ℕ → Option Meaning → ℕ → Result Item Usage
 item_in before words at word means count =
     item_at before (record { at = at; word = word; means = means; next = slice_get words (at + 1) }) count

@@ -18,16 +18,18 @@ use Rattle.word_values.specs.Values.{flag_of}
 use Rattle.merge_words.specs.Items.{Start, item_at, since_file, stands, files_in}
 use Rattle.merge_words.specs.Output.{merge_words}
 
--- An option with this meaning has the next argument as its value.
+-- An option with this meaning has the next argument as its value. For `starts`, when the command line of `merge` is read.
 abbrev pub takes_next : Option Meaning → Bool
 takes_next None = false
 takes_next (Some means) = is_none (flag_of means.form)
 
--- the beginning of an item with the argument `word`, which has the number `at` and is followed by `next`
+-- the beginning of an item with the argument `word`, which has the number `at` and is followed by `next`. For `starts`, when the command line of
+-- `merge` is read.
 abbrev pub start : ℕ → List ℕ → Option (List ℕ) → Start
 start at word next = record { at = at; word = word; means = meaning_of word; next = next }
 
--- the beginnings of the items in a list of arguments whose first has the number `at`; the value of an option begins no item
+-- the beginnings of the items in a list of arguments whose first has the number `at`; the value of an option begins no item. For `items`, when the
+-- command line of `merge` is read.
 abbrev pub starts : ℕ → List (List ℕ) → List Start
 starts at [] = []
 starts at (w ∷ []) = start at w None ∷ []
@@ -35,40 +37,42 @@ starts at (w ∷ v ∷ ws) =
     let s : Start = start at w (Some v) in
     s ∷ (if takes_next s.means then starts (at + 2) ws else starts (at + 1) (v ∷ ws))
 
--- the items with these beginnings, each read after all earlier ones, or the first refusal; `before` are the items up to now
+-- the items with the beginnings in the list, each read after all earlier ones, or the first refusal. `before` are the items up to now, and `count` is
+-- the number of arguments. For `items`, when the command line of `merge` is read.
 abbrev pub read_all : ℕ → List Item → List Start → Result (List Item) Usage
 read_all count before [] = Ok before
 read_all count before (s ∷ ss) = do
   item ← item_at before s count
   read_all count (before ++ item ∷ []) ss
 
--- the items of the command line `words`, from argument 1 onwards, or the first refusal; `merge` is argument 0
+-- the items of the command line `words`, from argument 1 onwards, or the first refusal; `merge` is argument 0. For `merged`.
 unfoldable pub items : List (List ℕ) → Result (List Item) Usage
 items words = read_all (length words) [] (starts 1 (drop 1 words))
 
--- the refusal of the argument with number `word` for the reason `why`, if the test holds
+-- the refusal of the argument with number `word` for the reason `why`, if the test holds. For `complete`, when the command line of `merge` is read.
 abbrev pub wrong_if : Bool → ℕ → Why → Result (Unit {0}) Usage
 wrong_if true word why = wrong word why
 wrong_if false word why = Ok tt
 
--- the refusal of the argument with the given number, if there is one, for the reason `why`
+-- the refusal of the argument with the given number, if there is one, for the reason `why`. For `complete`, when the command line of `merge` is read.
 abbrev pub wrong_at : Option ℕ → Why → Result (Unit {0}) Usage
 wrong_at None why = Ok tt
 wrong_at (Some word) why = wrong word why
 
--- the argument number of the first option for an input among the items after the last input, if there is one
+-- the argument number of the first option for an input among `items`, the items after the last input, if there is one. For `complete`, when the
+-- command line of `merge` is read.
 abbrev pub dangling : List Item → Option ℕ
 dangling items = option_map (λ (i : Item). i.at) (find (λ i. not (sameb the_type i.scope scope.Output)) items)
 
--- the argument number of the option `--link`, if it is given
+-- the argument number of the option `--link`, if it is given among `items`. For `unlinked`.
 abbrev pub linking : List Item → Option ℕ
 linking items = option_map (λ (i : Item). i.at) (find (λ i. same i.subject subject.Link) items)
 
--- the argument number of the option `--link`, if it is given without `--segment-uid`
+-- the argument number of the option `--link`, if it is given without `--segment-uid`. For `complete`.
 abbrev pub unlinked : List Item → Option ℕ
 unlinked items = if stands subject.Uuids items then None else linking items
 
--- the refusal of items that aren't a complete merge, in this order. The command line has `count` arguments.
+-- the refusal of items that aren't a complete merge, in this order. The command line has `count` arguments. For `merged`.
 unfoldable pub complete : ℕ → List Item → Result (Unit {0}) Usage
 complete count items = do
   _ ← wrong_if (stands subject.Append (since_file items)) count MissingValue
@@ -77,7 +81,8 @@ complete count items = do
   _ ← wrong_if (files_in items == 0) count NoInput
   wrong_at (unlinked items) NeedsUuids
 
--- the request of the merge that the command line `words` asks for, or the first wrong argument and the reason
+-- the request of the merge that the command line `words` asks for, or the first wrong argument and the reason. The contract of `read_merge` states
+-- it.
 unfoldable pub merged : List (List ℕ) → Result MergeWords Usage
 merged words = do
   said ← items words

@@ -14,7 +14,8 @@ use Rattle.word_values.specs.declared.values.ValueForm.TheVariants as f
 use Rattle.merge_words.specs.declared.options.Meaning.{Meaning}
 use Rattle.merge_words.specs.declared.options.OptionRow.{OptionRow}
 
--- row of the options' table: the short and the long spelling, the subject, the scope, and the form of the value
+-- row of the options' table: the short and the long spelling, the subject, the scope, and the form of the value. The definitions read an option by
+-- it. Used by `option`, `table` and others.
 pub record Row : Type 0 where
   pub short : List ℕ
   pub long : List ℕ
@@ -22,11 +23,11 @@ pub record Row : Type 0 where
   pub scope : Scope
   pub form : ValueForm
 
--- the row of the options' table with these fields
+-- the row of the options' table with these fields. For `table`, when the command line of `merge` is read.
 abbrev pub option : List ℕ → List ℕ → Subject → Scope → ValueForm → Row
 option short long subject scope form = record { short = short; long = long; subject = subject; scope = scope; form = form }
 
--- all options of `merge`: the ones for the whole output, then the ones for the next input
+-- all options of `merge`: the ones for the whole output, then the ones for the next input. For `meaning_of`.
 unfoldable pub table : List Row
 table =
     option (codes "-o") (codes "--output") s.Output Output f.Name ∷
@@ -67,26 +68,28 @@ table =
     option (codes "") (codes "--cues") s.Cues Track f.TrackCues ∷
     option (codes "") (codes "--timestamps") s.Times Track f.TrackFile ∷ []
 
--- the row `r` of the code's table, as a value
+-- the row `r` of the code's table, as a value. For the contract of `merge_options`.
 abbrev pub shown : OptionRow → Row
 shown r = record { short = r.0.now; long = r.1.now; subject = r.2; scope = r.3; form = r.4 }
 
--- The argument `word` is one of the two spellings of the option in the row `r`.
+-- The argument `word` is one of the two spellings of the option in the row `r`. For `meaning_among`, when the command line of `merge` is read.
 abbrev pub spelled : List ℕ → Row → Bool
 spelled word r = bytes_eq r.short word || bytes_eq r.long word
 
--- the meaning of the option in the row `r`, without its spellings
+-- the meaning of the option in the row `r`, without its spellings. For `meaning_among`, when the command line of `merge` is read.
 abbrev pub meaning : Row → Meaning
 meaning r = record { subject = r.subject; scope = r.scope; form = r.form }
 
--- the meaning of the first option in `rows` that has `word` as a spelling, if there is one
+-- the meaning of the first option in `rows` that has `word` as a spelling, if there is one. For `meaning_of`, when the command line of `merge` is
+-- read.
 abbrev pub meaning_among : List Row → List ℕ → Option Meaning
 meaning_among rows word = option_map meaning (find (spelled word) rows)
 
--- the meaning of `word` as an option of `merge`, in either spelling, if it is one
+-- the meaning of `word` as an option of `merge`, in either spelling, if it is one. Each argument that begins an item is looked up so, when the
+-- command line of `merge` is read.
 unfoldable pub meaning_of : List ℕ → Option Meaning
 meaning_of word = if is_option word then meaning_among table word else None
 
--- The subjects `a` and `b` are the same.
+-- The subjects `a` and `b` are the same. For the search of items of a subject.
 abbrev pub same : Subject → Subject → Bool
 same a b = sameb the_type a b

@@ -13,7 +13,7 @@ use std::alloc::{AllocError, Global};
 use word_values::{Value, name};
 
 /// Collects the inputs that the items of a merge's command line name. Each has the options of the items between the
-/// previous input and itself.
+/// previous input and itself. `merge_words` calls it for the request.
 pub(crate) fn files(alloc: Global, items: &[Item]) -> Result<List<FileWords>, AllocError>
     ensures { IfOk result (λ files. files ≡ spec.files items.now) }
 {
@@ -57,7 +57,7 @@ struct Marks {
 }
 
 /// Returns the input with the name in `name`, and the options in `items`, the items before it and after the previous
-/// input.
+/// input. For `files`, when the command line of `merge` is read.
 #[tactic(auto, unfolding(crate::specs::Files::file))]
 fn file(alloc: Global, items: &[Item], name: &Value) -> Result<FileWords, AllocError>
     ensures { IfOk result (λ file. file ≡ spec.file items.now name.now) }
@@ -91,7 +91,8 @@ fn file(alloc: Global, items: &[Item], name: &Value) -> Result<FileWords, AllocE
     })
 }
 
-/// Returns the selection of the tracks of each type that the options in `items` give for an input.
+/// Returns the selection of the tracks of each type that the options in `items` give for an input. For `file`, when the
+/// command line of `merge` is read.
 fn choice_in(alloc: Global, items: &[Item]) -> Result<Choice, AllocError>
     ensures { IfOk result (λ choice. choice ≡ spec.choice_in items.now) }
 {
@@ -102,7 +103,8 @@ fn choice_in(alloc: Global, items: &[Item]) -> Result<Choice, AllocError>
     })
 }
 
-/// Returns the names, languages and timestamp files of tracks that the options in `items` give for an input.
+/// Returns the names, languages and timestamp files of tracks that the options in `items` give for an input. For
+/// `file`, when the command line of `merge` is read.
 fn texts_in(alloc: Global, items: &[Item]) -> Result<Texts, AllocError>
     ensures { IfOk result (λ texts. texts ≡ spec.texts_in items.now) }
 {
@@ -114,7 +116,8 @@ fn texts_in(alloc: Global, items: &[Item]) -> Result<Texts, AllocError>
     })
 }
 
-/// Returns the delays, flags and choices of cue points of tracks that the options in `items` give for an input.
+/// Returns the delays, flags and choices of cue points of tracks that the options in `items` give for an input. For
+/// `file`, when the command line of `merge` is read.
 fn marks_in(alloc: Global, items: &[Item]) -> Result<Marks, AllocError>
     ensures { IfOk result (λ marks. marks ≡ spec.marks_in items.now) }
 {
@@ -128,7 +131,7 @@ fn marks_in(alloc: Global, items: &[Item]) -> Result<Marks, AllocError>
 }
 
 /// Returns the values of the six flags for the intended viewers of tracks that the options in `items` give for an
-/// input.
+/// input. For `marks_in`, when the command line of `merge` is read.
 fn flag_words_in(alloc: Global, items: &[Item]) -> Result<FlagWords, AllocError>
     ensures { IfOk result (λ flags. flags ≡ spec.flag_words_in items.now) }
 {
@@ -142,7 +145,8 @@ fn flag_words_in(alloc: Global, items: &[Item]) -> Result<FlagWords, AllocError>
     })
 }
 
-/// Returns the name of an input, which is the value of the item that ends its options.
+/// Returns the name of an input, which is the value `value` of the item that ends its options. For `file`, when the
+/// command line of `merge` is read.
 fn file_name(alloc: Global, value: &Value) -> Result<Text, AllocError>
     ensures { IfOk result (λ name. name ≡ spec.file_name value.now) }
 {
@@ -153,7 +157,7 @@ fn file_name(alloc: Global, value: &Value) -> Result<Text, AllocError>
 }
 
 /// Returns the selection of the tracks of one type, named by `subject`, that the options in `items` give; all by
-/// default.
+/// default. For `choice_in`, when the command line of `merge` is read.
 fn tracks_in(alloc: Global, subject: Subject, items: &[Item]) -> Result<Select, AllocError>
     ensures { IfOk result (λ select. select ≡ spec.tracks_in subject items.now) }
 {
@@ -163,7 +167,7 @@ fn tracks_in(alloc: Global, subject: Subject, items: &[Item]) -> Result<Select, 
     }
 }
 
-/// Returns a copy of the selection of tracks `select`.
+/// Returns a copy of the selection of tracks `select`. For `tracks_in`, when the command line of `merge` is read.
 fn select_copy(alloc: Global, select: &Select) -> Result<Select, AllocError>
     ensures { IfOk result (λ copy. copy ≡ select.now) }
 {
@@ -180,7 +184,7 @@ fn select_copy(alloc: Global, select: &Select) -> Result<Select, AllocError>
 }
 
 /// Returns the delays of tracks in nanoseconds that the options in `items` give, each with the index of its track,
-/// counted from 0.
+/// counted from 0. For `marks_in`, when the command line of `merge` is read.
 fn delays_in(alloc: Global, items: &[Item]) -> Result<List<(u64, i64)>, AllocError>
     ensures { IfOk result (λ list. list ≡ spec.delays_in items.now) }
 {
@@ -195,7 +199,8 @@ fn delays_in(alloc: Global, items: &[Item]) -> Result<List<(u64, i64)>, AllocErr
     Ok(list)
 }
 
-/// Returns the names of tracks that the options in `items` give, each with the index of its track, counted from 0.
+/// Returns the names of tracks that the options in `items` give, each with the index of its track, counted from 0. For
+/// `texts_in`, when the command line of `merge` is read.
 fn names_in(alloc: Global, items: &[Item]) -> Result<List<(u64, Text)>, AllocError>
     ensures { IfOk result (λ list. list ≡ spec.names_in items.now) }
 {
@@ -211,6 +216,7 @@ fn names_in(alloc: Global, items: &[Item]) -> Result<List<(u64, Text)>, AllocErr
 }
 
 /// Returns the languages of tracks that the options in `items` give, each with the index of its track, counted from 0.
+/// For `texts_in`, when the command line of `merge` is read.
 fn languages_in(alloc: Global, items: &[Item]) -> Result<List<(u64, Text)>, AllocError>
     ensures { IfOk result (λ list. list ≡ spec.languages_in items.now) }
 {
@@ -226,7 +232,7 @@ fn languages_in(alloc: Global, items: &[Item]) -> Result<List<(u64, Text)>, Allo
 }
 
 /// Returns the language tags of tracks that the options in `items` give, each with the index of its track, counted from
-/// 0.
+/// 0. For `texts_in`, when the command line of `merge` is read.
 fn language_tags_in(alloc: Global, items: &[Item]) -> Result<List<(u64, Text)>, AllocError>
     ensures { IfOk result (λ list. list ≡ spec.language_tags_in items.now) }
 {
@@ -242,7 +248,7 @@ fn language_tags_in(alloc: Global, items: &[Item]) -> Result<List<(u64, Text)>, 
 }
 
 /// Returns the names of timestamp files that the options in `items` give, each with the index of its track, counted
-/// from 0.
+/// from 0. For `texts_in`, when the command line of `merge` is read.
 fn times_in(alloc: Global, items: &[Item]) -> Result<List<(u64, Text)>, AllocError>
     ensures { IfOk result (λ list. list ≡ spec.times_in items.now) }
 {
@@ -258,7 +264,7 @@ fn times_in(alloc: Global, items: &[Item]) -> Result<List<(u64, Text)>, AllocErr
 }
 
 /// Returns the values of the flag `subject` that the options in `items` give, each with the index of its track, counted
-/// from 0.
+/// from 0. For `marks_in` and `flag_words_in`, when the command line of `merge` is read.
 fn flags_in(
     alloc: Global,
     subject: Subject,
@@ -278,7 +284,7 @@ fn flags_in(
 }
 
 /// Returns the choices of cue points that the options in `items` give, each with the index of its track, counted from
-/// 0.
+/// 0. For `marks_in`, when the command line of `merge` is read.
 fn cues_in(alloc: Global, items: &[Item]) -> Result<List<(u64, CueWord)>, AllocError>
     ensures { IfOk result (λ list. list ≡ spec.cues_in items.now) }
 {
@@ -294,7 +300,7 @@ fn cues_in(alloc: Global, items: &[Item]) -> Result<List<(u64, CueWord)>, AllocE
 }
 
 /// Returns the tracks that the options in `items` name, by index, counted from 0, in the options' order, each once. A
-/// merge warns of the ones that its input doesn't have.
+/// merge warns of the ones that its input doesn't have. For `file`.
 fn named_in(alloc: Global, items: &[Item]) -> Result<List<u64>, AllocError>
     ensures { IfOk result (λ list. list ≡ spec.named_in items.now) }
 {
@@ -305,7 +311,8 @@ fn named_in(alloc: Global, items: &[Item]) -> Result<List<u64>, AllocError>
     Ok(List::from_vec(Vec::from_slice(alloc, named.as_slice())?))
 }
 
-/// Appends to `named` the tracks that the option value `value` names, unless they are in it already.
+/// Appends to `named` the tracks that the option value `value` names, unless they are in it already. For `named_in`,
+/// when the command line of `merge` is read.
 fn add_ids(named: &mut IndexSet<u64>, value: &Value) -> Result<(), AllocError>
     ensures { OnOk result (named.new.keys ≡ spec.with_new named.old.keys (spec.ids_of value.now)) }
 {
@@ -318,7 +325,8 @@ fn add_ids(named: &mut IndexSet<u64>, value: &Value) -> Result<(), AllocError>
     }
 }
 
-/// Appends to `named` the tracks that the selection `select` names, unless they are in it already.
+/// Appends to `named` the tracks that the selection `select` names, unless they are in it already. For `add_ids`, when
+/// the command line of `merge` is read.
 fn add_selected(named: &mut IndexSet<u64>, select: &Select) -> Result<(), AllocError>
     ensures { OnOk result (named.new.keys ≡ spec.with_new named.old.keys (spec.ids_of_select select.now)) }
 {
@@ -329,7 +337,8 @@ fn add_selected(named: &mut IndexSet<u64>, select: &Select) -> Result<(), AllocE
     }
 }
 
-/// Appends to `named` the track numbers `ids` that aren't in it yet.
+/// Appends to `named` the track numbers `ids` that aren't in it yet. For `add_selected`, when the command line of
+/// `merge` is read.
 fn add_all(named: &mut IndexSet<u64>, ids: &[u64]) -> Result<(), AllocError>
     ensures { OnOk result (named.new.keys ≡ spec.with_new named.old.keys ids.now) }
 {
@@ -339,7 +348,8 @@ fn add_all(named: &mut IndexSet<u64>, ids: &[u64]) -> Result<(), AllocError>
     Ok(())
 }
 
-/// Appends to `named` the track number `id`, unless it is in it already.
+/// Appends to `named` the track number `id`, unless it is in it already. For `add_ids` and `add_all`, when the command
+/// line of `merge` is read.
 fn add(named: &mut IndexSet<u64>, id: u64) -> Result<(), AllocError>
     ensures { OnOk result (named.new.keys ≡ spec.with_new named.old.keys (id ∷ [])) }
 {

@@ -26,7 +26,7 @@ pub(crate) struct Item {
 
 /// Reads the item that begins with the argument `word`, whose number is `at`, after the items `before`. `means` is its
 /// meaning as an option, if it has one. `merge` is argument 0. Fails with the number of the wrong argument and the
-/// reason.
+/// reason. `items` calls it for each item.
 #[tactic(auto, unfolding(crate::specs::Items::item_at))]
 pub(crate) fn item_at(
     alloc: Global,
@@ -52,7 +52,7 @@ pub(crate) fn item_at(
 }
 
 /// Reads the `+` at argument number `at`. It needs an input before it, and is allowed once before the next input.
-/// `before` are the items before it.
+/// `before` are the items before it. For `item_at`, when the command line of `merge` is read.
 #[tactic(auto, unfolding(crate::specs::Items::append_at))]
 fn append_at(at: usize, before: &[Item]) -> Result<Item, ArgsEnd>
     ensures { Tells result (spec.append_at before.now at) }
@@ -72,7 +72,7 @@ fn append_at(at: usize, before: &[Item]) -> Result<Item, ArgsEnd>
 }
 
 /// Reads the name of an input, `word`, at argument number `at`. A merge has at most 64 inputs. `before` are the items
-/// before it.
+/// before it. For `item_at`.
 #[tactic(auto, unfolding(crate::specs::Items::file_at))]
 fn file_at(alloc: Global, at: usize, word: &str, before: &[Item]) -> Result<Item, ArgsEnd>
     ensures { Tells result (spec.file_at before.now at word.now) }
@@ -89,7 +89,8 @@ fn file_at(alloc: Global, at: usize, word: &str, before: &[Item]) -> Result<Item
 }
 
 /// Reads the option at argument number `at`, which means `means`, with its value. If it is allowed only once, a
-/// repetition among the items `before` is refused before its value is read.
+/// repetition among the items `before` is refused before its value is read. `merge` is argument 0 of `words`. For
+/// `item_at`.
 #[tactic(auto, unfolding(crate::specs::Items::option_at))]
 fn option_at(
     alloc: Global,
@@ -125,7 +126,7 @@ fn option_at(
 }
 
 /// Reads the argument with number `at` as an option value of the form `form`. Fails if it is missing or doesn't have
-/// this form.
+/// this form. For `option_at`, when the command line of `merge` is read.
 fn value_at(alloc: Global, words: &[String], at: usize, form: ValueForm) -> Result<Value, ArgsEnd>
     ensures { Tells result (spec.value_at at form (slice_get (texts words.now) at) (length words.now)) }
 {
@@ -140,7 +141,7 @@ fn value_at(alloc: Global, words: &[String], at: usize, form: ValueForm) -> Resu
 }
 
 /// Checks whether an option that means `means` is allowed only once and is among the items `before` already, whatever
-/// its value is.
+/// its value is. For `option_at`, when the command line of `merge` is read.
 fn repeats(means: Meaning, before: &[Item]) -> bool
     ensures { result ≡ spec.repeats means before.now }
 {
@@ -151,7 +152,8 @@ fn repeats(means: Meaning, before: &[Item]) -> bool
     }
 }
 
-/// Checks whether one of `items` has the subject `subject`.
+/// Checks whether one of `items` has the subject `subject`. Used for options without a value, for `+`, and for options
+/// that must be given.
 pub(crate) fn stands(subject: Subject, items: &[Item]) -> bool
     ensures { result ≡ spec.stands subject items.now }
 {
@@ -159,13 +161,15 @@ pub(crate) fn stands(subject: Subject, items: &[Item]) -> bool
 }
 
 /// Checks whether one of `items` has the subject `subject` and is for the track with the index `id`, counted from 0.
+/// For `option_at`, which refuses a repetition.
 fn stands_for(subject: Subject, id: u64, items: &[Item]) -> bool
     ensures { result ≡ spec.stands_for subject id items.now }
 {
     items.iter().any(|item| item.subject.is(subject) && track_in(&item.value) == Some(id))
 }
 
-/// Returns the index, counted from 0, of the track that the option value `value` is for, if it is for one track.
+/// Returns the index, counted from 0, of the track that the option value `value` is for, or None if it isn't for one
+/// track. For repetitions and for the tracks that options name. Used by `add_ids`, `option_at` and others.
 pub(crate) fn track_in(value: &Value) -> Option<u64>
     ensures { result ≡ spec.track_in value.now }
 {
@@ -181,7 +185,8 @@ pub(crate) fn track_in(value: &Value) -> Option<u64>
     }
 }
 
-/// Returns the number of inputs that the items `items` name.
+/// Returns the number of inputs that the items `items` name. For the limit of inputs, and for the refusals of `+` and
+/// of no input.
 pub(crate) fn files_in(items: &[Item]) -> usize
     ensures { result ≡ spec.files_in items.now }
 {
@@ -191,7 +196,9 @@ pub(crate) fn files_in(items: &[Item]) -> usize
         .count()
 }
 
-/// Returns the items after the last input, which are options for the next one. Looks at no others.
+/// Returns the items after the last input, which are options for the next one, or all if there is no input. Looks at no
+/// item before that input. For refusals of repetitions and of options without an input. Used by `append_at`,
+/// `option_at` and others.
 #[tactic(auto, using(crate::proofs::ItemsLemmas::since_latest))]
 pub(crate) fn since_file(items: &[Item]) -> &[Item]
     ensures { result.now ≡ spec.since_file items.now }

@@ -14,7 +14,8 @@ use std::alloc::Global;
 use word_values::{ArgsEnd, Why, flag_of, refused, word_at};
 
 /// Reads the arguments of `merge`, and returns the request. Fails with the number of the first wrong argument and the
-/// reason. `merge` itself is argument 0 of `words`.
+/// reason. `merge` itself is argument 0 of `words`. The reader of the whole command line calls it for the command
+/// `merge`.
 #[tactic(auto, unfolding(crate::specs::Merge::merged))]
 pub fn read_merge(alloc: Global, words: &[String]) -> Result<MergeWords, ArgsEnd>
     ensures { Tells result (spec.merged (texts words.now)) }
@@ -25,6 +26,7 @@ pub fn read_merge(alloc: Global, words: &[String]) -> Result<MergeWords, ArgsEnd
 }
 
 /// Reads the items of a merge's command line `words`, from argument 1 onwards, or fails with the first wrong argument.
+/// For `read_merge`.
 #[tactic(auto, unfolding(crate::specs::Merge::items))]
 fn items(alloc: Global, words: &[String]) -> Result<List<Item>, ArgsEnd>
     ensures { Tells result (spec.items (texts words.now)) }
@@ -41,7 +43,7 @@ fn items(alloc: Global, words: &[String]) -> Result<List<Item>, ArgsEnd>
 }
 
 /// Returns the number of arguments of an item that means `means` as an option: 2 for an option with a value, otherwise
-/// 1.
+/// 1. For `items`, when the command line of `merge` is read.
 fn width(means: Option<Meaning>) -> usize
     ensures { result ≡ (if spec.takes_next means then 2 else 1) }
 {
@@ -52,7 +54,7 @@ fn width(means: Option<Meaning>) -> usize
 }
 
 /// Refuses the items of a command line with `count` arguments if they aren't a complete merge. The reasons are a `+` or
-/// an option without an input after it, no output, no input, and `--link` without identifiers.
+/// an option without an input after it, no output, no input, and `--link` without identifiers. For `read_merge`.
 #[tactic(auto, unfolding(crate::specs::Merge::complete))]
 fn complete(count: usize, items: &[Item]) -> Result<(), ArgsEnd>
     ensures { Tells result (spec.complete count items.now) }
@@ -85,8 +87,8 @@ fn refuse_at(word: Option<usize>, why: Why) -> Result<(), ArgsEnd>
     }
 }
 
-/// Returns the argument number of the first option for an input among `items`, the items after the last input; no input
-/// follows it.
+/// Returns for `complete` the argument number of the first option for an input among `items`, the items after the last
+/// input; no input follows it. Returns None if there is no such option.
 fn dangling(items: &[Item]) -> Option<usize>
     ensures { result ≡ spec.dangling items.now }
 {
@@ -94,7 +96,7 @@ fn dangling(items: &[Item]) -> Option<usize>
     Some(item.at)
 }
 
-/// Returns the argument number of the option `--link`, if it is given.
+/// Returns the argument number of the option `--link`, or None if it isn't given. For `unlinked`.
 fn linking(items: &[Item]) -> Option<usize>
     ensures { result ≡ spec.linking items.now }
 {
@@ -102,7 +104,8 @@ fn linking(items: &[Item]) -> Option<usize>
     Some(item.at)
 }
 
-/// Returns the argument number of the option `--link`, if it is given without `--segment-uid`.
+/// Returns the argument number of the option `--link`, if it is given without `--segment-uid`, otherwise None. For
+/// `complete`.
 fn unlinked(items: &[Item]) -> Option<usize>
     ensures { result ≡ spec.unlinked items.now }
 {

@@ -120,7 +120,8 @@ static MERGE_OPTIONS: [OptionRow; 37] = [
     OptionRow("", "--timestamps", Subject::Times, Scope::Track, ValueForm::TrackFile),
 ];
 
-/// Returns all options of `merge`: first the ones for the whole output, then the ones for the next input.
+/// Returns all options of `merge`: first the ones for the whole output, then the ones for the next input. For
+/// `meaning_of`.
 #[tactic(auto, unfolding(crate::specs::Options::table))]
 pub fn merge_options() -> &'static [OptionRow]
     ensures { map spec.shown result.now ≡ spec.table }
@@ -128,7 +129,8 @@ pub fn merge_options() -> &'static [OptionRow]
     &MERGE_OPTIONS
 }
 
-/// Returns the meaning of `word` as an option of `merge`, in either spelling, if it is one.
+/// Returns the meaning of `word` as an option of `merge`, in either spelling, or None if it isn't one. `items` calls it
+/// for each argument of `merge` that begins an item.
 #[tactic(auto, unfolding(crate::specs::Options::meaning_of))]
 pub fn meaning_of(word: &str) -> Option<Meaning>
     ensures { result ≡ spec.meaning_of word.now }
@@ -139,7 +141,8 @@ pub fn meaning_of(word: &str) -> Option<Meaning>
     meaning_among(merge_options(), word)
 }
 
-// Returns the meaning of the first option in `rows` that is spelled `word`.
+// Returns the meaning of the first option in `rows` that is spelled `word`, or None. For `meaning_of`, when the command
+// line of `merge` is read.
 fn meaning_among(rows: &[OptionRow], word: &str) -> Option<Meaning>
     ensures { result ≡ spec.meaning_among (map spec.shown rows.now) word.now }
 {
@@ -156,7 +159,7 @@ fn meaning_among(rows: &[OptionRow], word: &str) -> Option<Meaning>
 }
 
 impl Subject {
-    /// Checks whether both subjects are the same.
+    /// Checks whether both subjects are the same. For the search of items of a subject.
     pub fn is(self, other: Subject) -> bool
         ensures { result ≡ spec.same self other }
     {

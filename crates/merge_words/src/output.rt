@@ -18,7 +18,8 @@ const DEFAULT_BLOCKS: u32 = 65_535;
 
 const DEFAULT_SPAN: u64 = 5_000_000_000;
 
-/// Returns the request of the merge that the items `items` of a complete command line ask for.
+/// Returns the request of the merge that the items `items` of a complete command line ask for. `read_merge` calls it
+/// last.
 #[tactic(auto, unfolding(crate::specs::Output::merge_words))]
 pub(crate) fn merge_words(alloc: Global, items: &[Item]) -> Result<MergeWords, AllocError>
     ensures { IfOk result (λ words. words ≡ spec.merge_words items.now) }
@@ -40,7 +41,8 @@ pub(crate) fn merge_words(alloc: Global, items: &[Item]) -> Result<MergeWords, A
     })
 }
 
-// Returns the name of the output, the value of `-o` among `items`, or an empty text without it.
+// Returns the name of the output, the value of `-o` among `items`, or an empty text without it. For `merge_words`, when
+// the command line of `merge` is read.
 fn output_in(alloc: Global, items: &[Item]) -> Result<Text, AllocError>
     ensures { IfOk result (λ name. name ≡ spec.output_in items.now) }
 {
@@ -50,7 +52,7 @@ fn output_in(alloc: Global, items: &[Item]) -> Result<Text, AllocError>
     }
 }
 
-// Returns the title of the output, the value of `--title` among `items`, if it is given.
+// Returns the title of the output, the value of `--title` among `items`, if it is given. For `merge_words`.
 fn title_in(alloc: Global, items: &[Item]) -> Result<Option<Text>, AllocError>
     ensures { IfOk result (λ title. title ≡ spec.title_in items.now) }
 {
@@ -61,7 +63,7 @@ fn title_in(alloc: Global, items: &[Item]) -> Result<Option<Text>, AllocError>
 }
 
 // Returns the nanoseconds per tick of the output, the value of `--timestamp-scale` among `items`, or the default,
-// 1,000,000.
+// 1,000,000. For `merge_words`.
 fn scale_in(items: &[Item]) -> u64
     ensures { result ≡ spec.scale_in items.now }
 {
@@ -72,7 +74,7 @@ fn scale_in(items: &[Item]) -> u64
 }
 
 // Returns the maximum number of blocks in a Cluster that `--cluster-length` among `items` gives, or the default,
-// 65,535.
+// 65,535. For `merge_words`.
 fn blocks_in(items: &[Item]) -> u32
     ensures { result ≡ spec.blocks_in items.now }
 {
@@ -82,8 +84,8 @@ fn blocks_in(items: &[Item]) -> u32
     }
 }
 
-// Returns the maximum duration of a Cluster in nanoseconds that `--cluster-length` among `items` gives, or the default,
-// 5 seconds.
+// Returns the maximum distance in nanoseconds from a Cluster's Timestamp to its last block that `--cluster-length`
+// among `items` gives, or the default, 5 seconds. For `merge_words`.
 fn span_in(items: &[Item]) -> u64
     ensures { result ≡ spec.span_in items.now }
 {
@@ -93,7 +95,7 @@ fn span_in(items: &[Item]) -> u64
     }
 }
 
-// Returns the SegmentUUIDs that `--segment-uid` among `items` gives, or none.
+// Returns the SegmentUUIDs that `--segment-uid` among `items` gives, or none. For `merge_words`.
 fn uuids_in(alloc: Global, items: &[Item]) -> Result<List<u128>, AllocError>
     ensures { IfOk result (λ uuids. uuids ≡ spec.uuids_in items.now) }
 {
@@ -103,7 +105,8 @@ fn uuids_in(alloc: Global, items: &[Item]) -> Result<List<u128>, AllocError>
     }
 }
 
-// Returns the rule for parts of the output that `--split` among `items` gives, if it is given.
+// Returns the rule for parts of the output that `--split` among `items` gives, or None if it isn't given. For
+// `merge_words`.
 fn split_in(alloc: Global, items: &[Item]) -> Result<Option<SplitWords>, AllocError>
     ensures { IfOk result (λ split. split ≡ spec.split_in items.now) }
 {
@@ -113,7 +116,7 @@ fn split_in(alloc: Global, items: &[Item]) -> Result<Option<SplitWords>, AllocEr
     }
 }
 
-// Returns a copy of the rule for parts `split`.
+// Returns a copy of the rule for parts `split`. For `split_in`, when the command line of `merge` is read.
 fn split_copy(alloc: Global, split: &SplitWords) -> Result<SplitWords, AllocError>
     ensures { IfOk result (λ copy. copy ≡ split.now) }
 {

@@ -10,7 +10,8 @@ use mkv_io::{List, Text};
 use std::alloc::{AllocError, Global};
 use word_values::{Value, name};
 
-/// Returns the value of the first of `items` that has the subject `subject`, if there is one.
+/// Returns the value of the first of `items` that has the subject `subject`, or None. Used for all options that are
+/// given once.
 pub(crate) fn value_in(subject: Subject, items: &[Item]) -> Option<&Value>
     ensures { option_copied result ≡ spec.value_in subject items.now }
 {
@@ -18,7 +19,8 @@ pub(crate) fn value_in(subject: Subject, items: &[Item]) -> Option<&Value>
     Some(&item.value)
 }
 
-/// Returns the file name that is the value of the first of `items` with the subject `subject`, if there is one.
+/// Returns the file name that is the value of the first of `items` with the subject `subject`, or None. For the name of
+/// the output and of the chapter file.
 pub(crate) fn file_in(
     alloc: Global,
     subject: Subject,
@@ -32,7 +34,7 @@ pub(crate) fn file_in(
     }
 }
 
-/// Returns a copy of the list `numbers`.
+/// Returns a copy of the list `numbers`. For a selection of tracks and for the numbers of `--split`.
 pub(crate) fn numbers_copy(alloc: Global, numbers: &List<u64>) -> Result<List<u64>, AllocError>
     ensures { IfOk result (λ copy. copy ≡ numbers.now) }
 {

@@ -7,10 +7,11 @@ use Rattle.file_format.specs.Info.{first_info, info_refusal, info_tree, scale_of
 use Rattle.meta_records.specs.declared.info.Info.{Info}
 use Rattle.mkv_schema.specs.declared.element.Header.{Header}
 
--- the values of the Info `info`, or its damage
+-- the values of the Info `info`, or its damage. The contract of `read_info` states it.
 abbrev pub info_of : Node → Result Info Damage
 info_of info = unless (info_refusal info) (record { scale = scale_of info })
 
--- `P` holds for the content and the Segment of each file whose first Info is `info`.
+-- `P` holds for the content and the Segment of each file whose first Info is `info`. Used by the contract of `read_info`, to state that its scale is
+-- the file's.
 abbrev pub IfFirst : Node → (List ℕ → Header → Type 0) → Type 0
 IfFirst info P = (bytes : List ℕ) (segment h : Header) → first_info bytes segment ≡ Some h → info_tree bytes h ≡ Ok info → P bytes segment

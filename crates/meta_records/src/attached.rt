@@ -31,7 +31,8 @@ pub(crate) struct Parts {
     pub first: Option<Header>,
 }
 
-// Reads the children of the AttachedFile with the header `attached`, except the data, and adds them to `counts`.
+// Reads the children of the AttachedFile with the header `attached`, except the data, and adds them to `counts`. For
+// `read_attached`, when the attached files of a file are read.
 fn read_parts<R: Reads>(
     alloc: Global,
     src: &mut R,
@@ -63,7 +64,7 @@ fn read_parts<R: Reads>(
 }
 
 // Returns the header of the first FileData of an AttachedFile: `first`, if one was found before, or `child` if it is
-// one.
+// one. Returns None if there is none up to `child`. For `read_parts`, when the attached files of a file are read.
 fn first_data(first: Option<Header>, child: &Header) -> Option<Header>
     ensures { result ≡ option_or first (data_at child.now) }
 {
@@ -74,7 +75,8 @@ fn first_data(first: Option<Header>, child: &Header) -> Option<Header>
     }
 }
 
-// Returns the FileUID of the AttachedFile `entry`, or 0 if it is absent.
+// Returns the FileUID of the AttachedFile `entry`, or 0 if it is absent. For `attached_of`, when the attached files of
+// a file are read.
 fn uid_of(entry: &Tree) -> u64
     requires { IsSoundOf ATTACHED_ID entry.now }
     ensures { result ≡ uint_in FILE_UID_ID entry.now }
@@ -86,7 +88,7 @@ fn uid_of(entry: &Tree) -> u64
 }
 
 // Returns the offset in the file of an attached file's data, or 0 if there is none. `first` is the header of the first
-// FileData.
+// FileData. For `attached_of`, when the attached files of a file are read.
 fn place_of(first: Option<Header>) -> u64
     ensures { result ≡ option_map_or (λ (h : HeaderSeen). h.body) first 0 }
 {
@@ -97,7 +99,7 @@ fn place_of(first: Option<Header>) -> u64
 }
 
 // Returns the length of an attached file's data in bytes, or 0 if there is none. `first` is the header of the first
-// FileData.
+// FileData. For `attached_of`, when the attached files of a file are read.
 fn len_of(first: Option<Header>) -> u64
     ensures { result ≡ option_map_or (λ (h : HeaderSeen). known h.size) first 0 }
 {
@@ -108,6 +110,7 @@ fn len_of(first: Option<Header>) -> u64
 }
 
 // Returns the damage of the AttachedFile with the header `attached` if it has no FileData, and so `first` is absent.
+// Returns None otherwise. For `attached_of`, when the attached files of a file are read.
 fn missing_data(first: Option<Header>, attached: &Header) -> Option<Damage>
     ensures { result ≡ where_it (is_none first) (damage Kind.MissingChild FILE_DATA attached.now.offset) }
 {
@@ -125,7 +128,7 @@ pub(crate) struct Attached {
 }
 
 // Returns the attached file in `file` with the header `attached` and the parts `parts`, and its damage if it has no
-// data.
+// data. For `read_attached`, when the attached files of a file are read.
 fn attached_of(file: FileId, attached: &Header, parts: Parts) -> Attached
     requires { AreSoundParts (stated_end attached.now) parts }
     ensures exact { IfPartsOf attached.now parts (IsAttachedOf file attached.now result.attachment) }
@@ -146,7 +149,8 @@ fn attached_of(file: FileId, attached: &Header, parts: Parts) -> Attached
     }
 }
 
-/// Reads the AttachedFile with the header `attached`, and adds its children to `counts`. Its data stay unread.
+/// Reads the AttachedFile with the header `attached` in `file`, and adds its children to `counts`. Its data stay
+/// unread. Called for each AttachedFile of an Attachments.
 pub(crate) fn read_attached<R: Reads>(
     alloc: Global,
     src: &mut R,

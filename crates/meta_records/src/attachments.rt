@@ -29,7 +29,7 @@ pub(crate) struct AttachmentScan {
 }
 
 // Returns the number of bytes of `child`, a child of Attachments, that count towards the limit: the header of an
-// AttachedFile.
+// AttachedFile, or else 0. For `read_child`, when the attached files of a file are read.
 fn counted_of(child: &Header) -> u64
     requires { child.now.offset ≤ child.now.body }
     ensures { result ≡ (child_of child.now).counted }
@@ -42,7 +42,8 @@ fn counted_of(child: &Header) -> u64
 }
 
 // Reads the child at offset `at` of an Attachments that ends at `end`, and adds it to `counts`. An AttachedFile is also
-// added to `found`. Returns the offset of the next child; offsets are from the start of the file.
+// added to `found`. Returns the offset of the next child; offsets are from the start of the file. For `read_children`,
+// when the attached files of a file are read.
 fn read_child<R: Reads>(
     alloc: Global,
     src: &mut R,
@@ -78,7 +79,8 @@ fn read_child<R: Reads>(
     Ok(next)
 }
 
-// Reads the children of the Attachments with the header `header`: all its AttachedFiles without data.
+// Reads the children of the Attachments with the header `header`: all its AttachedFiles without data. For
+// `read_attachments`, when the attached files of a file are read.
 fn read_children<R: Reads>(
     alloc: Global,
     src: &mut R,
@@ -108,8 +110,8 @@ fn read_children<R: Reads>(
     Ok(found)
 }
 
-// Returns the attached files that were read, or damage. The first one without data is damage, and so are more than
-// 1,024.
+// Returns the attached files in `found`, which were read, or damage. The first one without data is damage, and so are
+// more than 1,024. For `read_attachments`, when the attached files of a file are read.
 fn good_files(found: AttachmentScan) -> Result<List<Attachment>, Damage>
     ensures exact { result ≡ good_files found }
     ensures same { IfOk result (λ files. files ≡ found.attachments) }
@@ -132,7 +134,7 @@ fn good_files(found: AttachmentScan) -> Result<List<Attachment>, Damage>
 ///
 /// Fails if the Attachments isn't made of valid Elements, or an AttachedFile has no FileData. Fails also above
 /// `MAX_ATTACHMENTS_LEN` bytes without data, 65,536 Elements or 1,024 attached files. Damage of the Elements is
-/// reported first.
+/// reported first. Used by `first_attachments`.
 pub fn read_attachments<R: Reads>(
     alloc: Global,
     src: &mut R,

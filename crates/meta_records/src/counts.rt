@@ -21,7 +21,8 @@ pub(crate) struct Counts {
 }
 
 impl Counts {
-    /// Returns the counts before the first child of an Attachments: one Element, itself.
+    /// Returns the counts before the first child of an Attachments: one Element, itself. `read_children` begins with
+    /// them.
     pub fn new() -> Counts
         ensures octets { result.octets ≡ 0 }
         ensures nodes { result.nodes ≡ 1 }
@@ -33,7 +34,7 @@ impl Counts {
     }
 
     /// Adds the Element with the header `header` and `octets` of its bytes to the counts, or returns damage if that
-    /// exceeds a limit.
+    /// exceeds a limit. Called for each child of an Attachments and of its AttachedFiles.
     #[tactic(auto, using(crate::proofs::CountsLemmas::limits))]
     pub fn add(&mut self, header: &Header, octets: u64) -> Result<(), Damage>
         ensures ok { OnOk result (limit_passed (self.old.octets + octets) self.old.nodes header.now ≡ None) }

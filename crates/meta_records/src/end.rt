@@ -20,6 +20,7 @@ pub enum MetaEnd {
 impl From<Damage> for MetaEnd {
     ghost from_gives = { λ damage end. end ≡ attachments_end.Refused damage };
 
+    // Converts damage to the end of reading attached files, for `?` in their readers.
     fn from(damage: Damage) -> MetaEnd {
         MetaEnd::Refused(damage)
     }
@@ -28,6 +29,7 @@ impl From<Damage> for MetaEnd {
 impl From<Failed> for MetaEnd {
     ghost from_gives = { λ _ end. end ≡ attachments_end.ReadFault };
 
+    // Converts a failed read to the end of reading attached files, for `?` in their readers.
     fn from(_failed: Failed) -> MetaEnd {
         MetaEnd::ReadFault
     }
@@ -36,6 +38,7 @@ impl From<Failed> for MetaEnd {
 impl From<AllocError> for MetaEnd {
     ghost from_gives = { λ _ end. end ≡ attachments_end.Memory };
 
+    // Converts a lack of memory to the end of reading attached files, for `?` in their readers.
     fn from(_error: AllocError) -> MetaEnd {
         MetaEnd::Memory
     }
@@ -46,6 +49,7 @@ impl From<ReadEnd> for MetaEnd {
 
     ghost from_gives = { λ why end. end ≡ end_of why };
 
+    // Converts the failure `why` of a read to the end of reading attached files, for `?` in their readers.
     fn from(why: ReadEnd) -> MetaEnd {
         match why {
             ReadEnd::ReadFault => MetaEnd::ReadFault,

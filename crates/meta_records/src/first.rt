@@ -15,7 +15,8 @@ use mkv_io::{FileId, Reads};
 use std::alloc::Global;
 
 /// Reads the first Element of level 1 with the ID `id` in `file`, as a tree, if there is one, or returns its damage.
-/// Info, Tracks, Chapters and Tags are read so.
+/// `outline` has the headers of level 1. Info, Tracks, Chapters and Tags are read so. Used by `read_records`, by
+/// `info`, and by edits.
 pub fn first_tree<R: Reads>(
     alloc: Global,
     outline: &Outline,

@@ -20,7 +20,8 @@ use output_model::Attachment;
 use std::alloc::Global;
 
 /// Reads the attached files of the first Attachments of `file`, without their data, or returns its damage. Without
-/// Attachments the list is empty.
+/// Attachments the list is empty. `outline` has the headers of level 1. Used by `read_records`, and by edits that must
+/// keep attached files.
 pub fn first_attachments<R: Reads>(
     alloc: Global,
     outline: &Outline,

@@ -15,7 +15,7 @@ use mkv_schema::Header;
 use mkv_schema::limits::MAX_ELEMENT_HEADER_LEN;
 
 /// Reads the header of the child at offset `at` of a master that ends at `end` and isn't loaded whole. Both are offsets
-/// in `file`. Reads no byte from `end` onwards.
+/// in `file`. Reads no byte from `end` onwards. Used for the children of an Attachments and of an AttachedFile.
 pub(crate) fn child_header<R: Reads>(
     src: &mut R,
     file: FileId,
@@ -41,7 +41,7 @@ pub(crate) fn child_header<R: Reads>(
 }
 
 // Returns the header that the bytes `octets` begin with, in a file of `total` bytes. It is of a child at offset `at` of
-// a master that ends at `end`.
+// a master that ends at `end`. For `child_header`, when the attached files of a file are read.
 fn header_in(octets: &[u8], total: u64, at: u64, end: u64) -> Result<Header, Damage>
     requires place { at ≤ LONGEST_FILE }
     requires inside { at + length octets.now ≤ end }

@@ -19,7 +19,7 @@ pub struct Info {
     pub scale: u64,
 }
 
-// Returns the nanoseconds per tick that the Info `info` gives, or the default, 1,000,000.
+// Returns the nanoseconds per tick that the Info `info` gives, or the default, 1,000,000. For `read_info`.
 fn scale_of(info: &Tree) -> u64
     requires { IsSoundOf INFO_ID info.now }
     ensures { result ≡ scale_of info.now }
@@ -30,7 +30,7 @@ fn scale_of(info: &Tree) -> u64
     }
 }
 
-// Returns the damage of the Info `info` if its TimestampScale is 0.
+// Returns the damage of the Info `info` if its TimestampScale is 0, or None. For `read_info`.
 fn refusal_of(info: &Tree) -> Option<Damage>
     requires { IsSoundOf INFO_ID info.now }
     ensures { result ≡ info_refusal info.now }
@@ -47,7 +47,7 @@ fn refusal_of(info: &Tree) -> Option<Damage>
 }
 
 /// Returns the values of the Info `info`. Fails with `BadValue` at its TimestampScale if that is 0. An empty or absent
-/// one is 1,000,000, the default.
+/// one is 1,000,000, the default. Used by all that needs a file's tick.
 pub fn read_info(info: &Tree) -> Result<Info, Damage>
     requires { IsSoundOf INFO_ID info.now }
     ensures exact { result ≡ info_of info.now }

@@ -27,7 +27,7 @@ pub(crate) struct Part {
 }
 
 // Returns the number of bytes of `part`, a child of an AttachedFile, that count towards the limit: all, or only the
-// header of FileData.
+// header of FileData. For `read_part`, when the attached files of a file are read.
 fn counted_of(part: &Header) -> u64
     requires behind { part.now.offset ≤ part.now.body }
     requires short { stated_end part.now < 2 ^ 64 }
@@ -42,6 +42,7 @@ fn counted_of(part: &Header) -> u64
 }
 
 // Reads the content of the Element with the header `header` into memory. A limit on counted bytes was checked before.
+// For `leaf_of`, when the attached files of a file are read.
 fn body_of<R: Reads>(
     alloc: Global,
     src: &mut R,
@@ -61,7 +62,7 @@ fn body_of<R: Reads>(
 }
 
 // Reads the child of an AttachedFile with the header `part` as a tree. Its content must be a valid value; the data stay
-// unread.
+// unread. For `read_part`, when the attached files of a file are read.
 fn leaf_of<R: Reads>(
     alloc: Global,
     src: &mut R,
@@ -87,7 +88,7 @@ fn leaf_of<R: Reads>(
 }
 
 /// Reads the child at offset `at` of an AttachedFile that ends at `end`, and adds it to `counts`. Both are offsets in
-/// `file`.
+/// `file`. `read_parts` calls it for each child.
 pub(crate) fn read_part<R: Reads>(
     alloc: Global,
     src: &mut R,

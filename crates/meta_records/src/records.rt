@@ -40,6 +40,7 @@ pub struct Records {
 /// Reads the records of `file`, which has the outline `outline`, or returns the first damage. Info, Tracks,
 /// Attachments, Chapters and Tags are checked in this order; each first as Elements, then for its values. A file
 /// without Tracks is refused. The outline may have been read after other inputs, with any number of bytes held.
+/// `merge`, `info` and `extract` call it before they read blocks.
 #[tactic(auto, using(crate::proofs::RecordsLemmas::held))]
 pub fn read_records<R: Reads>(
     alloc: Global,
@@ -74,7 +75,8 @@ pub fn read_records<R: Reads>(
     })
 }
 
-/// Returns the nanoseconds per tick of a file with the first Info `info`, or the default, 1,000,000, without one.
+/// Returns the nanoseconds per tick of a file with the first Info `info`, or the default, 1,000,000, without one. Used
+/// for times of blocks and of cue points.
 pub fn scale_of(info: &Option<Tree>) -> u64
     requires { IfSome info.now IsGoodInfo }
     ensures value { result ≡ scale_of_info info.now }
@@ -89,7 +91,8 @@ pub fn scale_of(info: &Option<Tree>) -> u64
     }
 }
 
-/// Returns `info`, the first Info of a file if any, or its damage if its values aren't valid.
+/// Returns `info`, the first Info of a file if any, or its damage if its values aren't valid. For `read_records`, and
+/// for edits and `reindex`.
 pub fn good_info(info: Option<Tree>) -> Result<Option<Tree>, Damage>
     requires { IfSome info (IsSoundOf INFO_ID) }
     ensures { result ≡ good_info info }
@@ -101,7 +104,7 @@ pub fn good_info(info: Option<Tree>) -> Result<Option<Tree>, Damage>
 }
 
 /// Returns the tracks of `tracks`, the first Tracks of a file. Without one it fails with damage at the offset of
-/// `segment`.
+/// `segment`. For `read_records`, when the records of a file are read.
 fn good_tracks(
     alloc: Global,
     segment: &Header,

@@ -4,7 +4,7 @@ use Rattle.mkv_args.specs.declared.commands.Verb.{Verb}
 use Rattle.mkv_args.specs.declared.commands.Verb.TheVariants as verb
 use Rattle.mkv_args.specs.Entry.{Entry, entry}
 
--- the table of the commands with their names, which are this project's
+-- the table of the commands with their names, which argument 0 of a command line is looked up in. Used by `verb_of`, `explain_named` and others.
 unfoldable pub commands : List (Entry Verb)
 commands =
     entry (codes "") (codes "info") verb.Info ∷

@@ -4,7 +4,7 @@ use Rattle.mkv_args.specs.declared.pages.TheConstants.{OVERVIEW, INFO_PAGE, MERG
 use Rattle.mkv_args.specs.declared.commands.Verb.{Verb}
 use Rattle.mkv_args.specs.declared.commands.Verb.TheVariants as verb
 
--- the lines of `--help`: the page of the given command, or the overview of all commands
+-- the lines that `--help` prints: the page of the given command, or the overview of all commands for None
 unfoldable pub usage_lines : Option Verb → List (List ℕ)
 usage_lines (Some verb.Info) = map (λ line. line.now) INFO_PAGE
 usage_lines (Some verb.Merge) = map (λ line. line.now) MERGE_PAGE
@@ -16,6 +16,6 @@ usage_lines (Some verb.Generate) = map (λ line. line.now) GENERATE_PAGE
 usage_lines (Some verb.Explain) = map (λ line. line.now) EXPLAIN_PAGE
 usage_lines _ = map (λ line. line.now) OVERVIEW
 
--- the line of `--version`
+-- the line that `--version` prints: the name of the program and its version; for `verdict_of`
 abbrev pub version_line : List ℕ
 version_line = codes "mkvsuite 0.1.0"

@@ -13,24 +13,25 @@ use Rattle.requests.specs.Sound.{IsSoundMerge}
 use Rattle.mkv_args.specs.declared.command.Command.{Command}
 use Rattle.mkv_args.specs.declared.command.Command.TheVariants as command
 
--- the names of the outputs of `targets`
+-- the names of the outputs of `targets` of `extract`, in their order
 abbrev pub names_of : List Target → List (List ℕ)
 names_of targets = map (λ (t : Target). t.name) targets
 
--- There are one or more `targets`, with IDs of at least `least`, and their outputs have different names.
+-- There are one or more `targets` of `extract`, with IDs of at least `least`, and their outputs have different names. It is a condition of a parsed
+-- command.
 pub record AreTargets (least : ℕ) (targets : List Target) : Type 0 where
   pub some : 0 < length targets
   pub apart : AreApart (names_of targets)
   pub from : All (λ (t : Target). least ≤ t.id) targets
 
--- The targets of an extraction are valid. Attached files count from 1, and tracks from 0.
+-- The targets of the given job of `extract` are valid: attached files count from 1, and tracks from 0. It is a condition of a parsed command.
 abbrev pub IsSoundJob : Job → Type 0
 IsSoundJob (jobs.Tracks form list) = AreTargets 0 list
 IsSoundJob (jobs.Cues list) = AreTargets 0 list
 IsSoundJob (jobs.Attachments list) = AreTargets 1 list
 IsSoundJob (jobs.Chapters name) = ⊤
 
--- A position among TrackEntries in a selector is counted from 1, and so isn't 0.
+-- A position among TrackEntries in the given selector of `propedit` is counted from 1, and so isn't 0. It is a condition of a parsed command.
 abbrev pub IsSoundPlace : Selector → Type 0
 IsSoundPlace selector.Info = ⊤
 IsSoundPlace (selector.Nth n) = 1 ≤ n
@@ -38,12 +39,13 @@ IsSoundPlace (selector.Typed kind n) = 1 ≤ n
 IsSoundPlace (selector.Uid uid) = ⊤
 IsSoundPlace (selector.Number number) = ⊤
 
--- There are one or more `edits`, and positions of tracks in them are counted from 1.
+-- There are one or more `edits` of `propedit`, and positions of tracks in them are counted from 1. It is a condition of a parsed command.
 pub record AreEdits (edits : List Edit) : Type 0 where
   pub some : 0 < length edits
   pub each : All (λ (e : Edit). IsSoundPlace e.place) edits
 
--- The numbers and lists of a command are within the limits that a parsed command line keeps.
+-- The numbers and lists of the given command are within the limits that a parsed command line keeps; `read_words` promises it, and each command
+-- requires it.
 abbrev pub IsSound : Command → Type 0
 IsSound (command.Help about) = ⊤
 IsSound command.Version = ⊤

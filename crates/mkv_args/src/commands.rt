@@ -35,7 +35,8 @@ static COMMANDS: [Entry<Verb>; 10] = [
     Entry("", "--version", Verb::Version),
 ];
 
-/// Returns the names of all commands, as a table with their meanings.
+/// Returns the names of all commands, as a table with their meanings, which argument 0 of a command line is looked up
+/// in. Used by `verb_of`.
 #[tactic(auto, unfolding(crate::specs::Commands::commands))]
 pub(crate) fn commands() -> &'static [Entry<Verb>]
     ensures { map words.shown result.now ≡ spec.commands }
@@ -43,7 +44,8 @@ pub(crate) fn commands() -> &'static [Entry<Verb>]
     &COMMANDS
 }
 
-/// Returns the command with the name `word`, if there is one.
+/// Returns the command with the name `word`, argument 0 of a command line, or None if there is none. Used by `named`
+/// and `first_command`.
 pub(crate) fn verb_of(word: &str) -> Option<Verb>
     ensures { result ≡ words.meant spec.commands word.now }
 {

@@ -11,7 +11,8 @@ pub(crate) struct Entry<T>(
     pub(crate) T,
 );
 
-/// Returns the meaning of the first of `entries` that has `word` as one of its spellings, if there is one.
+/// Returns the meaning of the first of `entries` that has `word`, an argument, as one of its spellings, or None. Used
+/// for commands, modes of `extract` and options of `propedit`.
 pub(crate) fn meant<T: Copy>(entries: &[Entry<T>], word: &str) -> Option<T>
     ensures { result ≡ spec.meant (map spec.shown entries.now) word.now }
 {

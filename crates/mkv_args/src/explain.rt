@@ -16,7 +16,8 @@ use word_values::{ArgsEnd, Why, end_at, name, refused, word_at};
 /// Word of a message, with the lines of its page.
 type Topic = (&'static str, &'static [&'static str]);
 
-/// Returns the lines that `explain` prints: the page of the word `name`, or the list of all words that have a page.
+/// Returns the lines that the command `explain` prints: the page of the word `name`, or the list of all words that have
+/// a page if it is None.
 pub fn explained(name: Option<&str>) -> &'static [&'static str]
     ensures { map (λ line. line.now) result.now ≡ spec.explained (option_map (λ n. n.now) name.entry) }
 {
@@ -26,7 +27,7 @@ pub fn explained(name: Option<&str>) -> &'static [&'static str]
     }
 }
 
-/// Returns the lines of the list of all words that `explain` knows.
+/// Returns the lines of the list of all words that `explain` knows. Used by `explained`.
 #[tactic(auto, unfolding(crate::specs::Explain::topic_list))]
 fn topic_list() -> &'static [&'static str]
     ensures { map (λ line. line.now) result.now ≡ spec.topic_list }
@@ -34,7 +35,7 @@ fn topic_list() -> &'static [&'static str]
     &TOPIC_LIST
 }
 
-/// Returns the page of the word `name`, in upper or lower case, if it has one.
+/// Returns the page of the word `name`, in upper or lower case, or None if it has none. Used by `explain`.
 fn page_of(name: &str) -> Option<&'static [&'static str]>
     ensures { option_map spec.lines_of result ≡ spec.page_of name.now }
 {
@@ -47,7 +48,8 @@ fn page_of(name: &str) -> Option<&'static [&'static str]>
         .or(page_among(general_topics(), name))
 }
 
-/// Returns the page of the word `name`, in upper or lower case, if one of `topics` has this name.
+/// Returns the page of the word `name`, in upper or lower case, if one of `topics` has this name, or None. Used by
+/// `page_of`.
 fn page_among(topics: &[Topic], name: &str) -> Option<&'static [&'static str]>
     ensures { option_map spec.lines_of result ≡ spec.page_among (map spec.shown topics.now) name.now }
 {
@@ -59,7 +61,7 @@ fn page_among(topics: &[Topic], name: &str) -> Option<&'static [&'static str]>
     None
 }
 
-/// Checks whether `a` and `b` are equal, except for the case of ASCII letters.
+/// Checks whether `a` and `b` are equal, except for the case of ASCII letters. Used by `page_among`.
 fn is_same_name(a: &str, b: &str) -> bool
     ensures { result ≡ spec.is_same_name a.now b.now }
 {
@@ -67,6 +69,7 @@ fn is_same_name(a: &str, b: &str) -> bool
 }
 
 /// Returns the topics of the group 'command line'. Each group has a function, since the prover refuses one for all.
+/// Used by `page_of`.
 #[tactic(auto, unfolding(crate::specs::Explain::word_topics))]
 fn word_topics() -> &'static [Topic]
     ensures { map spec.shown result.now ≡ spec.word_topics }
@@ -74,7 +77,7 @@ fn word_topics() -> &'static [Topic]
     &WORD_TOPICS
 }
 
-/// Returns the topics of the group 'refused'.
+/// Returns the topics of the group 'refused', reasons why a run ends before it writes an output. Used by `page_of`.
 #[tactic(auto, unfolding(crate::specs::Explain::refusal_topics))]
 fn refusal_topics() -> &'static [Topic]
     ensures { map spec.shown result.now ≡ spec.refusal_topics }
@@ -82,7 +85,7 @@ fn refusal_topics() -> &'static [Topic]
     &REFUSAL_TOPICS
 }
 
-/// Returns the topics of the group 'edits'.
+/// Returns the topics of the group 'edits', reasons why an edit or a new index is refused. Used by `page_of`.
 #[tactic(auto, unfolding(crate::specs::Explain::edit_topics))]
 fn edit_topics() -> &'static [Topic]
     ensures { map spec.shown result.now ≡ spec.edit_topics }
@@ -90,7 +93,7 @@ fn edit_topics() -> &'static [Topic]
     &EDIT_TOPICS
 }
 
-/// Returns the topics of the group 'in a file'.
+/// Returns the topics of the group 'in a file', kinds of damage. Used by `page_of`.
 #[tactic(auto, unfolding(crate::specs::Explain::damage_topics))]
 fn damage_topics() -> &'static [Topic]
     ensures { map spec.shown result.now ≡ spec.damage_topics }
@@ -98,7 +101,7 @@ fn damage_topics() -> &'static [Topic]
     &DAMAGE_TOPICS
 }
 
-/// Returns the topics of the group 'warnings'.
+/// Returns the topics of the group 'warnings', words of warnings and notes. Used by `page_of`.
 #[tactic(auto, unfolding(crate::specs::Explain::warning_topics))]
 fn warning_topics() -> &'static [Topic]
     ensures { map spec.shown result.now ≡ spec.warning_topics }
@@ -106,7 +109,7 @@ fn warning_topics() -> &'static [Topic]
     &WARNING_TOPICS
 }
 
-/// Returns the topics of the group 'results'.
+/// Returns the topics of the group 'results', words of messages about what a run has done. Used by `page_of`.
 #[tactic(auto, unfolding(crate::specs::Explain::result_topics))]
 fn result_topics() -> &'static [Topic]
     ensures { map spec.shown result.now ≡ spec.result_topics }
@@ -114,7 +117,7 @@ fn result_topics() -> &'static [Topic]
     &RESULT_TOPICS
 }
 
-/// Returns the topics of the group 'general'.
+/// Returns the topics of the group 'general', words that begin messages, and the exit status. Used by `page_of`.
 #[tactic(auto, unfolding(crate::specs::Explain::general_topics))]
 fn general_topics() -> &'static [Topic]
     ensures { map spec.shown result.now ≡ spec.general_topics }
@@ -122,7 +125,8 @@ fn general_topics() -> &'static [Topic]
     &GENERAL_TOPICS
 }
 
-/// Parses the command line `explain [NAME]`; `explain` is argument 0 of `words`. Fails if NAME has no page.
+/// Parses the command line `explain [NAME]`; `explain` is argument 0 of `words`. Fails if NAME has no page. Used by
+/// `first_command`.
 #[tactic(auto, unfolding(crate::specs::Explain::explain))]
 pub(crate) fn explain(alloc: Global, words: &[String]) -> Result<Command, ArgsEnd>
     ensures { Tells result (spec.explain (texts words.now)) }

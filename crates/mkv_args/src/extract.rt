@@ -18,7 +18,7 @@ use word_values::{
 };
 
 /// Parses the command line `extract FILE MODE ARGS`; `extract` is argument 0 of `words`. Fails with the number of the
-/// first wrong argument and the reason.
+/// first wrong argument and the reason. Used by `first_command`.
 #[tactic(auto, unfolding(crate::specs::Extract::extract))]
 pub(crate) fn extract(alloc: Global, words: &[String]) -> Result<Command, ArgsEnd>
     ensures { Tells result (spec.extract (texts words.now)) }
@@ -51,7 +51,7 @@ static MODES: [Entry<Mode>; 5] = [
     Entry("", "chapters", Mode::Chapters),
 ];
 
-/// Returns the modes of `extract` with their names.
+/// Returns the modes of `extract` with their names, as a table, which argument 2 of a command line is looked up in.
 #[tactic(auto, unfolding(crate::specs::Extract::modes))]
 pub(crate) fn modes() -> &'static [Entry<Mode>]
     ensures { map entry.shown result.now ≡ spec.modes }
@@ -59,14 +59,14 @@ pub(crate) fn modes() -> &'static [Entry<Mode>]
     &MODES
 }
 
-/// Returns the mode of `extract` with the name `word`, if there is one.
+/// Returns the mode of `extract` with the name `word`, or None if there is none. Used by `job`.
 fn mode_of(word: &str) -> Option<Mode>
     ensures { result ≡ entry.meant spec.modes word.now }
 {
     meant(modes(), word)
 }
 
-/// Parses the arguments of `extract` after the mode `mode`, which is argument 2 of `words`.
+/// Parses the arguments of `extract` after the mode `mode`, which is argument 2 of `words`. Used by `extract`.
 #[tactic(auto, unfolding(crate::specs::Extract::job, crate::specs::Extract::job_of))]
 fn job(alloc: Global, mode: &str, words: &[String]) -> Result<Job, ArgsEnd>
     ensures { Tells result (spec.job mode.now (texts words.now)) }
@@ -88,7 +88,8 @@ fn job(alloc: Global, mode: &str, words: &[String]) -> Result<Job, ArgsEnd>
     }
 }
 
-/// Parses `[--raw or --fullraw] ID:OUT..`, the arguments of `extract` from argument 3 onwards, for the mode `tracks`.
+/// Parses `[--raw or --fullraw] ID:OUT..`, the arguments of `extract` from argument 3 of `words` onwards, for the mode
+/// `tracks`. Used by `job`.
 #[tactic(auto, unfolding(crate::specs::Extract::tracks))]
 fn tracks(alloc: Global, words: &[String]) -> Result<Job, ArgsEnd>
     ensures { Tells result (spec.tracks (texts words.now)) }
@@ -110,7 +111,8 @@ fn tracks(alloc: Global, words: &[String]) -> Result<Job, ArgsEnd>
     }
 }
 
-/// Parses `--simple OUT`, the arguments of `extract` from argument 3 onwards, for the mode `chapters`.
+/// Parses `--simple OUT`, the arguments of `extract` from argument 3 of `words` onwards, for the mode `chapters`. Used
+/// by `job`.
 #[tactic(auto, unfolding(crate::specs::Extract::chapters))]
 fn chapters(alloc: Global, words: &[String]) -> Result<Job, ArgsEnd>
     ensures { Tells result (spec.chapters (texts words.now)) }
@@ -129,7 +131,8 @@ fn chapters(alloc: Global, words: &[String]) -> Result<Job, ArgsEnd>
 }
 
 /// Parses one or more targets `ID:OUT`, from argument number `start` of `words` to the last one, with IDs of at least
-/// `least`. Track IDs count from 0, IDs of attached files from 1.
+/// `least`. Track IDs count from 0, IDs of attached files from 1. Each mode of `extract` but `chapters` has such
+/// targets.
 #[tactic(auto, unfolding(crate::specs::Extract::targets))]
 fn targets(
     alloc: Global,
@@ -151,8 +154,8 @@ fn targets(
     Ok(list)
 }
 
-/// Parses `word`, argument number `at`, as a target `ID:OUT`, and adds `OUT` to `names`, the names of earlier targets.
-/// Refuses an ID less than `least`, and a name that is one of `names`.
+/// Parses `word`, argument number `at`, as a target `ID:OUT` of `extract`, and adds `OUT` to `names`, the names of
+/// earlier targets. Refuses an ID less than `least`, and a name that is one of `names`. Used by `targets`.
 #[tactic(auto, unfolding(crate::specs::Extract::target))]
 fn target<'a>(
     alloc: Global,
@@ -178,7 +181,7 @@ fn target<'a>(
     })
 }
 
-/// Adds the name `out` of an output to `names`, and returns true if it is new.
+/// Adds the name `out` of an output of `extract` to `names`, and returns true if it is new. Used by `target`.
 fn add<'a>(names: &mut IndexSet<&'a str>, out: &'a str) -> Result<bool, AllocError>
     ensures { IfOk result (AddsName names.old.keys names.new.keys out.now) }
 {

@@ -10,14 +10,15 @@ use crate::pages::{
     RECOVER_PAGE, REINDEX_PAGE,
 };
 
-/// Returns the line of `--version`: the name of the program and its version.
+/// Returns the line that `--version` prints: the name of the program and its version. Used by `version`.
 pub fn version_line() -> &'static str
     ensures { result.now ≡ spec.version_line }
 {
     "mkvsuite 0.1.0"
 }
 
-/// Returns the lines of `--help`: the page of the command `about`, or the overview of all commands.
+/// Returns the lines that `--help` prints: the page of the command `about`, or the overview of all commands if it is
+/// None.
 pub fn usage_lines(about: Option<Verb>) -> &'static [&'static str]
     ensures exact { map (λ line. line.now) result.now ≡ spec.usage_lines about }
     ensures narrow { AllPass (λ line. nat_le (length line) 79) (map (λ line. line.now) result.now) }
@@ -25,7 +26,8 @@ pub fn usage_lines(about: Option<Verb>) -> &'static [&'static str]
     lines_of(about)
 }
 
-// Returns the lines of `--help`: the page of the command `about`, or the overview of all commands.
+// Returns the lines of `--help`: the page of the command `about`, or the overview of all commands if it is None. Used
+// by `usage_lines`.
 #[tactic(auto, unfolding(crate::specs::Help::usage_lines))]
 fn lines_of(about: Option<Verb>) -> &'static [&'static str]
     ensures { map (λ line. line.now) result.now ≡ spec.usage_lines about }

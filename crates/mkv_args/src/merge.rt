@@ -11,6 +11,7 @@ use std::alloc::Global;
 use word_values::{ArgsEnd, Why, is_option, name, refused, word_at};
 
 /// Parses the command line of `merge` with its options and files, or `merge -J FILE`; `merge` is argument 0 of `words`.
+/// Used by `first_command`.
 #[tactic(auto, unfolding(crate::specs::Merge::merge))]
 pub(crate) fn merge(alloc: Global, words: &[String]) -> Result<Command, ArgsEnd>
     ensures { Tells result (spec.merge (texts words.now)) }
@@ -23,7 +24,8 @@ pub(crate) fn merge(alloc: Global, words: &[String]) -> Result<Command, ArgsEnd>
     })
 }
 
-/// Parses the command line `merge -J FILE`, which asks for the identification of FILE; no other argument is allowed.
+/// Parses the command line `merge -J FILE`, which asks for the identification of FILE; no other argument is allowed in
+/// `words`. Used by `merge`.
 #[tactic(auto, unfolding(crate::specs::Merge::identify))]
 fn identify(alloc: Global, words: &[String]) -> Result<Command, ArgsEnd>
     ensures { Tells result (spec.identify (texts words.now)) }
@@ -43,7 +45,7 @@ fn identify(alloc: Global, words: &[String]) -> Result<Command, ArgsEnd>
 }
 
 /// Refuses `word`, argument number `at` of `merge -J FILE`, which can't be there. The reason is an unknown option or an
-/// argument too many.
+/// argument too many. Used by `identify`.
 #[tactic(auto, unfolding(crate::specs::Merge::beside))]
 fn beside(at: usize, word: &str) -> Result<Command, ArgsEnd>
     ensures { Tells result (spec.beside at word.now) }

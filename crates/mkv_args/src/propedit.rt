@@ -42,7 +42,8 @@ pub enum EditOption {
     },
 }
 
-/// Parses the command line `propedit FILE` with sections and their edits; `propedit` is argument 0 of `words`.
+/// Parses the command line `propedit FILE` with sections and their edits; `propedit` is argument 0 of `words`. Used by
+/// `first_command`.
 #[tactic(auto, unfolding(crate::specs::Propedit::propedit))]
 pub(crate) fn propedit(alloc: Global, words: &[String]) -> Result<Command, ArgsEnd>
     ensures { Tells result (spec.propedit (texts words.now)) }
@@ -56,7 +57,7 @@ pub(crate) fn propedit(alloc: Global, words: &[String]) -> Result<Command, ArgsE
 }
 
 /// Parses the options of `propedit`, from argument 2 of `words` onwards, and returns the edits of all sections, in
-/// order. Each section must have an edit.
+/// order. Each section must have an edit. Used by `propedit`.
 #[tactic(auto, unfolding(crate::specs::Propedit::edits))]
 fn edits(alloc: Global, words: &[String]) -> Result<List<Edit>, ArgsEnd>
     ensures { Tells result (spec.edits (texts words.now)) }
@@ -94,7 +95,7 @@ fn edits(alloc: Global, words: &[String]) -> Result<List<Edit>, ArgsEnd>
 }
 
 /// Parses the first section of `propedit`, at the arguments 2 and 3 of `words`; the first option after FILE must be
-/// `--edit`.
+/// `--edit`. Used by `edits`.
 #[tactic(auto, unfolding(crate::specs::Propedit::first_section))]
 fn first_section(words: &[String]) -> Result<Selector, ArgsEnd>
     ensures { Tells result (spec.first_section (texts words.now)) }
@@ -108,8 +109,8 @@ fn first_section(words: &[String]) -> Result<Selector, ArgsEnd>
     }
 }
 
-/// Parses the option `word` of `propedit`, argument number `at`, with its value, the next argument. `edited` is true if
-/// the section before it has an edit.
+/// Parses the option `word` of `propedit`, argument number `at` of `words`, with its value, the next argument. `edited`
+/// is true if the section before it has an edit. Used by `edits`.
 fn said(
     alloc: Global,
     words: &[String],
@@ -126,8 +127,8 @@ fn said(
     }
 }
 
-/// Checks whether an option of the kind `step` is allowed after the options before it. A section must have an edit
-/// (`edited`) before the next section begins.
+/// Checks whether an option of `propedit` of the kind `step` is allowed after the options before it. A section must
+/// have an edit (`edited`) before the next section begins. Used by `said`.
 fn may_follow(edited: bool, step: EditOptionKind) -> bool
     ensures { result ≡ spec.may_follow edited step }
 {
@@ -145,7 +146,8 @@ static STEPS: [Entry<EditOptionKind>; 4] = [
     Entry("-d", "--delete", EditOptionKind::Edit(Change::Delete)),
 ];
 
-/// Returns the options of `propedit` with their spellings, as a table.
+/// Returns the options of `propedit` with their spellings and kinds, as a table, which options of a command line are
+/// looked up in.
 #[tactic(auto, unfolding(crate::specs::Propedit::steps))]
 pub(crate) fn steps() -> &'static [Entry<EditOptionKind>]
     ensures { map entry.shown result.now ≡ spec.steps }
@@ -153,7 +155,7 @@ pub(crate) fn steps() -> &'static [Entry<EditOptionKind>]
     &STEPS
 }
 
-/// Returns the kind of the option `word` of `propedit`, if it is one.
+/// Returns the kind of the option `word` of `propedit`, or None if it isn't one.
 #[tactic(auto, unfolding(crate::specs::Propedit::step_of))]
 fn step_of(word: &str) -> Option<EditOptionKind>
     ensures { result ≡ spec.step_of word.now }
@@ -161,8 +163,8 @@ fn step_of(word: &str) -> Option<EditOptionKind>
     meant(steps(), word)
 }
 
-/// Parses the argument with number `at` as the value of an option of the kind `step`. Fails if it is missing or doesn't
-/// have the form.
+/// Parses the argument of `words` with number `at` as the value of an option of `propedit` of the kind `step`. Fails if
+/// it is missing or doesn't have the form. Used by `said`.
 fn saying_at(
     alloc: Global,
     words: &[String],
@@ -178,7 +180,8 @@ fn saying_at(
     }
 }
 
-/// Parses `word` as the value of an option of the kind `step`: a section, the name of a property, or `NAME=VALUE`.
+/// Parses `word` as the value of an option of `propedit` of the kind `step`: a section, the name of a property, or
+/// `NAME=VALUE`. Used by `saying_at`.
 fn meaning(alloc: Global, step: EditOptionKind, word: &str) -> Result<EditOption, ValueEnd>
     ensures { ReadsValue result (spec.meaning step word.now) }
 {
@@ -196,7 +199,8 @@ fn meaning(alloc: Global, step: EditOptionKind, word: &str) -> Result<EditOption
     }
 }
 
-/// Parses `word` as `NAME=VALUE`, for the change `change`; the name ends at the first `=`.
+/// Parses `word` as `NAME=VALUE`, for the change `change` of a property; the name ends at the first `=`. Used by
+/// `meaning`.
 fn changed(alloc: Global, change: Change, word: &str) -> Result<EditOption, ValueEnd>
     ensures { ReadsValue result (spec.changed change word.now) }
 {
@@ -210,7 +214,8 @@ fn changed(alloc: Global, change: Change, word: &str) -> Result<EditOption, Valu
     })
 }
 
-/// Parses `word` as a section: `info`, `track:N`, `track:vN`, `track:aN`, `track:sN`, `track:=UID` or `track:@NUMBER`.
+/// Parses `word`, the value of `--edit` of `propedit`, as a section: `info`, `track:N`, `track:vN`, `track:aN`,
+/// `track:sN`, `track:=UID` or `track:@NUMBER`. Returns None for another form.
 #[tactic(auto, unfolding(crate::specs::Propedit::selector))]
 fn selector(word: &[u8]) -> Option<Selector>
     ensures { result ≡ spec.selector word.now }
@@ -223,7 +228,7 @@ fn selector(word: &[u8]) -> Option<Selector>
 }
 
 /// Parses `word`, the part of a section after `track:`. It is a position, a letter of a type and a position, `=` and a
-/// TrackUID, or `@` and a TrackNumber.
+/// TrackUID, or `@` and a TrackNumber. Used by `selector`.
 #[tactic(auto, unfolding(crate::specs::Propedit::track))]
 fn track(word: &[u8]) -> Option<Selector>
     ensures { result ≡ spec.track word.now }
@@ -241,7 +246,7 @@ fn track(word: &[u8]) -> Option<Selector>
 }
 
 /// Returns the selector of a track by its position among the tracks with the TrackType `kind`; `word` is the position,
-/// counted from 1.
+/// counted from 1. Returns None for another form. Used by `track`.
 #[tactic(auto, unfolding(crate::specs::Propedit::typed))]
 fn typed(kind: u64, word: &[u8]) -> Option<Selector>
     ensures { result ≡ spec.typed kind word.now }
@@ -252,7 +257,7 @@ fn typed(kind: u64, word: &[u8]) -> Option<Selector>
     })
 }
 
-/// Parses `word` as a position of a track, counted from 1.
+/// Parses `word` as a position of a track, counted from 1. Returns None for another form. Used by `track` and `typed`.
 #[tactic(auto, unfolding(crate::specs::Propedit::place))]
 fn place(word: &[u8]) -> Option<u64>
     ensures { result ≡ spec.place word.now }

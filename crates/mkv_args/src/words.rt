@@ -18,7 +18,7 @@ use std::alloc::Global;
 use word_values::{ArgsEnd, Why, due_at, end_at, file_at, is_option, name, refused, word_at};
 
 /// Returns the command that the arguments `words` ask for, or the first wrong argument and the reason. Arguments count
-/// from 0, without the program's own name, so that the command is argument 0.
+/// from 0, without the program's own name, so that the command is argument 0. Each run begins with it.
 pub fn read_words(alloc: Global, words: &Vec<String>) -> Result<Command, ArgsEnd>
     ensures exact { Tells result (spec.command (texts words.now.items)) }
 
@@ -28,8 +28,8 @@ pub fn read_words(alloc: Global, words: &Vec<String>) -> Result<Command, ArgsEnd
     command(alloc, words.as_slice())
 }
 
-/// Returns the command that the arguments `words` ask for, or the first wrong argument and the reason, as `read_words`
-/// promises.
+/// Returns the command that the arguments `words` ask for, or the first wrong argument and the reason. Used by
+/// `read_words`, which promises the same.
 #[tactic(auto, unfolding(crate::specs::Words::command))]
 fn command(alloc: Global, words: &[String]) -> Result<Command, ArgsEnd>
     ensures { Tells result (spec.command (texts words.now)) }
@@ -43,14 +43,15 @@ fn command(alloc: Global, words: &[String]) -> Result<Command, ArgsEnd>
     }
 }
 
-/// Checks whether `-h` is the only argument.
+/// Checks whether `-h` is the only argument of `words`. Used by `command`.
 fn is_short_help(words: &[String]) -> bool
     ensures { result ≡ spec.is_short_help (texts words.now) }
 {
     word_at(words, 0) == Some("-h") && word_at(words, 1).is_none()
 }
 
-/// Returns the command that `COMMAND --help` asks the page of, if these are the only two arguments.
+/// Returns the command that `COMMAND --help` asks the page of, if `words` has only these two arguments, or None. Used
+/// by `command`.
 fn helped(words: &[String]) -> Option<Verb>
     ensures { result ≡ spec.helped (texts words.now) }
 {
@@ -61,14 +62,15 @@ fn helped(words: &[String]) -> Option<Verb>
     }
 }
 
-/// Returns the command with the name `word`, if there is one, unless `word` looks like an option.
+/// Returns the command with the name `word`, or None if there is none or `word` looks like an option. Used by `helped`.
 fn named(word: &str) -> Option<Verb>
     ensures { result ≡ spec.named word.now }
 {
     if is_option(word) { None } else { verb_of(word) }
 }
 
-/// Parses the command line `words` for the command that argument 0 names.
+/// Parses the command line `words` for the command that argument 0 names. Fails with the number of the first wrong
+/// argument and the reason. Used by `command`.
 #[tactic(auto, unfolding(crate::specs::Words::first_command, crate::specs::Words::command_named))]
 fn first_command(alloc: Global, words: &[String]) -> Result<Command, ArgsEnd>
     ensures { Tells result (spec.first_command (texts words.now)) }
@@ -91,7 +93,7 @@ fn first_command(alloc: Global, words: &[String]) -> Result<Command, ArgsEnd>
     }
 }
 
-/// Parses the command line `--help`, which has no other argument.
+/// Parses the command line `--help`, which has no other argument in `words`. Used by `first_command`.
 #[tactic(auto, unfolding(crate::specs::Words::alone))]
 fn help(words: &[String]) -> Result<Command, ArgsEnd>
     ensures { Tells result (spec.alone (Command.Help None) (texts words.now)) }
@@ -100,7 +102,7 @@ fn help(words: &[String]) -> Result<Command, ArgsEnd>
     Ok(Command::Help { about: None })
 }
 
-/// Parses the command line `--version`, which has no other argument.
+/// Parses the command line `--version`, which has no other argument in `words`. Used by `first_command`.
 #[tactic(auto, unfolding(crate::specs::Words::alone))]
 fn version(words: &[String]) -> Result<Command, ArgsEnd>
     ensures { Tells result (spec.alone Command.Version (texts words.now)) }
@@ -109,7 +111,7 @@ fn version(words: &[String]) -> Result<Command, ArgsEnd>
     Ok(Command::Version)
 }
 
-/// Parses the command line `info FILE`; `info` is argument 0 of `words`.
+/// Parses the command line `info FILE`; `info` is argument 0 of `words`. Used by `first_command`.
 #[tactic(auto, unfolding(crate::specs::Words::info))]
 fn info(alloc: Global, words: &[String]) -> Result<Command, ArgsEnd>
     ensures { Tells result (spec.info (texts words.now)) }
@@ -120,7 +122,7 @@ fn info(alloc: Global, words: &[String]) -> Result<Command, ArgsEnd>
     })
 }
 
-/// Parses the command line `recover FILE`; `recover` is argument 0 of `words`.
+/// Parses the command line `recover FILE`; `recover` is argument 0 of `words`. Used by `first_command`.
 #[tactic(auto, unfolding(crate::specs::Words::recover))]
 fn recover(alloc: Global, words: &[String]) -> Result<Command, ArgsEnd>
     ensures { Tells result (spec.recover (texts words.now)) }
@@ -131,7 +133,7 @@ fn recover(alloc: Global, words: &[String]) -> Result<Command, ArgsEnd>
     })
 }
 
-/// Parses the command line `reindex FILE`; `reindex` is argument 0 of `words`.
+/// Parses the command line `reindex FILE`; `reindex` is argument 0 of `words`. Used by `first_command`.
 #[tactic(auto, unfolding(crate::specs::Words::reindex))]
 fn reindex(alloc: Global, words: &[String]) -> Result<Command, ArgsEnd>
     ensures { Tells result (spec.reindex (texts words.now)) }
@@ -142,7 +144,8 @@ fn reindex(alloc: Global, words: &[String]) -> Result<Command, ArgsEnd>
     })
 }
 
-/// Parses the command line `generate N PREFIX`, with N from 1 to 100000; `generate` is argument 0 of `words`.
+/// Parses the command line `generate N PREFIX`, with N from 1 to 100000; `generate` is argument 0 of `words`. Used by
+/// `first_command`.
 #[tactic(auto, unfolding(crate::specs::Words::generate))]
 fn generate(alloc: Global, words: &[String]) -> Result<Command, ArgsEnd>
     ensures { Tells result (spec.generate (texts words.now)) }
@@ -156,7 +159,8 @@ fn generate(alloc: Global, words: &[String]) -> Result<Command, ArgsEnd>
     })
 }
 
-/// Returns the number in argument `at` of `words`, the N of `generate`, from 1 to 100000.
+/// Returns the number in argument `at` of `words`, the N of `generate`, from 1 to 100000. Fails for another form. Used
+/// by `generate`.
 #[tactic(auto, unfolding(crate::specs::Words::blocks_at))]
 fn blocks_at(words: &[String], at: usize) -> Result<u32, ArgsEnd>
     ensures { Tells result (spec.blocks_at (texts words.now) at) }
@@ -167,7 +171,7 @@ fn blocks_at(words: &[String], at: usize) -> Result<u32, ArgsEnd>
     }
 }
 
-/// Returns the name in argument 1, which must be the last one, for a command with only a FILE.
+/// Returns the name in argument 1 of `words`, which must be the last one. Used by `info`, `recover` and `reindex`.
 #[tactic(auto, unfolding(crate::specs::Words::only_file))]
 fn only_file(words: &[String]) -> Result<&str, ArgsEnd>
     ensures { TellsOf (λ w. w.now) result (spec.only_file (texts words.now)) }

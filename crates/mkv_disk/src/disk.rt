@@ -47,8 +47,8 @@ pub trait Disk: Reads {
     /// Number of calls that failed to write, truncate or sync.
     ghost writing_faults: { Self → ℕ };
 
-    /// Opens the file `name` and its journal, `name` with `.mkvedit` appended. Creates an empty journal if there is
-    /// none.
+    /// Opens the file `name` and its journal, `name` with `.mkvedit` appended. `propedit`, `reindex` and `recover`
+    /// begin with it. Creates an empty journal if there is none.
     fn open_pair(&mut self, name: &str) -> Result<(), OpenFault>
         ensures missing { IsTrue told → IsErrOf result OpenFault.Missing ↔ (is_there self.old name.now ≡ false) }
         ensures opened { OnOk result (OpensPair Self.Reads opened self.new name.now) }
@@ -61,7 +61,8 @@ pub trait Disk: Reads {
         ensures cause { HasCause is_open_failure (Self.reading_faults self.old) (Self.reading_faults self.new) result }
         ensures counts { KeepsOtherCounts Self.Reads writing_faults self.old self.new };
 
-    /// Writes `bytes` to `file` from the offset `at` on, over its bytes and past its end.
+    /// Writes `bytes` to `file`, the edited file or its journal, from the offset `at` on, over its bytes and past its
+    /// end. An edit writes its journal and then the file so.
     fn write_at(&mut self, file: FileId, at: u64, bytes: &[u8]) -> Result<(), Failed>
         requires live { IsTrue ((Self.files (Self.standing self.old)).live file.n) }
         requires inside { IsTrue told → at ≤ length (file_of file.n (pair self.old)).reads }
@@ -74,7 +75,8 @@ pub trait Disk: Reads {
         ensures cause { HasCause is_failure (writing_faults self.old) (writing_faults self.new) result }
         ensures unread { ReadsNothing Self.Reads self.old self.new };
 
-    /// Truncates `file` to its first `len` bytes.
+    /// Truncates `file`, the edited file or its journal, to its first `len` bytes. An edit truncates its journal to one
+    /// byte with it.
     fn cut(&mut self, file: FileId, len: u64) -> Result<(), Failed>
         requires live { IsTrue ((Self.files (Self.standing self.old)).live file.n) }
         requires inside { IsTrue told → len ≤ length (file_of file.n (pair self.old)).reads }
@@ -87,7 +89,7 @@ pub trait Disk: Reads {
         ensures cause { HasCause is_failure (writing_faults self.old) (writing_faults self.new) result }
         ensures unread { ReadsNothing Self.Reads self.old self.new };
 
-    /// Syncs `file`: after Ok a crash leaves exactly the bytes that reads return.
+    /// Syncs `file`: after Ok a crash leaves exactly the bytes that reads return. An edit does this between its steps.
     fn sync(&mut self, file: FileId) -> Result<(), Failed>
         requires { IsTrue ((Self.files (Self.standing self.old)).live file.n) }
         ensures ok { IsTrue told → OnOk result (pair self.new ≡ on file.n all_synced (pair self.old)) }

@@ -17,19 +17,19 @@ use Rattle.mkv_lines.specs.declared.status.CommandEnd.{CommandEnd}
 use Rattle.mkv_extract.specs.Extract.{extract_verdict}
 
 -- The call has the outcome of `extract` for the file `name` and `job`. `files` and `files'` are the states of the files before and after, `report`
--- and `report'` of the report. It is promised if the contents are visible to the proof.
+-- and `report'` of the report. It is promised if the contents are visible to the proof. The contract of `extract_of` states it.
 abbrev pub Takes : {F P : Type 0} → ReadsGhosts F → FilesGhosts F → ReportGhosts P → F → F → P → P → Result Status CommandEnd → List ℕ → Job → Type 0
 Takes r f p files files' report report' result name job =
     IfVisible (f.names files) (λ world. Fulfils r f p files files' report report' result (extract_verdict world name job))
 
--- `job` can be done on `file`, which is open in the state `files`, and no output has its name.
+-- `job` can be done on `file`, which is open in the state `files`, and no output has its name. The condition of `extract_settled` and `extract_file`.
 pub record CanTake {F : Type 0} (r : ReadsGhosts F) (f : FilesGhosts F) (files : F) (file : FileId) (job : Job) : Type 0 where
   pub done : CanBeDone job
   pub live : IsLive r files file
   pub other : AreOthers (f.holder files file.n) (names_for job)
 
 -- `job` can be done on `source`, which is open in the state `files`. The frames of the tracks that the job names can be used, and no output has the
--- name of the source.
+-- name of the source. The condition of `extract_job` and what it calls.
 pub record CanTakeFrom {F : Type 0} (r : ReadsGhosts F) (f : FilesGhosts F) (files : F) (source : Source) (job : Job) : Type 0 where
   pub done : CanBeDone job
   pub sound : IsSource r files source

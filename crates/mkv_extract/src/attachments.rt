@@ -19,6 +19,7 @@ use std::alloc::Global;
 
 /// Extracts the attached files that `targets` name, each to its own file, from `source`, the open file `name`, and
 /// prints the messages. Attached files are numbered from 1. Those that the file lacks are warned of first.
+/// `extract_job` calls it for a job that names attached files.
 pub fn extract_attachments<F: Files, P: Report>(
     alloc: Global,
     name: &str,

@@ -19,7 +19,7 @@ use mkv_lines::{CommandEnd, Line, Status, say, stop_of};
 use std::alloc::Global;
 
 /// Extracts the chapters of `source`, the open file `name`, as OGM simple chapters to the file `out`, and prints the
-/// messages.
+/// messages. `extract_job` calls it for a job that names a file for chapters.
 pub fn extract_chapters<F: Files, P: Report>(
     alloc: Global,
     name: &str,
@@ -42,7 +42,7 @@ pub fn extract_chapters<F: Files, P: Report>(
 }
 
 /// Prints the message that the output `out` is complete, and a warning of the damage of the file `name` at level 1, if
-/// any. Returns the status of the command.
+/// any. Returns the status of the command. For `extract_chapters`, when `extract` has written chapters.
 fn tell_output<P: Report>(
     alloc: Global,
     name: &str,

@@ -16,7 +16,8 @@ use requests::Target;
 use std::alloc::Global;
 
 /// Extracts the cue points of the tracks that `targets` name, each track's to its own file, and prints the messages.
-/// `source` is the open file `name`. Tracks that it lacks are warned of first.
+/// `source` is the open file `name`. Tracks that it lacks are warned of first. `extract_job` calls it for a job that
+/// asks for cue points.
 pub fn extract_cues<F: Files, P: Report>(
     alloc: Global,
     name: &str,

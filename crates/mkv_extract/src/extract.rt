@@ -27,8 +27,9 @@ use requests::Job;
 use sidecar_edit::is_pending;
 use std::alloc::{AllocError, Global};
 
-/// Extracts from the file `name` what `job` asks for, each target to its own file. The outputs must have different
-/// names. It opens the file, checks it, writes the outputs and closes it, in any case.
+/// Runs `extract`: extracts from the file `name` what `job` asks for, each target to its own file. The outputs must
+/// have different names. It opens the file, checks it, writes the outputs and closes it, in any case. Called once the
+/// command line is read; prints messages to `report` and returns the exit status.
 pub fn extract_of<F: Files, P: Report>(
     alloc: Global,
     name: &str,
@@ -62,7 +63,7 @@ pub fn extract_of<F: Files, P: Report>(
 }
 
 /// Extracts from the open file `file` with the name `name` what `job` asks for. If its journal has a pending edit, it
-/// prints only an error, since the file may be half written.
+/// prints only an error, since the file may be half written. For `extract_of`, while `extract` runs.
 fn extract_settled<F: Files, P: Report>(
     alloc: Global,
     name: &str,
@@ -84,7 +85,7 @@ fn extract_settled<F: Files, P: Report>(
 }
 
 /// Reads the open file `file` with the name `name` up to its blocks, and extracts what `job` asks for. A file that is
-/// refused gets only an error line.
+/// refused gets only an error line. For `extract_settled`, while `extract` runs.
 fn extract_file<F: Files, P: Report>(
     alloc: Global,
     name: &str,
@@ -109,7 +110,8 @@ fn extract_file<F: Files, P: Report>(
     }
 }
 
-/// Extracts from `source`, the open file `name`, what `job` asks for, by the kind of the job.
+/// Extracts from `source`, the open file `name`, what `job` asks for, by the kind of the job. For `extract_file`, while
+/// `extract` runs.
 fn extract_job<F: Files, P: Report>(
     alloc: Global,
     name: &str,
@@ -142,7 +144,7 @@ fn extract_job<F: Files, P: Report>(
 }
 
 /// Extracts the tracks that `job` names from `source`, the open file `name`. If one of them can't be written in the
-/// job's form, it prints only an error.
+/// job's form, it prints only an error. For `extract_job`, while `extract` runs.
 fn extract_fit<F: Files, P: Report>(
     alloc: Global,
     name: &str,
@@ -165,7 +167,8 @@ fn extract_fit<F: Files, P: Report>(
     }
 }
 
-/// Returns the error line for the track of the file `name` that can't be extracted, as `refusal` has it.
+/// Returns the error line for the track of the file `name` that can't be extracted, as `refusal` has it. For
+/// `extract_fit`, while `extract` runs.
 fn line_of(name: &str, refusal: Refusal) -> Line<'_>
     ensures { text_of result ≡ unfit_line name.now refusal.why refusal.track }
 {
@@ -177,7 +180,7 @@ fn line_of(name: &str, refusal: Refusal) -> Line<'_>
 }
 
 /// Writes the outputs of `job`, which extracts tracks, from `source`, the open file `name`, and prints the messages.
-/// Tracks that the file lacks are warned of first.
+/// Tracks that the file lacks are warned of first. For `extract_fit`, after all tracks were checked.
 fn extract_source<F: Files, P: Report>(
     alloc: Global,
     name: &str,

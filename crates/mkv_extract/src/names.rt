@@ -13,14 +13,16 @@ use requests::{Job, Target};
 use sidecar_edit::sidecar_name;
 use std::alloc::{AllocError, Global};
 
-/// Checks whether the output name `out` is `name`, the file's, or `sidecar`, its journal's.
+/// Checks whether the output name `out` is `name`, the file's, or `sidecar`, its journal's. For `first_written`, so
+/// that `extract` overwrites no file that it reads.
 fn is_read(name: &str, sidecar: &str, out: &str) -> bool
     ensures { result ≡ is_either name.now sidecar.now out.now }
 {
     out == name || out == sidecar
 }
 
-/// Returns the first of `targets` whose output has the name `name`, the file's, or `sidecar`, its journal's.
+/// Returns the first of `targets` whose output has the name `name`, the file's, or `sidecar`, its journal's; None if
+/// there is none. For `written_among`, so that `extract` overwrites no file that it reads.
 fn target_among<'a>(name: &str, sidecar: &str, targets: &'a [Target]) -> Option<&'a Target>
     ensures { option_copied result ≡ find (λ (t : TargetSeen). is_either name.now sidecar.now t.name) targets.now }
 {
@@ -29,7 +31,8 @@ fn target_among<'a>(name: &str, sidecar: &str, targets: &'a [Target]) -> Option<
         .find(|target| is_read(name, sidecar, target.name.as_str()))
 }
 
-/// Returns the output name of the first of `targets` that would overwrite the file `name` or its journal, `sidecar`.
+/// Returns the output name of the first of `targets` that would overwrite the file `name` or its journal, `sidecar`, or
+/// None. For `first_written`, so that `extract` overwrites no file that it reads.
 fn written_among<'a>(name: &str, sidecar: &str, targets: &'a [Target]) -> Option<&'a Text>
     requires { sidecar.now ≡ sidecar_of name.now }
     ensures { option_copied result ≡ find (is_read name.now) (names_of targets.now) }
@@ -41,7 +44,7 @@ fn written_among<'a>(name: &str, sidecar: &str, targets: &'a [Target]) -> Option
 }
 
 /// Returns the first output name of `job` that would overwrite the file `name` or its journal, if any. The command then
-/// is refused.
+/// is refused. `extract` calls it before it opens the file.
 pub fn first_written<'a>(
     alloc: Global,
     name: &str,

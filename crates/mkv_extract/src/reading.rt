@@ -25,7 +25,8 @@ use std::alloc::Global;
 use track_records::{Track, usable};
 
 /// Reads the open file `file` up to its blocks, or returns the first refusal. It checks the outline, the records, the
-/// first Cues if `job` extracts cue points, and then the named tracks in file order.
+/// first Cues if `job` extracts cue points, and then the named tracks in file order. `extract` calls it before it
+/// writes an output.
 pub fn read_source<R: Reads>(
     alloc: Global,
     job: &Job,
@@ -61,7 +62,7 @@ pub fn read_source<R: Reads>(
 }
 
 /// Reads the first Cues of the open file `file` if `job` extracts cue points, or returns the damage for which it is
-/// refused. Other jobs get None. `outline` is the file's.
+/// refused. Other jobs get None. `outline` is the file's. For `read_source`, when `extract` reads its file.
 fn cues_for<R: Reads>(
     alloc: Global,
     job: &Job,
@@ -83,15 +84,16 @@ fn cues_for<R: Reads>(
     }
 }
 
-/// Checks whether one of `targets` names the track with index `k`, from 0.
+/// Checks whether one of `targets` names the track with index `k`, from 0. For `cause_of`: only named tracks must be
+/// usable.
 pub fn is_named(targets: &[Target], k: u64) -> bool
     ensures { result ≡ is_named targets.now k }
 {
     targets.iter().any(|target| target.id == k)
 }
 
-/// Returns the reason why the frames of a track that `targets` name can't be used, such as encryption, for the first
-/// such track in `tracks`.
+/// Returns the reason why the frames of a track can't be used, such as encryption, for the first such track in `tracks`
+/// that `targets` name. Returns None without such a track. For `read_source`, which refuses the file then.
 fn first_unusable(targets: &[Target], tracks: &[Track]) -> Option<Damage>
     requires { AreRead tracks.now }
     ensures { result ≡ first_unusable targets.now tracks.now }
@@ -105,6 +107,7 @@ fn first_unusable(targets: &[Target], tracks: &[Track]) -> Option<Damage>
 }
 
 /// Returns the reason why the frames of `track`, which has the index `k`, can't be used, if one of `targets` names it.
+/// Returns None if they can or none names it. For `first_unusable`, when `extract` reads its file.
 fn cause_of(targets: &[Target], k: u64, track: &Track) -> Option<Damage>
     requires { IsEntry track.now.entry }
     ensures { result ≡ first_damage (causes_of targets.now k track.now) }

@@ -39,7 +39,7 @@ pub enum WarningKind {
 
 /// Warns of each item that `targets` name and that the file `name` lacks, once: its number is at least `count`.
 /// `missing` is the kind of items. For tracks, numbered from 0, `count` is their number. For attached files, numbered
-/// from 1, it is their number plus 1.
+/// from 1, it is their number plus 1. `extract` calls it before it writes an output.
 pub fn say_absent<P: Report>(
     alloc: Global,
     missing: Missing,
@@ -63,7 +63,7 @@ pub fn say_absent<P: Report>(
 }
 
 /// Warns that the file `name` lacks the item of the kind `missing`, a track or an attached file, with the number
-/// `number`.
+/// `number`. For `say_absent`, when `extract` prints its messages.
 fn say_missing<P: Report>(
     alloc: Global,
     missing: Missing,
@@ -81,7 +81,7 @@ fn say_missing<P: Report>(
 }
 
 /// Checks whether a missing number must be reported: it isn't below `count`, and it isn't one of `told`, those that
-/// were reported. It then joins `told`.
+/// were reported. It then joins `told`. For `say_absent`, which reports each number once.
 fn is_told(told: &mut IndexSet<u64>, number: u64, count: u64) -> Result<bool, CommandEnd>
     ensures told { IfOk result (λ is_told. is_told ≡ (nat_le count number && not (contains nat_eq told.old number))) }
     ensures numbers { OnOk result (HasJoined count number told.old.keys told.new.keys) }
@@ -97,7 +97,8 @@ fn is_told(told: &mut IndexSet<u64>, number: u64, count: u64) -> Result<bool, Co
 }
 
 /// Prints the messages after an extraction of frames: a line for each complete output of `targets`, and the warnings of
-/// `extracted`. Returns the status. `count` is the number of tracks in the file `name`.
+/// `extracted`. Returns the status. `count` is the number of tracks in the file `name`. The last step of `extract` for
+/// tracks.
 pub fn tell<P: Report>(
     alloc: Global,
     name: &str,
@@ -116,7 +117,8 @@ pub fn tell<P: Report>(
     Ok(status_of(targets, count, extracted))
 }
 
-/// Warns of the damage of the file `name` that `extracted` has, and then of the frames that were left out.
+/// Warns of the damage of the file `name` that `extracted` has, and then of the frames that were left out. For `tell`,
+/// when `extract` prints its messages.
 fn warn_all<P: Report>(
     alloc: Global,
     name: &str,
@@ -137,7 +139,7 @@ fn warn_all<P: Report>(
 }
 
 /// Prints a line for each output that was written: for each of `targets` with a number below `count`, the first number
-/// that the file lacks.
+/// that the file lacks. For `tell` and `tell_held`, when `extract` prints its messages.
 pub fn say_wrote<P: Report>(
     alloc: Global,
     targets: &[Target],
@@ -158,7 +160,7 @@ pub fn say_wrote<P: Report>(
 }
 
 /// Prints a warning for each of the first damaged places in `damages`, and a line with the number of the others. `what`
-/// is their kind, and `name` the file's name.
+/// is their kind, and `name` the file's name. For `warn_all`, when `extract` prints its messages.
 fn warn<P: Report>(
     alloc: Global,
     what: WarningKind,
@@ -181,7 +183,7 @@ fn warn<P: Report>(
 }
 
 /// Prints a line with the number `more` of damaged places that aren't printed each; `what` is their kind, and `name`
-/// the file's name.
+/// the file's name. For `warn`, when `extract` prints its messages.
 fn say_more<P: Report>(
     alloc: Global,
     what: WarningKind,
@@ -200,7 +202,8 @@ fn say_more<P: Report>(
 
 /// Prints the messages after an extraction of attached files or cue points. They are a line for each complete output of
 /// `targets`, and a warning of damage at level 1. Returns the status, which is a warning if there is damage or if a
-/// target names a missing item. `count` is the first number that the file `name` lacks.
+/// target names a missing item. `count` is the first number that the file `name` lacks. The last step of `extract` for
+/// both.
 pub fn tell_held<P: Report>(
     alloc: Global,
     name: &str,
@@ -223,7 +226,8 @@ pub fn tell_held<P: Report>(
     }
 }
 
-/// Warns of the damage of the file `name` at level 1, if there is any, and returns the status of the command.
+/// Warns of the damage of the file `name` at level 1, if there is any, and returns the status of the command, `Warned`
+/// or `Done`. For `extract` of anything else than frames.
 pub fn warn_outline<P: Report>(
     alloc: Global,
     name: &str,
@@ -242,7 +246,7 @@ pub fn warn_outline<P: Report>(
     Ok(Status::Warned)
 }
 
-/// Prints a warning of the damaged place `damage` in the file `name`.
+/// Prints a warning of the damaged place `damage` in the file `name`. Used for all warnings of `extract` about damage.
 fn warn_of<P: Report>(
     alloc: Global,
     name: &str,
@@ -257,7 +261,7 @@ fn warn_of<P: Report>(
 }
 
 /// Returns the status of an extraction of frames. It is a warning if `targets` name a track that the file lacks, whose
-/// number is at least `count`. It is one too if `extracted` has damage or a frame that was left out.
+/// number is at least `count`. It is one too if `extracted` has damage or a frame that was left out. For `tell`.
 fn status_of(targets: &[Target], count: u64, extracted: &Extracted) -> Status
     ensures value { HasStatusOf extracted.now (has_absent count targets.now) (Ok result) }
     ensures ordinary { IsOrdinary result }
@@ -274,7 +278,7 @@ fn status_of(targets: &[Target], count: u64, extracted: &Extracted) -> Status
     Status::Done
 }
 
-/// Checks whether `told`, a list of reported places, has any.
+/// Checks whether `told`, a list of reported places, has any. For `status_of`, when `extract` prints its messages.
 fn is_any(told: &Damages) -> bool
     ensures { (list : List Damage) → told.now ≡ told_damages list → result ≡ nat_lt 0 (length list) }
 {
@@ -282,7 +286,8 @@ fn is_any(told: &Damages) -> bool
 }
 
 /// Checks whether one of `targets` names an item that the file lacks: its number is at least `count`. For tracks,
-/// numbered from 0, `count` is their number. For attached files, numbered from 1, it is their number plus 1.
+/// numbered from 0, `count` is their number. For attached files, numbered from 1, it is their number plus 1. `extract`
+/// ends with the status of warnings then.
 pub fn has_absent(targets: &[Target], count: u64) -> bool
     ensures { result ≡ has_absent count targets.now }
 {

@@ -21,7 +21,7 @@ use Rattle.mkv_generate.specs.Generate.{MergeMade, both_words, first_written, li
 
 -- ---- lines
 
--- the warnings about the files that the completed merge `d` read
+-- the warnings about the files that the completed merge `d` of `generate` read
 abbrev pub warned_of : Done → List (List ℕ)
 warned_of d = warnings_from d.summary 0 d.words.files
 
@@ -30,46 +30,47 @@ abbrev pub lines_of : ℕ → Outcome → List (List ℕ)
 lines_of n (Refused words why) = line_of words why ∷ []
 lines_of n (Made both parts) = line_for n (first_written both.summary.outputs) (length parts.summary.outputs) ∷ warned_of both ++ warned_of parts
 
--- the status of `generate` for this outcome
+-- the status of `generate` for this outcome: a refusal, or a warning if a merge met damage
 abbrev pub status_for : Outcome → Status
 status_for (Refused words why) = status.Refused
 status_for (Made both parts) = warned_if (is_some_of both.summary.damages || is_some_of parts.summary.damages)
 
 -- ---- files
 
--- The summary of the code's completed merge `d` is what the definitions give as `m`.
+-- The summary of the code's completed merge `d` of `generate` is what the definitions give as `m`. `MakesParts` requires it of the first merge.
 pub record IsDone (m : MergeMade) (d : Done) : Type 0 where
   pub outputs : d.summary.outputs ≡ map written_of m.outputs
   pub warned : warned_of d ≡ m.warned
   pub damaged : is_some_of d.summary.damages ≡ m.damaged
 
--- The merge `m` has one output, with the name `name`.
+-- The merge `m` of `generate` has one output, with the name `name`. `MakesParts` requires it of the merged file.
 pub record IsOneFile (name : List ℕ) (m : MergeMade) : Type 0 where
   pub file : PlannedOutput
   pub alone : m.outputs ≡ file ∷ []
   pub named : file.name ≡ name
 
--- The names `old` have become `new`: all outputs of `v`, the defined outcome for `n` pictures, are complete. The code's `outcome` has its status and
--- lines.
+-- The names `old` have become `new`: all outputs of `v`, the defined outcome of `generate` for `n` pictures, are complete. The code's `outcome` has
+-- its status and lines. `Makes` uses it.
 pub record HasMade (old new : Names) (n : ℕ) (outcome : Outcome) (v : Verdict) : Type 0 where
   pub whole : new ≡ with_outputs old (list_of v.outputs)
   pub lines : v.lines ≡ lines_of n outcome
   pub status : v.status ≡ status_for outcome
 
 -- The contents `old` of all names have become `new`: the files `names` of `generate` for `n` pictures are made as defined. After a failure some first
--- ones are complete, and the next one is a draft.
+-- ones are complete, and the next one is a draft. The contract of `make` has it.
 abbrev pub Makes : Names → Names → ℕ → own.Names → Result Outcome CommandEnd → Type 0
 Makes old new n names (Ok outcome) = HasMade old new n outcome (verdict_of n names)
 Makes old new n names (Err why) = Leaves old new (verdict_of n names).outputs
 
 -- `Makes` holds of the files `names`, from the contents `old` of all names to `new`. It needs that the two files and the merged file, made by `both`,
--- are complete in `old`.
+-- are complete in `old`. The contract of `make_parts` has it.
 abbrev pub MakesParts : Names → Names → own.Names → Done → Result Outcome CommandEnd → Type 0
 MakesParts old new names both result =
     (n : ℕ) (before : Names) (world : List ℕ → Option (List ℕ)) (made : MergeMade) → before ≡ Some world → merge_of (both_words names) (two_files n names) ≡ Ok made → IsDone made both → IsOneFile names.both made
     → WritesAll before old (two_files n names ++ made.outputs) → Makes before new n names result
 
--- `Makes` holds of the files `names`, from the contents `old` of all names to `new`, if the two files are complete in `old`.
+-- `Makes` holds of the files `names`, from the contents `old` of all names to `new`, if the two files are complete in `old`. The contract of
+-- `make_both` has it.
 abbrev pub MakesBoth : Names → Names → own.Names → Result Outcome CommandEnd → Type 0
 MakesBoth old new names result =
     (n : ℕ) (before : Names) (world : List ℕ → Option (List ℕ)) → before ≡ Some world → names.pictures ≢ names.sounds → WritesAll before old (two_files n names) → Makes before new n names result

@@ -23,7 +23,8 @@ pub(crate) struct Made {
 }
 
 impl Made {
-    /// Returns the block by reference, as the Clusters take blocks, on output track 1.
+    /// Returns the block by reference, as the Clusters take blocks, on output track 1. `add_one` calls it for each
+    /// block.
     pub(crate) fn lent(&self) -> BlockRef<'_>
         requires { IsLent (lent_made self.now) }
         ensures block { block_put result ≡ in_lane 1 (lent_block (lent_made self.now)) }
@@ -41,7 +42,7 @@ impl Made {
         }
     }
 
-    /// Checks whether the block is a keyframe, which decides whether it gets a cue point.
+    /// Checks whether the block is a keyframe, which decides whether it gets a cue point. `add_one` calls it.
     pub(crate) fn is_key(&self) -> bool
         ensures { result ≡ self.now.head.key }
     {
@@ -49,7 +50,8 @@ impl Made {
     }
 }
 
-// Returns the head of a SimpleBlock at `time` milliseconds from the start; a tick of the files is a millisecond.
+// Returns the head of a SimpleBlock at `time` milliseconds from the start, a keyframe if `key`, with the lacing `lace`;
+// a tick of the files is a millisecond. `picture` and `sound` call it.
 fn simple_head(time: u32, key: bool, lace: Lace) -> OutHead
     ensures { result ≡ simple_head time key lace }
 {
@@ -66,7 +68,8 @@ fn simple_head(time: u32, key: bool, lace: Lace) -> OutHead
     }
 }
 
-// Returns a block with the head `head` and one frame: the first `size` bytes of `octets`.
+// Returns a block with the head `head` and one frame: the first `size` bytes of `octets`. `picture` and `sound` call
+// it.
 fn single(head: OutHead, octets: ArrayVec<u8, MAX_COUNTING>, size: u32) -> Made
     ensures { HasParts head octets.items (size ∷ []) result }
 {
@@ -80,7 +83,7 @@ fn single(head: OutHead, octets: ArrayVec<u8, MAX_COUNTING>, size: u32) -> Made
 }
 
 // Returns a block with the head `head` and a lace of two frames of `first` and `second` bytes, which follow each other
-// in `octets`.
+// in `octets`. `sound` calls it for every third block.
 fn laced(head: OutHead, octets: ArrayVec<u8, MAX_COUNTING>, first: u32, second: u32) -> Made
     ensures { HasParts head octets.items (first ∷ second ∷ []) result }
 {
@@ -95,7 +98,7 @@ fn laced(head: OutHead, octets: ArrayVec<u8, MAX_COUNTING>, first: u32, second: 
 }
 
 /// Returns the block of picture `i`, counted from 0: 8 to 108 bytes. Pictures follow each other by 40 ms, and every
-/// 25th is a keyframe.
+/// 25th is a keyframe. It is a block of the first file of `generate`.
 pub(crate) fn picture(i: u32) -> Made
     requires { i < 2 ^ 20 }
     ensures { IsMade (picture i) result }
@@ -106,7 +109,7 @@ pub(crate) fn picture(i: u32) -> Made
 }
 
 /// Returns the block of sound `i`, counted from 0: frames of 4 to 6 bytes. Sounds follow each other by 20 ms, and every
-/// third is a lace of two frames.
+/// third is a lace of two frames. It is a block of the second file of `generate`.
 pub(crate) fn sound(i: u32) -> Made
     requires { i < 2 ^ 20 }
     ensures { IsMade (sound i) result }
@@ -132,6 +135,7 @@ pub enum MediaKind {
 
 impl MediaKind {
     /// Returns the number of blocks in the file of this kind for `n` pictures. There are two sounds for each picture.
+    /// `add_all` calls it.
     pub(crate) fn count(self, n: u32) -> u32
         requires { n < 2 ^ 20 }
         ensures { result ≡ count_of self n }
@@ -142,7 +146,7 @@ impl MediaKind {
         }
     }
 
-    /// Returns the block number `i`, counted from 0, of the file of this kind.
+    /// Returns the block number `i`, counted from 0, of the file of this kind. `add_one` calls it.
     pub(crate) fn block(self, i: u32) -> Made
         requires { i < 2 ^ 20 }
         ensures { IsMade (block_of self i) result }

@@ -17,7 +17,8 @@ use output_model::{ClusterLimits, CueRule};
 use remuxer::{add_block, add_rest};
 use std::alloc::Global;
 
-// Returns the limits of a Cluster that a merge has by default: 65,535 blocks and 5 s.
+// Returns the limits of a Cluster that a merge has by default: 65,535 blocks and 5 s. `write_file` uses them for a
+// generated file.
 fn default_limits() -> ClusterLimits
     ensures { result ≡ default_limits }
 {
@@ -28,7 +29,8 @@ fn default_limits() -> ClusterLimits
     }
 }
 
-// Returns the rule for the cue points of the file of this kind: keyframes of pictures, and no sounds.
+// Returns the rule for the cue points of the file of the kind `medium`: keyframes of pictures, and no sounds. `add_one`
+// calls it.
 fn rule_of(medium: MediaKind) -> CueRule
     ensures { result ≡ rule_of medium }
 {
@@ -38,8 +40,8 @@ fn rule_of(medium: MediaKind) -> CueRule
     }
 }
 
-// Adds the block number `i`, from 0, of the file of the kind `medium` to the Cluster in `buffer`. If the block can't
-// join it, the Cluster is written to `out` first.
+// Adds the block number `i`, from 0, of the file of the kind `medium` to the Cluster in `buffer`. `add_all` calls it
+// for each block. If the block can't join it, the Cluster is written to `out` first.
 fn add_one<F: Files>(
     files: &mut F,
     out: &mut OutFile,
@@ -61,7 +63,8 @@ fn add_one<F: Files>(
     Ok(())
 }
 
-// Adds all blocks of the file of the kind `medium` for `n` pictures, and writes their Clusters to `out`.
+// Adds all blocks of the file of the kind `medium` for `n` pictures, and writes their Clusters to `out`. `write_file`
+// calls it after the Elements before the Clusters.
 fn add_all<F: Files>(
     files: &mut F,
     out: &mut OutFile,
@@ -84,8 +87,8 @@ fn add_all<F: Files>(
     add_rest(files, out, buffer)
 }
 
-/// Creates or replaces the file `name`, of the kind `medium` for `n` pictures, and writes it whole. The file is closed
-/// in any case; after a failure it is incomplete.
+/// Creates or replaces the file `name`, of the kind `medium` for `n` pictures, and writes it whole. `generate` does
+/// this for its first two files. The file is closed in any case; after a failure it is incomplete.
 pub(crate) fn write_file<F: Files>(
     alloc: Global,
     files: &mut F,

@@ -15,7 +15,7 @@ use std::alloc::{AllocError, Global};
 /// Nanoseconds per tick of the generated files: a millisecond.
 pub(crate) const SCALE: u64 = 1_000_000;
 
-// Returns the TrackType of the file of this kind: 1 for video, 2 for audio.
+// Returns the TrackType of the file of the kind `medium`: 1 for video, 2 for audio. `track_of` calls it.
 fn type_of(medium: MediaKind) -> u64
     ensures { result ≡ type_of medium }
 {
@@ -25,7 +25,7 @@ fn type_of(medium: MediaKind) -> u64
     }
 }
 
-// Returns the CodecID of the file of this kind, which no player knows.
+// Returns the CodecID of the file of the kind `medium`, which no player knows. `track_of` calls it.
 fn codec_of(medium: MediaKind) -> &'static str
     ensures { result.now ≡ codec_of medium }
 {
@@ -35,7 +35,7 @@ fn codec_of(medium: MediaKind) -> &'static str
     }
 }
 
-// Returns the TrackEntry of the file of this kind. TrackNumber and TrackUID are 1.
+// Returns the TrackEntry of the file of the kind `medium`. TrackNumber and TrackUID are 1. `front_of` calls it.
 fn track_of(alloc: Global, medium: MediaKind) -> Result<Tree, AllocError>
     ensures exact { IfOk result (λ entry. entry ≡ track_of medium) }
     ensures whole { IfOk result IsWholeEntry }
@@ -49,7 +49,7 @@ fn track_of(alloc: Global, medium: MediaKind) -> Result<Tree, AllocError>
 }
 
 /// Returns the Elements before the Clusters of the generated file of the kind `medium`: Info and a Tracks with one
-/// TrackEntry.
+/// TrackEntry. `write_file` calls it first.
 pub(crate) fn front_of(alloc: Global, medium: MediaKind) -> Result<Front, AllocError>
     ensures { IfOk result (IsFrontOf medium) }
 {

@@ -20,7 +20,7 @@ use remux_plan::Written;
 use std::alloc::{AllocError, Global};
 
 // Returns the line of `generate` for `n` pictures: the contents of the merged file, the first of `outputs`, and the
-// number of parts.
+// number of parts, `parts`. `say_all` prints it.
 fn line_of(n: u32, outputs: &[Written], parts: usize) -> Line<'static>
     ensures { text_of result ≡ line_for n (first_written outputs.now) parts }
 {
@@ -38,7 +38,7 @@ fn line_of(n: u32, outputs: &[Written], parts: usize) -> Line<'static>
 }
 
 // Prints the line of `generate` for `n` pictures, and warnings of damage in the files that its two merges, `both` and
-// `parts`, read.
+// `parts`, read. `tell_all` calls it.
 fn say_all<P: Report>(
     alloc: Global,
     n: u32,
@@ -60,8 +60,7 @@ fn say_all<P: Report>(
 }
 
 // Prints the line of `generate` for `n` pictures and the warnings of its two merges, `both` and `parts`. Returns the
-// status: a warning if a merge met damage.
-// damage.
+// status: a warning if a merge met damage. `tell` calls it if all files are made.
 fn tell_all<P: Report>(
     alloc: Global,
     n: u32,
@@ -82,8 +81,8 @@ fn tell_all<P: Report>(
     }
 }
 
-// Prints the outcome of `generate` for `n` pictures: the line about the files, or the refusal of a merge. Returns the
-// status.
+// Prints the outcome `outcome` of `generate` for `n` pictures: the line about the files, or the refusal of a merge.
+// Returns the status. `generate` calls it last.
 fn tell<P: Report>(
     alloc: Global,
     n: u32,
@@ -102,7 +101,7 @@ fn tell<P: Report>(
 }
 
 // Makes the files with the names `names` for `n` pictures, and prints the outcome. It is `generate` once its names are
-// known.
+// known; `generate_of` calls it.
 fn generate<F: Files, P: Report>(
     alloc: Global,
     n: u32,
@@ -123,8 +122,8 @@ fn generate<F: Files, P: Report>(
     }
 }
 
-/// Runs `generate`: makes two files for `n` pictures, whose names begin with `prefix`, merges them into one, and splits
-/// that file into parts. It replaces files with these names, and looks at no journal.
+/// Runs the command `generate`: makes two files for `n` pictures, whose names begin with `prefix`, merges them into
+/// one, and splits that file into parts. It replaces files with these names, and looks at no journal.
 ///
 /// After a refusal the files that were written remain. After an I/O failure some first files remain, and the next one
 /// may be incomplete.

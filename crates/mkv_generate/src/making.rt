@@ -40,7 +40,8 @@ pub enum Outcome {
     Made { both: Done, parts: Done },
 }
 
-// Writes the two files that are merged later: `n` pictures, and two sounds for each picture. It is the first step.
+// Writes the two files that are merged later, under `names`: `n` pictures, and two sounds for each picture. It is the
+// first step of `generate`.
 fn write_files<F: Files>(
     alloc: Global,
     n: u32,
@@ -64,7 +65,8 @@ fn write_files<F: Files>(
     write_file(alloc, files, names.sounds.as_str(), MediaKind::Sounds, n)
 }
 
-// Splits the merged file with the command line `words`. `both` is the merge before, which the outcome reports too.
+// Splits the merged file of `names` with the command line `words`, for `make_parts`. `both` is the merge before, which
+// the outcome reports too.
 fn merge_parts<F: Files>(
     alloc: Global,
     names: &Names,
@@ -90,8 +92,8 @@ fn merge_parts<F: Files>(
     }
 }
 
-// Splits the merged file into parts of ten seconds: the third step. `both` is the merge before, which the outcome
-// reports too.
+// Splits the merged file of `names` into parts of ten seconds: the third step of `generate`. `both` is the merge
+// before, which the outcome reports too.
 fn make_parts<F: Files>(
     alloc: Global,
     names: &Names,
@@ -110,7 +112,7 @@ fn make_parts<F: Files>(
     }
 }
 
-// Merges the two files with the command line `words`, and then splits the merged file.
+// Merges the two files of `names` with the command line `words`, and then splits the merged file, for `make_both`.
 fn merge_both<F: Files>(
     alloc: Global,
     names: &Names,
@@ -131,7 +133,8 @@ fn merge_both<F: Files>(
     }
 }
 
-// Merges the two files with the names `names`, and then splits the merged file: the second and third step.
+// Merges the two files with the names `names`, and then splits the merged file: the second and third step of
+// `generate`. `make` calls it.
 fn make_both<F: Files>(alloc: Global, names: &Names, files: &mut F) -> Result<Outcome, CommandEnd>
     ensures makes { MakesBoth (F.names files.old) (F.names files.new) names.now result }
     ensures octets { ReadsBoth (F.names files.old) names.now (F.octets_read files.old) (F.octets_read files.new) }
@@ -146,7 +149,7 @@ fn make_both<F: Files>(alloc: Global, names: &Names, files: &mut F) -> Result<Ou
 }
 
 /// Makes all files of `generate` for `n` pictures, under `names`: writes the two files, merges them, and splits the
-/// merged file. Each step reads files that the previous one has written.
+/// merged file. Each step reads files that the previous one has written. `generate` calls it before it prints.
 pub(crate) fn make<F: Files>(
     alloc: Global,
     n: u32,

@@ -15,7 +15,7 @@ pub struct Names {
     pub parts: Text,
 }
 
-// Returns the name `prefix` followed by `end`.
+// Returns the name `prefix` followed by `end`, for `Names::new`.
 fn name_of(alloc: Global, prefix: &str, end: &str) -> Result<Text, AllocError>
     ensures { IfOk result (λ name. name ≡ prefix.now ++ end.now) }
 {
@@ -26,7 +26,7 @@ fn name_of(alloc: Global, prefix: &str, end: &str) -> Result<Text, AllocError>
 }
 
 impl Names {
-    /// Returns the names for the prefix `prefix` on the command line: `PREFIX-a.mkv` and so on.
+    /// Returns the names for the prefix `prefix` on the command line of `generate`: `PREFIX-a.mkv` and so on.
     pub(crate) fn new(alloc: Global, prefix: &str) -> Result<Names, AllocError>
         ensures { IfOk result (λ names. names ≡ names_of prefix.now) }
     {

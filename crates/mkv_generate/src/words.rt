@@ -13,7 +13,7 @@ use std::alloc::{AllocError, Global};
 /// Duration of a part of the split, in nanoseconds: 10 s.
 const PART: u64 = 10_000_000_000;
 
-// Returns the flag options of an input: none.
+// Returns the flag options of an input: none. `plain_file` calls it.
 fn no_flags(alloc: Global) -> FlagWords
     ensures { result ≡ no_flags }
 {
@@ -27,7 +27,7 @@ fn no_flags(alloc: Global) -> FlagWords
     }
 }
 
-// Returns the input `name` of a merge, with no options.
+// Returns the input `name` of a merge, with no options, for the merges of `generate`.
 fn plain_file(alloc: Global, name: &Text) -> Result<FileWords, AllocError>
     ensures { IfOk result (λ file. file ≡ plain_file name.now) }
 {
@@ -56,6 +56,7 @@ fn plain_file(alloc: Global, name: &Text) -> Result<FileWords, AllocError>
 }
 
 // Returns the command line `merge -o OUTPUT FILE ..`, or `merge -o OUTPUT --split SPLIT FILE ..` if `split` is given.
+// `output` is OUTPUT, and `files` are the inputs. Both merges of `generate` have it.
 fn plain_words(
     alloc: Global,
     output: &Text,
@@ -81,7 +82,8 @@ fn plain_words(
     })
 }
 
-/// Returns the command line of the second step: it merges the files of pictures and of sounds that `names` has.
+/// Returns the command line of the second step of `generate`: it merges the files of pictures and of sounds that
+/// `names` has.
 pub(crate) fn both_words(alloc: Global, names: &Names) -> Result<MergeWords, AllocError>
     ensures { IfOk result (λ words. words ≡ both_words names.now) }
 {
@@ -91,7 +93,8 @@ pub(crate) fn both_words(alloc: Global, names: &Names) -> Result<MergeWords, All
     plain_words(alloc, &names.both, None, files)
 }
 
-/// Returns the command line of the third step: it splits the merged file of `names` into parts of ten seconds.
+/// Returns the command line of the third step of `generate`: it splits the merged file of `names` into parts of ten
+/// seconds.
 pub(crate) fn parts_words(alloc: Global, names: &Names) -> Result<MergeWords, AllocError>
     ensures { IfOk result (λ words. words ≡ parts_words names.now) }
 {

@@ -19,9 +19,10 @@ use std::{fs, io};
 /// Folder of this process in /proc; its owner is the user who runs the program.
 const THIS_PROCESS: &str = "/proc/self";
 
-/// Opens the regular file `name`, to be edited, for reading and writing, and locks it. Refuses a link, a file that
-/// another process has locked, one that has lost the name meanwhile, and one that is open as standard output. Anything
-/// but a regular file isn't opened, since that may wait for ever.
+/// Opens the regular file `name`, to be edited, for reading and writing, and locks it. `open_both` calls it first, for
+/// `propedit`, `reindex` and `recover`. Returns the file and its metadata. Refuses a link, a file that another process
+/// has locked, one that has lost the name meanwhile, and one that is open as standard output. Anything but a regular
+/// file isn't opened, since that may wait for ever.
 pub fn open_media<R: fs::Files<File = File>>(
     system: &R,
     name: Text,
@@ -39,8 +40,8 @@ pub fn open_media<R: fs::Files<File = File>>(
     Ok((measured(file, name, &found)?, found))
 }
 
-/// Checks whether `name` isn't a link and is the file with the identity `node`. Call it after the file was opened: on
-/// an overlay, opening a file to write it makes it another file.
+/// Checks whether `name` isn't a link and is the file with the identity `node`. An edit in place checks this before it
+/// writes. Call it after the file was opened: on an overlay, opening a file to write it makes it another file.
 pub fn has_name<R: fs::Files<File = File>>(system: &R, name: &str, node: Node) -> bool {
     match fs::symlink_metadata(system, name) {
         Ok(found) => node_of(&found).is_ok_and(|named| named == node),
@@ -48,7 +49,8 @@ pub fn has_name<R: fs::Files<File = File>>(system: &R, name: &str, node: Node) -
     }
 }
 
-/// Returns the open file with its name and its length, by `found`. Refuses a file longer than `LONGEST_FILE`.
+/// Returns the open file `file` with its name `name` and its length in bytes, by `found`. Refuses a file longer than
+/// `LONGEST_FILE`. The edited file and its journal are opened by it.
 fn measured(file: File, name: Text, found: &Metadata) -> io::Result<OpenFile>
     requires { pos 2 <ℤ file_raw_fd file }
     ensures { IfOk result (λ opened. opened.name ≡ name) }
@@ -60,9 +62,9 @@ fn measured(file: File, name: Text, found: &Metadata) -> io::Result<OpenFile>
     Ok(OpenFile { file, name, size })
 }
 
-/// Opens the journal `name` of the edited file `media` to read and write it. If there is none, it makes an empty one
-/// with the owner and mode of `media` (`share_new`). An existing journal must be a regular file with no other name. It
-/// must not be the edited file, nor a stranger's.
+/// Opens the journal `name` of the edited file `media` to read and write it. `open_both` calls it after the edited file
+/// is opened. If there is none, it makes an empty one with the owner and mode of `media` (`share_new`). An existing
+/// journal must be a regular file with no other name. It must not be the edited file, nor a stranger's.
 pub fn open_sidecar<R: fs::Files<File = File>>(
     system: &R,
     name: Text,
@@ -83,8 +85,8 @@ pub fn open_sidecar<R: fs::Files<File = File>>(
     }
 }
 
-/// Opens the journal `name` of the edited file `media`, which exists. Refuses a link, a file with several names, the
-/// edited file, and a stranger's file.
+/// Opens the journal `name` of the edited file `media`, which exists, for `open_sidecar`. Refuses a link, a file with
+/// several names, the edited file, and a stranger's file.
 fn open_existing<R: fs::Files<File = File>>(
     system: &R,
     name: Text,
@@ -106,7 +108,8 @@ fn open_existing<R: fs::Files<File = File>>(
 }
 
 /// Checks whether neither the owner of the edited file `media` nor the user of this process owns the journal `sidecar`.
-/// Whoever may write the folder may have made such a journal, and its record would be written into the edited file.
+/// `open_existing` then refuses it. Whoever may write the folder may have made such a journal, and its record would be
+/// written into the edited file.
 fn is_strangers<R: fs::Files<File = File>>(
     system: &R,
     sidecar: &Metadata,
@@ -121,7 +124,8 @@ fn is_strangers<R: fs::Files<File = File>>(
     }
 }
 
-/// Returns the identity of the file `found`. Refuses a file with several names.
+/// Returns the identity of the file `found`, a journal. Refuses a file with several names. `open_existing` calls it
+/// before and after it opens the journal.
 fn only_name(found: &Metadata) -> io::Result<Node> {
     if found.nlink() != 1 {
         return Err(ErrorKind::InvalidInput.into());
@@ -129,8 +133,8 @@ fn only_name(found: &Metadata) -> io::Result<Node> {
     node_of(found)
 }
 
-/// Syncs the folder of the file `name`, so that a crash can't take the name. Ignores that a file system can't sync a
-/// folder.
+/// Syncs the folder of the file `name`, so that a crash can't take the name of a new journal. `open_both` calls it.
+/// Ignores that a file system can't sync a folder.
 pub fn settle_folder<R: fs::Files<File = File>>(system: &R, name: &str) -> io::Result<()> {
     match above_streams(File::open(system, folder_of(name))?)?.sync_all() {
         Err(error) if is_unsynced(error.kind()) => Ok(()),
@@ -138,7 +142,8 @@ pub fn settle_folder<R: fs::Files<File = File>>(system: &R, name: &str) -> io::R
     }
 }
 
-/// Checks whether an error of the kind `kind` means that the file system can't sync a folder.
+/// Checks whether an error of the kind `kind` means that the file system can't sync a folder. `settle_folder` ignores
+/// it.
 fn is_unsynced(kind: ErrorKind) -> bool
     ensures { IsTrue result ↔ IsUnsynced kind }
 {

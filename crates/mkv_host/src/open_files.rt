@@ -11,8 +11,9 @@ use crate::system::Node;
 use mkv_io::{FileId, Text};
 use std::alloc::{AllocError, Global};
 
-/// Returns a copy of `name` for a file that will be opened. It reserves room for the file in `opened` and for its
-/// identity in `seen`, so that nothing can fail after the file is opened.
+/// Returns a copy of `name` for a file that will be opened or created. It reserves room for the file in `opened` and
+/// for its identity in `seen`, so that nothing can fail after the file is opened. `open_file` and `create` call it
+/// first.
 pub fn prepare(
     opened: &mut Vec<Option<Opened>>,
     seen: &mut Vec<Node>,
@@ -32,8 +33,8 @@ pub fn prepare(
     Ok(holder)
 }
 
-/// Adds the file `one`, for which `prepare` has reserved room, to `opened`, and returns its number. Its identity stays
-/// in `seen` after it is closed.
+/// Adds the file `one`, for which `prepare` has reserved room, to `opened`, and returns its number. `open_file` and
+/// `create` call it last. Its identity stays in `seen` after it is closed.
 pub fn add(opened: &mut Vec<Option<Opened>>, seen: &mut Vec<Node>, one: Opened) -> FileId
     requires room { length opened.old.items < vec_capacity opened.old }
     requires seen_room { length seen.old.items < vec_capacity seen.old }
@@ -47,7 +48,7 @@ pub fn add(opened: &mut Vec<Option<Opened>>, seen: &mut Vec<Node>, one: Opened) 
     FileId { n: number }
 }
 
-/// Returns the open file with the number `file` in `opened`.
+/// Returns the open file with the number `file` in `opened`. Each call on an open file begins with it.
 pub fn open_at(opened: &Vec<Option<Opened>>, file: FileId) -> &Opened
     requires { IsTrue (is_some (opened_at opened.now.items file.n)) }
     ensures { opened_at opened.now.items file.n ≡ Some result.now }
@@ -58,14 +59,15 @@ pub fn open_at(opened: &Vec<Option<Opened>>, file: FileId) -> &Opened
     }
 }
 
-/// Checks whether the file with the identity `node` is in `seen`: it was opened or created before, under any name.
+/// Checks whether the file with the identity `node` is in `seen`: it was opened or created before, under any name. Such
+/// a file can't be an output.
 pub fn is_seen(seen: &Vec<Node>, node: Node) -> bool
     ensures { result ≡ list_any (is_node node) seen.now.items }
 {
     seen.iter().any(|one| *one == node)
 }
 
-/// Adds `count` bytes to the noted length of the open file `file` in `opened`.
+/// Adds `count` bytes to the noted length of the open file `file` in `opened`. `append` does this after it has written.
 pub fn lengthen(opened: &mut Vec<Option<Opened>>, file: FileId, count: u64)
     requires live { IsTrue (is_some (opened_at opened.old.items file.n)) }
     requires room { size_at opened.old.items file.n + count ≤ LONGEST_FILE }

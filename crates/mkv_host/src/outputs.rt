@@ -24,7 +24,8 @@ pub struct Output {
     ghost above: { pos 2 <ℤ file_raw_fd file },
 }
 
-/// Returns the identity of the regular file `name`, if a file has this name. Anything but a regular file is refused.
+/// Returns the identity of the regular file `name`, or None if no file has this name. Anything but a regular file is
+/// refused. `make` calls it before it opens an output.
 pub fn node_at<R: fs::Files<File = File>>(system: &R, name: &str) -> io::Result<Option<Node>> {
     match fs::metadata(system, name) {
         Ok(found) => Ok(Some(node_of(&found)?)),
@@ -33,8 +34,8 @@ pub fn node_at<R: fs::Files<File = File>>(system: &R, name: &str) -> io::Result<
     }
 }
 
-/// Opens the file `name` to read and write it if `is_there`, or else creates it. Also returns whether it is certainly
-/// new. An existing file keeps its bytes.
+/// Opens the file `name` to read and write it if `is_there`, or else creates it, for `make`. Also returns whether it is
+/// certainly new. An existing file keeps its bytes.
 pub fn open_or_make<R: fs::Files<File = File>>(
     system: &R,
     name: &str,
@@ -49,8 +50,8 @@ pub fn open_or_make<R: fs::Files<File = File>>(
     Ok((above_streams(file)?, is_new))
 }
 
-/// Creates the file `name`, and returns whether it is certainly new. If `name` is a link to a missing file, that file
-/// is created.
+/// Creates the file `name`, and returns whether it is certainly new, for `open_or_make`. If `name` is a link to a
+/// missing file, that file is created.
 fn make_new<R: fs::Files<File = File>>(system: &R, name: &str) -> io::Result<(File, bool)> {
     match File::create_new(system, name) {
         Ok(file) => Ok((file, true)),
@@ -66,9 +67,9 @@ fn make_new<R: fs::Files<File = File>>(system: &R, name: &str) -> io::Result<(Fi
     }
 }
 
-/// Replaces the regular file `name` by a new, empty file with the mode and owner of `was`. Other names of the old file
-/// keep its bytes, and it isn't flushed when it is closed. A link is followed to its file. If this fails, the old file
-/// is unchanged.
+/// Replaces the regular file `name` by a new, empty file with the mode and owner of `was`. `make` does this for an
+/// output whose name is taken. Other names of the old file keep its bytes, and it isn't flushed when it is closed. A
+/// link is followed to its file. If this fails, the old file is unchanged.
 pub fn replaced<R: fs::Files<File = File>>(
     alloc: Global,
     system: &R,
@@ -84,8 +85,8 @@ pub fn replaced<R: fs::Files<File = File>>(
     replaced_at(alloc, system, place.as_str(), was)
 }
 
-/// Replaces the regular file `place`, which isn't a link, by a new, empty file with the mode and owner of `was`. The
-/// new file first gets a temporary name in the same folder.
+/// Replaces the regular file `place`, which isn't a link, by a new, empty file with the mode and owner of `was`, for
+/// `replaced`. The new file first gets a temporary name in the same folder. It tries 100 names.
 fn replaced_at<R: fs::Files<File = File>>(
     alloc: Global,
     system: &R,
@@ -109,8 +110,8 @@ fn replaced_at<R: fs::Files<File = File>>(
     Err(ErrorKind::AlreadyExists.into())
 }
 
-/// Checks whether `kind` is an error after which a file can never be replaced. Its folder takes no new file or name,
-/// the new file can't have its owner and mode, or its name is a mount point.
+/// Checks whether `kind` is an error after which a file can never be replaced; `make` then empties it. Its folder takes
+/// no new file or name, the new file can't have its owner and mode, or its name is a mount point.
 pub fn is_irreplaceable(kind: ErrorKind) -> bool
     ensures { IsTrue result ↔ IsIrreplaceable kind }
 {
@@ -123,9 +124,9 @@ pub fn is_irreplaceable(kind: ErrorKind) -> bool
     )
 }
 
-/// Truncates `output`, the file `name`, to no bytes, if it can't be replaced. Refuses a file that another run writes or
-/// edits; it keeps its bytes. Also refuses a file that isn't `name` any more: the bytes would be under another name, or
-/// under none.
+/// Truncates `output`, the file `name`, to no bytes, if it can't be replaced. `make` calls it. Refuses a file that
+/// another run writes or edits; it keeps its bytes. Also refuses a file that isn't `name` any more: the bytes would be
+/// under another name, or under none.
 pub fn emptied<R: fs::Files<File = File>>(
     system: &R,
     name: &str,
@@ -141,8 +142,8 @@ pub fn emptied<R: fs::Files<File = File>>(
     Ok(output)
 }
 
-/// Gives the new file `file`, with the name `beside`, the mode and owner of `was`, and then the name `place`. If this
-/// fails, it removes the new file.
+/// Gives the new file `file`, with the name `beside`, the mode and owner of `was`, and then the name `place`.
+/// `replaced_at` calls it. If this fails, it removes the new file.
 fn put_in_place<R: fs::Files<File = File>>(
     system: &R,
     file: File,
@@ -164,7 +165,8 @@ fn put_in_place<R: fs::Files<File = File>>(
     moved
 }
 
-/// Gives the new file `file` a shared lock, and the mode and owner of `was`, and checks that it has them.
+/// Gives the new file `file` a shared lock, and the mode and owner of `was`, and checks that it has them, for
+/// `put_in_place`. Fails if it hasn't.
 fn copy_permissions(file: File, was: &Metadata) -> io::Result<Output>
     requires { pos 2 <ℤ file_raw_fd file }
     ensures { IfOk result (λ made. made.is_new ≡ true) }
@@ -184,20 +186,22 @@ fn copy_permissions(file: File, was: &Metadata) -> io::Result<Output>
     })
 }
 
-/// Gives `file` the owner and group of `was`, as far as the system permits.
+/// Gives `file`, a new output or journal, the owner and group of `was`, as far as the system permits.
+/// `copy_permissions` and `share_new` call it.
 pub fn copy_owner(file: &File, was: &Metadata) -> io::Result<()> {
     // Two calls: only root may set the owner, but a member of the group may set the group.
     unless_refused(fchown(file, None, Some(was.gid())))?;
     unless_refused(fchown(file, Some(was.uid()), None))
 }
 
-/// Sets the mode bits of `file` to `mode`, if the system permits.
+/// Sets the mode bits of `file`, a new output or a journal, to `mode`, if the system permits. `copy_permissions`,
+/// `share_new` and `share_bits` call it.
 pub fn set_mode(file: &File, mode: u32) -> io::Result<()> {
     unless_refused(file.set_permissions(Permissions::from_mode(mode)))
 }
 
-/// Makes the result `outcome` a success if it is a failure that may be ignored. The process may not set an owner or
-/// mode, the file system doesn't keep it, or the owner doesn't exist here.
+/// Makes the result `outcome` a success if it is a failure that may be ignored, for `copy_owner` and `set_mode`. The
+/// process may not set an owner or mode, the file system doesn't keep it, or the owner doesn't exist here.
 fn unless_refused(outcome: io::Result<()>) -> io::Result<()> {
     match outcome {
         Err(error) if is_refusal(error.kind()) => Ok(()),
@@ -206,7 +210,7 @@ fn unless_refused(outcome: io::Result<()>) -> io::Result<()> {
 }
 
 /// Checks whether a failure of the kind `kind` to set an owner or a mode may be ignored. It isn't permitted, not
-/// supported, or not valid here.
+/// supported, or not valid here. `unless_refused` calls it.
 fn is_refusal(kind: ErrorKind) -> bool {
     matches!(
         kind,

@@ -33,7 +33,7 @@ pub struct RealDisk<'a, R: fs::Files<File = File>> {
 }
 
 impl<'a, R: fs::Files<File = File>> RealDisk<'a, R> {
-    /// Returns a disk over the calls of `system`, without an open pair.
+    /// Returns a disk over the calls of `system`, without an open pair. The program makes one for each run.
     pub fn new(alloc: Global, system: &'a R) -> RealDisk<'a, R>
         ensures { result.pair ≡ None }
     {
@@ -48,7 +48,7 @@ impl<'a, R: fs::Files<File = File>> RealDisk<'a, R> {
     }
 }
 
-/// Adds 1 to `count`, a number of failed calls, up to 2^64 - 1.
+/// Adds 1 to `count`, a number of failed calls of the disk, up to 2^64 - 1.
 fn note_failure(count: &mut u64)
     ensures exact { count.new ≡ counted count.old 1 }
     ensures risen { HasIncreased count.old count.new }
@@ -56,7 +56,8 @@ fn note_failure(count: &mut u64)
     *count = count.saturating_add(1);
 }
 
-/// Returns the edited file or the journal of the open pair, by its number `file`.
+/// Returns the edited file or the journal of the open pair `pair`, by its number `file`: MEDIA or SIDECAR. Each call on
+/// the open pair begins with it.
 fn file_of(pair: &Option<OpenPair>, file: FileId) -> &OpenFile
     requires { IsTrue (is_live pair.now file.n) }
     ensures { result.now.size ≡ size_in pair.now file.n }
@@ -68,9 +69,9 @@ fn file_of(pair: &Option<OpenPair>, file: FileId) -> &OpenFile
     }
 }
 
-/// Checks whether `file` of the pair may be written. Until this run changes the edited file, that file must have its
-/// name and the length with which it was opened. After the journal has its record, it is changed even if another file
-/// has its name by then.
+/// Checks whether `file` of the open pair `pair` may be written; `write_at` and `cut` do this first. Until this run
+/// changes the edited file, that file must have its name and the length with which it was opened. After the journal has
+/// its record, it is changed even if another file has its name by then.
 fn is_as_opened<R: fs::Files<File = File>>(
     system: &R,
     pair: &Option<OpenPair>,
@@ -85,7 +86,8 @@ fn is_as_opened<R: fs::Files<File = File>>(
     }
 }
 
-/// Checks whether the open file `open` has its noted length, and its name, if `counts_name`.
+/// Checks whether the open file `open` has its noted length, and its name, if `counts_name`. `is_as_opened` calls it
+/// for the edited file.
 fn is_same<R: fs::Files<File = File>>(system: &R, open: &OpenFile, counts_name: bool) -> bool {
     match open.file.metadata() {
         Ok(found) => {
@@ -96,14 +98,14 @@ fn is_same<R: fs::Files<File = File>>(system: &R, open: &OpenFile, counts_name: 
     }
 }
 
-/// Checks whether `name` is still the name of the open file `open`.
+/// Checks whether `name` is still the name of the open file with the metadata `open`. `is_same` calls it.
 fn is_named<R: fs::Files<File = File>>(system: &R, name: &str, open: &Metadata) -> bool {
     node_of(open).is_ok_and(|node| has_name(system, name, node))
 }
 
-/// Lets only the owner read the journal before the first write of a record to it. The write is to `file` and ends at
-/// the offset `end`; any other changes nothing. The record has bytes of the edited file, which others may not be
-/// allowed to read.
+/// Lets only the owner read the journal of the open pair `pair` before the first write of a record to it; `write_at`
+/// calls it. The write is to `file` and ends at the offset `end`; any other changes nothing. The record has bytes of
+/// the edited file, which others may not be allowed to read.
 fn hide_record(pair: &Option<OpenPair>, file: FileId, end: u64) -> io::Result<()> {
     match pair {
         Some(open) if file != MEDIA && open.sidecar.size <= 1 && end > 1 => {
@@ -113,15 +115,16 @@ fn hide_record(pair: &Option<OpenPair>, file: FileId, end: u64) -> io::Result<()
     }
 }
 
-/// Lets others read the journal `sidecar` of `media` if it has no record: they look there for a pending edit. Call it
-/// after a sync, so that the disk has no record either. Ignores a failure.
+/// Lets others read the journal `sidecar` of `media` if it has no record: they look there for a pending edit.
+/// `open_both` and `sync` call it, after a sync, so that the disk has no record either. Ignores a failure.
 fn show_quiet(sidecar: &OpenFile, media: &OpenFile) {
     if sidecar.size <= 1 {
         let _ = share_bits(&sidecar.file, &media.file, QUIET);
     }
 }
 
-/// Notes that `file` of the pair, the edited file or the journal, now has `size` bytes.
+/// Notes that `file` of the open pair `pair`, the edited file or the journal, now has `size` bytes and was written.
+/// `write_at` and `cut` call it last.
 fn resize(pair: &mut Option<OpenPair>, file: FileId, size: u64)
     requires live { IsTrue (is_live pair.old file.n) }
     requires short { size ≤ LONGEST_FILE }
@@ -141,7 +144,8 @@ fn resize(pair: &mut Option<OpenPair>, file: FileId, size: u64)
     }
 }
 
-/// Returns a copy of `name`, the name of an edited file, and the name of its journal.
+/// Returns a copy of `name`, the name of an edited file, and the name of its journal. `open_pair` calls it, since it
+/// takes memory, before it opens a file.
 fn names(alloc: Global, name: &str) -> Result<(Text, Text), AllocError>
     ensures { IfOk result (λ names. (names.0 ≡ name.now) × (names.1 ≡ sidecar_of name.now)) }
 {
@@ -151,7 +155,7 @@ fn names(alloc: Global, name: &str) -> Result<(Text, Text), AllocError>
 }
 
 /// Opens the edited file `name` and the journal `sidecar`, which is created if it doesn't exist, and syncs both and
-/// their folder.
+/// their folder. `open_pair` calls it. A missing edited file is `Missing`, any other failure `Failed`.
 fn open_both<R: fs::Files<File = File>>(
     system: &R,
     name: Text,
@@ -202,13 +206,13 @@ impl<'a, R: fs::Files<File = File>> Reads for RealDisk<'a, R> {
 
     ghost short = { λ disk file live. short-of_size disk.pair file };
 
-    /// Returns the length of `file`, the edited file or the journal, in bytes.
+    /// Returns the length of `file`, the edited file or the journal, in bytes, as noted in the open pair.
     fn size(&self, file: FileId) -> u64 {
         file_of(&self.pair, file).size
     }
 
     /// Fills `into` with the bytes of `file`, the edited file or the journal, from the offset `at` on, by reads of the
-    /// system.
+    /// system. An edit in place reads both files with it.
     fn read_at(&mut self, file: FileId, at: u64, into: &mut [u8]) -> Result<(), Failed> {
         let length = into.len() as u64;
         if file_of(&self.pair, file)
@@ -262,8 +266,8 @@ impl<'a, R: fs::Files<File = File>> Disk for RealDisk<'a, R> {
 
     ghost writing_stands = { λ a b same. ap (λ (s : Option OpenPair × ℕ). s.1) same };
 
-    /// Opens the edited file `name` and its journal, which is created if there is none. Another pair that is open is
-    /// closed.
+    /// Opens the edited file `name` and its journal, which is created if there is none, for `propedit`, `reindex` and
+    /// `recover`. Another pair that is open is closed.
     fn open_pair(&mut self, name: &str) -> Result<(), OpenFault> {
         let (media, sidecar) = names(self.alloc, name)?;
         match open_both(self.system, media, sidecar) {
@@ -279,8 +283,8 @@ impl<'a, R: fs::Files<File = File>> Disk for RealDisk<'a, R> {
         }
     }
 
-    /// Writes `bytes` to `file`, the edited file or the journal, from the offset `at` on. Fails if its name has become
-    /// another file.
+    /// Writes `bytes` to `file`, the edited file or the journal, from the offset `at` on, for an edit in place. Fails
+    /// if its name has become another file.
     fn write_at(&mut self, file: FileId, at: u64, bytes: &[u8]) -> Result<(), Failed> {
         let open = file_of(&self.pair, file);
         let len = bytes.len() as u64;
@@ -301,7 +305,8 @@ impl<'a, R: fs::Files<File = File>> Disk for RealDisk<'a, R> {
         Ok(())
     }
 
-    /// Truncates `file`, the edited file or the journal, to `len` bytes. Fails if its name has become another file.
+    /// Truncates `file`, the edited file or the journal, to `len` bytes, for an edit in place. Fails if its name has
+    /// become another file.
     fn cut(&mut self, file: FileId, len: u64) -> Result<(), Failed> {
         if len > LONGEST_FILE
             || !is_as_opened(self.system, &self.pair, file)
@@ -314,7 +319,8 @@ impl<'a, R: fs::Files<File = File>> Disk for RealDisk<'a, R> {
         Ok(())
     }
 
-    /// Syncs `file`, the edited file or the journal, with the device.
+    /// Syncs `file`, the edited file or the journal, with the device. An edit in place does this after it has written a
+    /// record, a reset or the new bytes.
     fn sync(&mut self, file: FileId) -> Result<(), Failed> {
         if file_of(&self.pair, file).file.sync_all().is_err() {
             note_failure(&mut self.writing_faults);

@@ -38,7 +38,7 @@ pub struct RealFiles<'a, R: fs::Files<File = File>> {
 }
 
 impl<'a, R: fs::Files<File = File>> RealFiles<'a, R> {
-    /// Returns the files over the calls of `system`; none is opened or created yet.
+    /// Returns the files over the calls of `system`; none is opened or created yet. The program makes one for each run.
     pub fn new(alloc: Global, system: &'a R) -> RealFiles<'a, R>
         ensures none_open { result.opened.items ≡ [] }
         ensures none_asked { result.asked.items ≡ [] }
@@ -55,24 +55,24 @@ impl<'a, R: fs::Files<File = File>> RealFiles<'a, R> {
         }
     }
 
-    /// Checks whether no number is left for another file.
+    /// Checks whether no number is left for another file. `open_file` and `create` then fail.
     fn is_full(&self) -> bool
         ensures { IsTrue result ↔ (length self.now.opened.items ≡ last_count) }
     {
         self.opened.len() as u64 == u64::MAX
     }
 
-    /// Checks whether the file with the identity `node` can't be an output. This run has opened or created it, under
-    /// any name, or it is standard output.
+    /// Checks whether the file with the identity `node` can't be an output, for `make`. This run has opened or created
+    /// it, under any name, or it is standard output.
     fn is_taken(&self, node: Node) -> bool
         ensures { result ≡ false → list_any (is_node node) self.now.seen.items ≡ false }
     {
         is_seen(&self.seen, node) || is_standard_output(self.system, node)
     }
 
-    /// Creates the empty output `name`, or replaces the file of that name. An empty file is replaced, too: another run
-    /// may be about to write it. A file that is taken, or that another run edits, is refused and keeps its bytes. An
-    /// open output holds a shared lock.
+    /// Creates the empty output `name`, or replaces the file of that name, for `create`. An empty file is replaced,
+    /// too: another run may be about to write it. A file that is taken, or that another run edits, is refused and keeps
+    /// its bytes. An open output holds a shared lock.
     fn make(&self, name: &str) -> io::Result<Output>
         ensures { IfOk result (λ made. made.is_new ≡ false → list_any (is_node made.node) self.now.seen.items ≡ false) }
     {
@@ -99,7 +99,7 @@ impl<'a, R: fs::Files<File = File>> RealFiles<'a, R> {
     }
 }
 
-/// Adds 1 to `count`, a number of failed calls, up to 2^64 - 1.
+/// Adds 1 to `count`, a number of failed calls of the files, up to 2^64 - 1.
 fn note_failure(count: &mut u64)
     ensures exact { count.new ≡ counted count.old 1 }
     ensures risen { HasIncreased count.old count.new }
@@ -132,7 +132,8 @@ impl<'a, R: fs::Files<File = File>> Reads for RealFiles<'a, R> {
         open_at(&self.opened, file).size
     }
 
-    /// Fills `into` with the bytes of the open file `file` from the offset `at` on, by reads of the system.
+    /// Fills `into` with the bytes of the open file `file` from the offset `at` on, by reads of the system. Every
+    /// reader uses it.
     fn read_at(&mut self, file: FileId, at: u64, into: &mut [u8]) -> Result<(), Failed> {
         let length = into.len() as u64;
         if open_at(&self.opened, file)
@@ -183,7 +184,8 @@ impl<'a, R: fs::Files<File = File>> Files for RealFiles<'a, R> {
 
     ghost asked_stands = { λ a b same. ap (λ (s : List (Option Opened) × ℕ × List Asked). s.2) same };
 
-    /// Opens the file `name` for reading, and returns its number.
+    /// Opens the file `name` for reading, and returns its number. `merge`, `extract` and `info` open their inputs with
+    /// it. `Missing` means that no file has the name.
     fn open_file(&mut self, name: &str) -> Result<FileId, OpenFault> {
         if self.is_full() {
             note_failure(&mut self.reading_faults);
@@ -210,7 +212,8 @@ impl<'a, R: fs::Files<File = File>> Files for RealFiles<'a, R> {
         }
     }
 
-    /// Creates or replaces the file `name`, with an empty content, for writing, and returns its number.
+    /// Creates or replaces the file `name`, with an empty content, for writing, and returns its number. `merge`,
+    /// `extract` and `generate` create their outputs with it.
     fn create(&mut self, name: &str) -> Result<FileId, MakeFault> {
         if self.is_full() {
             note_failure(&mut self.writing_faults);
@@ -239,7 +242,8 @@ impl<'a, R: fs::Files<File = File>> Files for RealFiles<'a, R> {
         }
     }
 
-    /// Appends `bytes` to the open file `file`, by writes of the system.
+    /// Appends `bytes` to the open file `file`, by writes of the system. After a failure some of the first may have
+    /// been written. Used by `prepare` and `names`.
     fn append(&mut self, file: FileId, bytes: &[u8]) -> Result<(), MakeFault> {
         let open = open_at(&self.opened, file);
         if bytes.len() as u64 > LONGEST_FILE - open.size {
@@ -255,7 +259,8 @@ impl<'a, R: fs::Files<File = File>> Files for RealFiles<'a, R> {
         Ok(())
     }
 
-    /// Writes `bytes` over the open file `file` from the offset `at` on.
+    /// Writes `bytes` over the open file `file` from the offset `at` on. `merge` does this for the SeekHead, the
+    /// Segment's size and the Duration of an output.
     fn overwrite(&mut self, file: FileId, at: u64, bytes: &[u8]) -> Result<(), Failed> {
         let open = open_at(&self.opened, file);
         if write_from(&mut &open.file, at, bytes) < bytes.len() {
@@ -265,7 +270,7 @@ impl<'a, R: fs::Files<File = File>> Files for RealFiles<'a, R> {
         Ok(())
     }
 
-    /// Closes the open file `file`.
+    /// Closes the open file `file`. Its number isn't used again.
     fn close(&mut self, file: FileId) {
         self.opened[file.n as usize] = None;
     }

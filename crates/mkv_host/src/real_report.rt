@@ -14,7 +14,7 @@ pub struct RealReport<'a, R: Print> {
 }
 
 impl<'a, R: Print> RealReport<'a, R> {
-    /// Returns standard output over the calls of `system`; no line has failed.
+    /// Returns standard output over the calls of `system`; no line has failed. The program makes one for each run.
     pub fn new(system: &'a R) -> RealReport<'a, R>
         ensures { result.faults ≡ 0 }
     {
@@ -29,7 +29,7 @@ impl<'a, R: Print> Report for RealReport<'a, R> {
 
     ghost faults = { λ report. report.faults };
 
-    // Prints `line` and a line end to standard output.
+    // Prints `line` and a line end to standard output. Every message of a command is printed by it.
     fn say(&mut self, line: &str) -> Result<(), Failed> {
         if self.system.println(line).is_err() {
             self.faults = self.faults.saturating_add(1);

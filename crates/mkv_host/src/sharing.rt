@@ -15,7 +15,8 @@ pub const QUIET: u32 = 0o744;
 pub const HOLDING: u32 = 0o700;
 
 /// Gives the new journal `sidecar` the owner and group of the edited file `media`, as far as the system permits, and
-/// its mode. The mode is reduced to the bits `QUIET` if the edited file's owner owns the journal.
+/// its mode. `open_sidecar` calls it. The mode is reduced to the bits `QUIET` if the edited file's owner owns the
+/// journal.
 pub fn share_new(sidecar: &File, media: &Metadata) -> io::Result<()> {
     copy_owner(sidecar, media)?;
     let is_owners = sidecar.metadata()?.uid() == media.uid();
@@ -24,7 +25,8 @@ pub fn share_new(sidecar: &File, media: &Metadata) -> io::Result<()> {
 }
 
 /// Gives the journal `sidecar` the bits `bits` of the mode of the edited file `media`, if both have the same owner.
-/// Ignores that the system doesn't permit it. A journal that has this mode already isn't touched.
+/// `hide_record` and `show_quiet` call it. Ignores that the system doesn't permit it. A journal that has this mode
+/// already isn't touched.
 pub fn share_bits(sidecar: &File, media: &File, bits: u32) -> io::Result<()> {
     let found = sidecar.metadata()?;
     let film = media.metadata()?;

@@ -26,8 +26,8 @@ pub struct Node {
     pub inode: u64,
 }
 
-/// Checks whether `error` means that no file has the name. The name is free or too long, or its path leads through a
-/// file.
+/// Checks whether `error` means that no file has the name, which is reported to the user as a missing file. The name is
+/// free or too long, or its path leads through a file. `open_file` and `open_both` call it.
 pub fn is_missing(error: &io::Error) -> bool
     ensures { IsTrue result ↔ IsMissing (error_kind error.now) }
 {
@@ -38,7 +38,7 @@ pub fn is_missing(error: &io::Error) -> bool
 }
 
 /// Returns the identity of the file `found`. Refuses a folder, pipe, socket, device or link, since these have no
-/// length.
+/// length. Used wherever files of the system are compared.
 pub fn node_of(found: &Metadata) -> io::Result<Node>
     ensures { IsOk result ↔ IsFile (file_type found.now) }
 {
@@ -51,8 +51,8 @@ pub fn node_of(found: &Metadata) -> io::Result<Node>
     })
 }
 
-/// Checks whether standard output is the file with the identity `node`. Returns false if standard output isn't a
-/// regular file or can't be examined.
+/// Checks whether standard output is the file with the identity `node`. Such a file is neither edited nor an output.
+/// Returns false if standard output isn't a regular file or can't be examined. `open_media` and `is_taken` call it.
 pub fn is_standard_output<R: fs::Files<File = File>>(system: &R, node: Node) -> bool {
     match fs::metadata(system, STANDARD_OUTPUT) {
         Ok(found) => node_of(&found).is_ok_and(|output| output == node),
@@ -60,7 +60,8 @@ pub fn is_standard_output<R: fs::Files<File = File>>(system: &R, node: Node) -> 
     }
 }
 
-/// Returns the folder that contains the file `name`, `.` if the name has none.
+/// Returns the folder that contains the file `name`, `.` if the name has none, for a sync or a temporary name in it.
+/// `settle_folder` and `replaced_at` call it.
 pub fn folder_of(name: &str) -> &str
     ensures { result.now ≡ folder_in name.now }
 {
@@ -70,8 +71,9 @@ pub fn folder_of(name: &str) -> &str
     }
 }
 
-/// Returns `file` with a descriptor above 2, the last one of the standard streams. If one of them was closed, the
-/// system gives its number to the next file that is opened. Output to the stream would then be written into that file.
+/// Returns `file` with a descriptor above 2, the last one of the standard streams. Every file is opened through it. If
+/// one of them was closed, the system gives its number to the next file that is opened. Output to the stream would then
+/// be written into that file. Used by `settle_folder`, `open_or_make` and others.
 pub fn above_streams(file: File) -> io::Result<File>
     ensures { IfOk result (λ moved. pos 2 <ℤ file_raw_fd moved) }
 {
@@ -85,7 +87,8 @@ pub fn above_streams(file: File) -> io::Result<File>
     Ok(moved)
 }
 
-/// Opens the file `name`, which exists, to read and write it. The file keeps its bytes.
+/// Opens the file `name`, which exists, to read and write it: an edited file, its journal, or an output. The file keeps
+/// its bytes. Used by `open_media`, `open_existing` and others.
 pub fn open_again<R: fs::Files<File = File>>(system: &R, name: &str) -> io::Result<File>
     ensures { IfOk result (λ file. pos 2 <ℤ file_raw_fd file) }
 {
@@ -93,8 +96,8 @@ pub fn open_again<R: fs::Files<File = File>>(system: &R, name: &str) -> io::Resu
     above_streams(opened?)
 }
 
-/// Creates the file `name`, which only its owner may read or write. Fails if the name is taken. If the file is created,
-/// but can't be kept open, it is removed.
+/// Creates the file `name`, a journal or a temporary file, which only its owner may read or write. Fails if the name is
+/// taken. If the file is created, but can't be kept open, it is removed. Used by `open_sidecar` and `replaced_at`.
 pub fn make_private<R: fs::Files<File = File>>(system: &R, name: &str) -> io::Result<File>
     ensures { IfOk result (λ file. pos 2 <ℤ file_raw_fd file) }
 {
@@ -111,8 +114,9 @@ pub fn make_private<R: fs::Files<File = File>>(system: &R, name: &str) -> io::Re
     moved
 }
 
-/// Opens the regular file `name` to read it, and returns it with its length in bytes and its identity. Refuses a file
-/// longer than `LONGEST_FILE`. Anything but a regular file isn't opened, since that may wait for ever.
+/// Opens the regular file `name` to read it, and returns it with its length in bytes and its identity. `open_file`
+/// calls it. Refuses a file longer than `LONGEST_FILE`. Anything but a regular file isn't opened, since that may wait
+/// for ever.
 pub fn open_to_read<R: fs::Files<File = File>>(
     system: &R,
     name: &str,

@@ -16,7 +16,7 @@ pub trait WriteAt {
     /// Bytes of the file, if they are visible to the proof.
     ghost content: { Self → Option (List ℕ) };
 
-    /// Writes the first of `bytes` at the offset `at`, and returns their number.
+    /// Writes the first of `bytes` at the offset `at`, and returns their number. `write_some` calls it.
     fn write_at(&mut self, bytes: &[u8], at: u64) -> io::Result<usize>
         ensures most { IfOk result (λ count. count ≤ length bytes.now) }
         ensures ok { IfOk result (λ count. content self.new ≡ with_overwritten at (take count bytes.now) (content self.old)) }
@@ -28,14 +28,14 @@ impl<'a> WriteAt for &'a File {
 
     ghost content = { λ _. None };
 
-    /// Writes the first of `bytes` at the offset `at`, and returns their number.
+    /// Writes the first of `bytes` at the offset `at` of the file, by a call of the system, and returns their number.
     fn write_at(&mut self, bytes: &[u8], at: u64) -> io::Result<usize> {
         FileExt::write_at(*self, bytes, at)
     }
 }
 
 /// Writes the first of `bytes` to `file` at the offset `at`, and returns their number. It is 0 if the call was
-/// interrupted, and None if another call would be in vain.
+/// interrupted, and None if another call would be in vain. `write_from` calls it until it returns None.
 fn write_some<W: WriteAt>(file: &mut W, at: u64, bytes: &[u8]) -> Option<usize>
     ensures most { IfSome result (λ count. count ≤ length bytes.now) }
     ensures first { W.content file.new ≡ with_overwritten at (take (unwrap_or result 0) bytes.now) (W.content file.old) }
@@ -49,7 +49,8 @@ fn write_some<W: WriteAt>(file: &mut W, at: u64, bytes: &[u8]) -> Option<usize>
 }
 
 /// Writes `bytes` to `file` at the offset `at` until the system fails or writes nothing, and returns the number of
-/// written bytes. All were written only if it is the length of `bytes`.
+/// written bytes. All were written only if it is the length of `bytes`. Every write to an output, an edited file or a
+/// journal uses it.
 pub fn write_from<W: WriteAt>(file: &mut W, at: u64, bytes: &[u8]) -> usize
     requires { at ≤ LONGEST_FILE }
     ensures most { result ≤ length bytes.now }

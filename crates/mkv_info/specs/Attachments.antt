@@ -6,8 +6,8 @@ use Rattle.meta_records.specs.Attached.{AttachedFile}
 use Rattle.mkv_info.specs.Json.{array_of, given, numbered, object_of, whole}
 use Rattle.mkv_info.specs.Texts.{text_or_empty}
 
--- the object of the attached file `a`. It has FileMediaType, FileDescription and FileName, empty if absent; the number `id`, counted from 1; FileUID;
--- and the size of FileData in bytes.
+-- the object of the attached file `a`, an item of `attachments_value`. It has FileMediaType, FileDescription and FileName, empty if absent; the
+-- number `id`, counted from 1; FileUID; and the size of FileData in bytes.
 abbrev pub attachment_value : ℕ → AttachedFile → Data
 attachment_value id a = object_of (
     given "content_type" (string (text_or_empty FILE_MEDIA_TYPE a.entry)) ∷
@@ -18,6 +18,6 @@ attachment_value id a = object_of (
     given "size" (whole a.len) ∷
     [])
 
--- the attached files `list` in the order of the file, numbered from 1, as an array
+-- the attached files `list` in the order of the file, numbered from 1, as an array. The JSON of `merge -J` has it.
 abbrev pub attachments_value : List AttachedFile → Data
 attachments_value list = array_of (numbered (λ id a. attachment_value id a ∷ []) 1 list)

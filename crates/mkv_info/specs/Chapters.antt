@@ -6,15 +6,17 @@ use Rattle.tree_format.specs.Node.{Node, children}
 use Rattle.tree_format.specs.Changes.{part}
 use Rattle.mkv_info.specs.Json.{array_of, given, object_of, whole}
 
--- the value of the keys `chapters` and `global_tags`. It is a list with one object that has the number of entries `n`, or an empty list if `n` is 0.
+-- the value of the keys `chapters` and `global_tags` of `merge -J`. It is a list with one object that has the number of entries `n`, or an empty list
+-- if `n` is 0.
 abbrev pub entries_value : ℕ → Data
 entries_value n = array_of (if n == 0 then [] else object_of (given "num_entries" (whole n) ∷ []) ∷ [])
 
--- the ChapterAtoms directly in an EditionEntry, for all EditionEntries in `ns`, the children of Chapters; nested ones don't count
+-- the ChapterAtoms directly in an EditionEntry, for all EditionEntries in `ns`, the children of Chapters; nested ones don't count. The JSON has their
+-- number, and simple chapters are extracted from them. Used by `chapter_count`.
 abbrev pub top_atoms : List Node → List Node
 top_atoms ns = flat_map (λ e. part CHAPTER_ATOM (children e)) (part EDITION_ENTRY ns)
 
--- the number of ChapterAtoms directly in an EditionEntry of the file's first Chapters, or 0 without a Chapters
+-- the number of ChapterAtoms directly in an EditionEntry of the file's first Chapters, or 0 without a Chapters, for the key `chapters` of `merge -J`
 abbrev pub chapter_count : Option Node → ℕ
 chapter_count None = 0
 chapter_count (Some chapters) = length (top_atoms (children chapters))

@@ -15,18 +15,20 @@ use Rattle.mkv_info.specs.Chapters.{chapter_count, entries_value}
 use Rattle.mkv_info.specs.Tags.{tag_count, track_tags_value}
 use Rattle.mkv_info.specs.ToldTracks.{tracks_value}
 
--- the Title of the file's first Info `info` (RFC 9559, section 5.1.2, Info Element), unless it is empty or absent
+-- the Title of the file's first Info `info` (RFC 9559, section 5.1.2, Info Element), or None if it is empty or absent. `container_properties` uses
+-- it.
 abbrev pub title_of : Option Node → Option (List ℕ)
 title_of info = option_and_then (λ i. unless_empty (text_or_empty TITLE i)) info
 
--- the properties of a file with the first Info `info`: TimestampScale in nanoseconds per tick, and Title, which is left out if it is empty
+-- the properties of a file with the first Info `info`: TimestampScale in nanoseconds per tick, and Title, which is left out if it is empty.
+-- `container_value` has them.
 abbrev pub container_properties : Option Node → Data
 container_properties info = object_of (
     given "timestamp_scale" (whole (scale_of_info info)) ∷
     if_there "title" (option_map string (title_of info)) ∷
     [])
 
--- the value of the key `container` for a file with the first Info `info`: that the file is Matroska, and its properties
+-- the value of the key `container` of `merge -J` for a file with the first Info `info`: that the file is Matroska, and its properties
 abbrev pub container_value : Option Node → Data
 container_value info = object_of (
     given "properties" (container_properties info) ∷
@@ -35,7 +37,7 @@ container_value info = object_of (
     given "type" (string (codes "Matroska")) ∷
     [])
 
--- the members of the object that identifies the file `name` with the records `file`
+-- the members of the object that identifies the file `name` with the records `file`, in sorted order of their keys. `identification` is made of them.
 abbrev pub told_of : List ℕ → FileRecords → List Member
 told_of name file =
     given "attachments" (attachments_value file.attachments) ∷
@@ -47,10 +49,11 @@ told_of name file =
     given "tracks" (tracks_value file.tracks) ∷
     []
 
--- the JSON object that `merge -J` prints for the file `name` with the records `file`
+-- the JSON object that `merge -J` prints for the file `name` with the records `file`. The contract of the function with this name promises it.
 unfoldable pub identification : List ℕ → FileRecords → Data
 identification name file = object_of (told_of name file)
 
--- the line that `merge -J` prints for the file `name` with the records `file`: its JSON object as text without blanks
+-- the line that `merge -J` prints for the file `name` with the records `file`: its JSON object as text without blanks. The contract of `identify`
+-- promises it.
 abbrev pub identification_line : List ℕ → FileRecords → List ℕ
 identification_line name file = compact_text (identification name file)

@@ -8,22 +8,24 @@ use Rattle.element_reader.specs.declared.outline_end.OutlineEnd.TheVariants as o
 use Rattle.meta_records.specs.Records.{FileRecords, described_by, file_records}
 use Rattle.mkv_info.specs.declared.reading.FileRead.{FileRead}
 
--- The records that describe a file, and its first damage at level 1, if any.
+-- The records that describe a file, and its first damage at level 1, if any. The JSON of `merge -J` is made of them.
 pub record Described : Type 0 where
   pub records : FileRecords
   pub damage : Option Damage
 
--- the data `r` that the code has read of a file, in the form of the definitions
+-- the data `r` that the code has read of a file, in the form of the definitions, for the contracts of `merge -J`
 abbrev pub read_in : FileRead → Described
 read_in r = record { records = described_by r.records; damage = r.damage }
 
--- the records and damage of a file with the content `bytes`, or its refusal, first for its outline, and then for its records
+-- the records and damage of a file with the content `bytes`, or its refusal, first for its outline, and then for its records. The contract of
+-- `read_file` promises them.
 abbrev pub read_of : List ℕ → Result Described Damage
 read_of bytes =
     and_then (outline_of 0 bytes) (λ (o : Outlined).
     and_then (file_records bytes o.segment) (λ (r : FileRecords). Ok (record { records = r; damage = o.damage })))
 
--- The result has `found`, the records and damage of a file or its refusal; or a read failed, or memory ran out.
+-- The result has `found`, the records and damage of a file or its refusal; or a read failed, or memory ran out. The contract of `read_file` promises
+-- it.
 abbrev pub ReadsFile : Result Described Damage → Result FileRead OutlineEnd → Type 0
 ReadsFile found (Ok r) = found ≡ Ok (read_in r)
 ReadsFile found (Err (outline_end.Refused d)) = found ≡ Err d

@@ -12,7 +12,8 @@ use output_model::Attachment;
 use serde_json::{Value, json};
 use std::alloc::{AllocError, Global};
 
-/// Makes the value of the key `attachments`: a list of the attached files in their order in the file, numbered from 1.
+/// Makes the value of the key `attachments` in the JSON of `merge -J`: a list of the attached files in their order in
+/// the file, numbered from 1. Their data isn't read.
 pub(crate) fn attachments_value(
     alloc: Global,
     attachments: &[Attachment],
@@ -27,7 +28,7 @@ pub(crate) fn attachments_value(
     Ok(Value::Array(values))
 }
 
-// Makes the object of the attached file `attachment` with the number `id`, counted from 1.
+// Makes the object of the attached file `attachment` with the number `id`, counted from 1, for `attachments_value`.
 #[tactic(auto, using(crate::proofs::ValueLemmas::known))]
 fn attachment_value(alloc: Global, id: u64, attachment: &Attachment) -> Result<Value, AllocError>
     requires { IsAttached attachment.now }

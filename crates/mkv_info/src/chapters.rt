@@ -10,8 +10,8 @@ use mkv_schema::ids::{CHAPTER_ATOM, EDITION_ENTRY};
 use serde_json::{Value, json};
 use std::alloc::{AllocError, Global};
 
-/// Makes the value of the keys `chapters` and `global_tags`: a list with one object that has the number of entries,
-/// `count`. It is empty if `count` is 0.
+/// Makes the value of the keys `chapters` and `global_tags` in the JSON of `merge -J`: a list with one object that has
+/// the number of entries, `count`. It is empty if `count` is 0.
 pub(crate) fn entries_value(alloc: Global, count: usize) -> Result<Value, AllocError>
     ensures { IfOk result (λ value. view value ≡ entries_value count) }
 {
@@ -21,8 +21,8 @@ pub(crate) fn entries_value(alloc: Global, count: usize) -> Result<Value, AllocE
     json!(in alloc; [{"num_entries": count}])
 }
 
-/// Returns the number of ChapterAtoms directly in an EditionEntry of `chapters`, the file's first Chapters; nested ones
-/// don't count. It is 0 without a Chapters.
+/// Returns the number of ChapterAtoms directly in an EditionEntry of `chapters`, the file's first Chapters, for the key
+/// `chapters` of `merge -J`; nested ones don't count. It is 0 without a Chapters.
 pub(crate) fn chapter_count(chapters: &Option<Tree>) -> Result<usize, AllocError>
     ensures { IfOk result (λ count. count ≡ chapter_count chapters.now) }
 {

@@ -29,8 +29,8 @@ pub(crate) fn container_value(alloc: Global, info: &Option<Tree>) -> Result<Valu
     })
 }
 
-// Makes the properties of the whole file: TimestampScale in nanoseconds per tick, and Title, which is left out if it is
-// empty.
+// Makes the properties of the whole file from its first Info, `info`, for `container_value`. They are TimestampScale in
+// nanoseconds per tick, and Title, which is left out if it is empty.
 fn container_properties(alloc: Global, info: &Option<Tree>) -> Result<Value, AllocError>
     requires { IfSome info.now IsGoodInfo }
     ensures { IfOk result (λ value. view value ≡ container_properties info.now) }
@@ -47,7 +47,8 @@ fn container_properties(alloc: Global, info: &Option<Tree>) -> Result<Value, All
     Ok(Value::Object(properties))
 }
 
-// Returns the Title of the Info, or None if it is empty or absent.
+// Returns the Title of `info`, the file's first Info, or None if it is empty or absent. `container_properties` calls
+// it.
 #[tactic(auto, using(crate::proofs::ValueLemmas::known))]
 fn title_of(info: &Option<Tree>) -> Option<&str>
     requires { IfSome info.now IsGoodInfo }

@@ -19,8 +19,8 @@ use mkv_io::{FileId, Reads, Report};
 use mkv_lines::{CommandEnd, Line, Status, refuse, say_text};
 use std::alloc::Global;
 
-/// Prints the identification of the open file `file` with the name `name`, and then a warning of the damage that ends
-/// its outline. A file that is refused gets only an error line.
+/// Prints the identification of the open file `file` with the name `name`, for `merge -J`. A warning of the damage that
+/// ends its outline follows. A file that is refused gets only an error line.
 pub fn identify_file<R: Reads, P: Report>(
     alloc: Global,
     name: &str,
@@ -45,7 +45,8 @@ pub fn identify_file<R: Reads, P: Report>(
     }
 }
 
-/// Prints the identification of the file `name` with the data in `read`, and then a warning of its damage, if any.
+/// Prints the identification of the file `name` with the data in `read`, for `identify_file`, and then a warning of its
+/// damage, if any.
 fn tell<P: Report>(
     alloc: Global,
     name: &str,

@@ -27,8 +27,8 @@ pub enum Form {
     Json,
 }
 
-/// Opens the file `name`, prints its description in the form `form`, and closes it, in any case. A missing file, and
-/// one with a pending edit, gets only an error line.
+/// Opens the file `name`, prints its description in the form `form`, and closes it, in any case. It is the whole
+/// command `info`, and `merge -J`. A missing file, and one with a pending edit, gets only an error line.
 pub fn info_of<F: Files, P: Report>(
     alloc: Global,
     form: Form,
@@ -53,8 +53,8 @@ pub fn info_of<F: Files, P: Report>(
     ended
 }
 
-/// Prints the description of the open file `file` with the name `name` in the form `form`. If its journal has a pending
-/// edit, it prints only an error, since the file may be half written.
+/// Prints the description of the open file `file` with the name `name` in the form `form`, for `info_of`. If its
+/// journal has a pending edit, it prints only an error, since the file may be half written.
 fn report_unless_pending<F: Files, P: Report>(
     alloc: Global,
     form: Form,

@@ -6,7 +6,8 @@ ghost use Rattle.mkv_info.specs.Put.{PutsMember};
 use serde_json::{Map, Value, put};
 use std::alloc::{AllocError, Global};
 
-/// Puts the member `key` with `value` into `object`, or leaves the object as it is if there is no value.
+/// Puts the member `key` with `value` into `object`, or leaves the object as it is if there is no value. Optional
+/// properties of a track or file are put so. Used by `container_properties` and `properties_of`.
 pub(crate) fn put_if(
     object: &mut Map<String, Value>,
     alloc: Global,

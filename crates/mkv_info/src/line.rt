@@ -16,7 +16,7 @@ use mkv_io::Text;
 use serde_json::{Map, Value, put};
 use std::alloc::{AllocError, Global};
 
-/// Makes the line of JSON that `merge -J` prints for the file `name` with the records `records`.
+/// Makes the line of JSON that `merge -J` prints for the file `name` with the records `records`. `tell` prints it.
 pub fn identify(alloc: Global, name: &str, records: &Records) -> Result<Text, AllocError>
     requires { CanBeTold records.now }
     ensures { IfOk result (λ line. line ≡ identification_line name.now (described_by records.now)) }
@@ -25,7 +25,8 @@ pub fn identify(alloc: Global, name: &str, records: &Records) -> Result<Text, Al
     Ok(Text::from_string(value.to_string(alloc)?))
 }
 
-// Makes the JSON object that identifies the file `name` with the records `records`. Its keys are sorted.
+// Makes the JSON object that identifies the file `name` with the records `records`, for `identify`. Its keys are
+// sorted.
 #[tactic(auto, unfolding(crate::specs::Identification::identification))]
 fn identification(alloc: Global, name: &str, records: &Records) -> Result<Value, AllocError>
     requires { CanBeTold records.now }

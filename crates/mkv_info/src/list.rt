@@ -17,8 +17,8 @@ use mkv_io::{Damage, FileId, Reads, Report};
 use mkv_lines::{CommandEnd, Line, Status, refuse, say};
 use std::alloc::Global;
 
-/// Prints a line for each Element and each track of the open file `file`, which has the name `name`. A warning of the
-/// damage that ends the list follows. If its outline or tracks are refused, it prints only an error.
+/// Prints a line for each Element and each track of the open file `file`, which has the name `name`, for `info`. A
+/// warning of the damage that ends the list follows. If its outline or tracks are refused, it prints only an error.
 pub fn list_file<R: Reads, P: Report>(
     alloc: Global,
     name: &str,
@@ -43,8 +43,8 @@ pub fn list_file<R: Reads, P: Report>(
     }
 }
 
-// Prints the lines of the open file `file` with the name `name`, whose outline is `outline`. If its tracks are refused,
-// it prints only an error.
+// Prints the lines of the open file `file` with the name `name`, whose outline is `outline`, for `list_file`. If its
+// tracks are refused, it prints only an error.
 fn list_outline<R: Reads, P: Report>(
     alloc: Global,
     name: &str,
@@ -71,7 +71,8 @@ fn list_outline<R: Reads, P: Report>(
     }
 }
 
-// Prints a line for the EBML header, for the Segment, and for each Element at level 1 of the open file `file`.
+// Prints a line for the EBML header, for the Segment, and for each Element at level 1 of the open file `file`, for
+// `info`. Their `outline` is known; level 1 is read again.
 fn say_elements<R: Reads, P: Report>(
     alloc: Global,
     outline: &Outline,
@@ -94,8 +95,8 @@ fn say_elements<R: Reads, P: Report>(
     say_level_1(alloc, outline, &mut window, src, file, report)
 }
 
-// Prints a line for each Element at level 1 of the open file `file`. The headers are read through `window`, which must
-// be empty.
+// Prints a line for each Element at level 1 of the open file `file`, for `say_elements`. The headers are read through
+// `window`, which must be empty. It ends at the damage or end of the Segment.
 fn say_level_1<R: Reads, P: Report>(
     alloc: Global,
     outline: &Outline,
@@ -127,8 +128,8 @@ fn say_level_1<R: Reads, P: Report>(
     }
 }
 
-/// Prints a warning of the damaged place `damage` in the file `name`, if there is one, and returns the status of the
-/// command.
+/// Prints a warning of the damaged place `damage` in the file `name`, if there is one, and returns the status of `info`
+/// or `merge -J`: Warned, or Done without damage.
 pub(crate) fn warn<P: Report>(
     alloc: Global,
     name: &str,

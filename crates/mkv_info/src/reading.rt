@@ -22,7 +22,7 @@ pub struct FileRead {
     pub damage: Option<Damage>,
 }
 
-/// Reads the outline and then the records of the open file `file`, or returns the first refusal.
+/// Reads the outline and then the records of the open file `file`, for `merge -J`, or returns the first refusal.
 #[tactic(auto, using(crate::proofs::ReadLemmas::told))]
 pub fn read_file<R: Reads>(alloc: Global, src: &mut R, file: FileId) -> Result<FileRead, OutlineEnd>
     requires { IsLive R.Reads src.old file }

@@ -15,8 +15,8 @@ use indexmap::{IndexMap, IndexSet};
 use mkv_schema::ids::{SIMPLE_TAG, TAG, TAG_TRACK_UID, TARGETS};
 use std::alloc::{AllocError, Global};
 
-/// Returns the number of SimpleTags for each TrackUID that the Tags `tags` names. A TrackUID that isn't in the map has
-/// none.
+/// Returns the number of SimpleTags for each TrackUID that the Tags `tags` names, for the key `track_tags` of `merge
+/// -J`. A TrackUID that isn't in the map has none.
 pub(crate) fn tag_counts(
     alloc: Global,
     tags: &Option<Tree>,
@@ -36,14 +36,16 @@ pub(crate) fn tag_counts(
     Ok(counts)
 }
 
-/// Returns the number of SimpleTags for the TrackUID `uid` in `counts`, or 0 if it isn't there.
+/// Returns the number of SimpleTags for the TrackUID `uid` in `counts`, or 0 if it isn't there. `track_tags_value` asks
+/// for each track.
 pub(crate) fn tags_of_uid(counts: &IndexMap<u64, usize>, uid: u64) -> usize
     ensures { result ≡ tags_of_uid counts.now uid }
 {
     counts.get(&uid).copied().unwrap_or(0)
 }
 
-// Adds to `counts` the number of SimpleTags directly in `tag`, a Tag, for each TrackUID that it names.
+// Adds to `counts` the number of SimpleTags directly in `tag`, a Tag, for each TrackUID that it names. `tag_counts`
+// does this for each Tag.
 fn count_tag(alloc: Global, counts: &mut IndexMap<u64, usize>, tag: &Tree) -> Result<(), AllocError>
     requires { IsSoundOf TAG_ID tag.now }
     ensures { OnOk result (CountsTag counts.old counts.new tag.now) }
@@ -53,7 +55,7 @@ fn count_tag(alloc: Global, counts: &mut IndexMap<u64, usize>, tag: &Tree) -> Re
     add_all(counts, uids.as_slice(), count)
 }
 
-// Adds `count` to the counts of all TrackUIDs in `uids`.
+// Adds `count` to the counts of all TrackUIDs in `uids`, for `count_tag`.
 fn add_all(counts: &mut IndexMap<u64, usize>, uids: &[u64], count: usize) -> Result<(), AllocError>
     requires { IsDistinct nat_eq uids.now }
     ensures { OnOk result (AddsFor counts.old counts.new uids.now count) }
@@ -64,8 +66,8 @@ fn add_all(counts: &mut IndexMap<u64, usize>, uids: &[u64], count: usize) -> Res
     Ok(())
 }
 
-// Adds `count` to the count of the TrackUID `uid`. A sum that is too large fails as out of memory; memory can't hold
-// that number of tags.
+// Adds `count` to the count of the TrackUID `uid`, for `add_all`. A sum that is too large fails as out of memory;
+// memory can't hold that number of tags. Used by `add_all`.
 fn add(counts: &mut IndexMap<u64, usize>, uid: u64, count: usize) -> Result<(), AllocError>
     ensures { OnOk result (AddsFor counts.old counts.new (uid ∷ []) count) }
 {
@@ -76,7 +78,7 @@ fn add(counts: &mut IndexMap<u64, usize>, uid: u64, count: usize) -> Result<(), 
     Ok(())
 }
 
-// Returns the TrackUIDs that `tag`, a Tag, names in its Targets, each once.
+// Returns the TrackUIDs that `tag`, a Tag, names in its Targets, each once, for `count_tag`.
 fn uids_named(alloc: Global, tag: &Tree) -> Result<IndexSet<u64>, AllocError>
     requires { IsSoundOf TAG_ID tag.now }
     ensures { IfOk result (λ uids. uids.keys ≡ uids_named tag.now) }
@@ -90,8 +92,8 @@ fn uids_named(alloc: Global, tag: &Tree) -> Result<IndexSet<u64>, AllocError>
     Ok(uids)
 }
 
-// Adds the TrackUIDs that `targets`, a Targets, names to `uids`, unless they are there already. A TagTrackUID of 0
-// names no track.
+// Adds the TrackUIDs that `targets`, a Targets, names to `uids`, unless they are there already. `uids_named` does this
+// for each Targets. A TagTrackUID of 0 names no track.
 fn add_named(uids: &mut IndexSet<u64>, targets: &Tree) -> Result<(), AllocError>
     requires { IsSoundOf TARGETS_ID targets.now }
     ensures { OnOk result (uids.new.keys ≡ insert_all nat_eq uids.old.keys (named_in targets.now)) }

@@ -27,8 +27,8 @@ pub enum Scope {
     Track(u64),
 }
 
-/// Makes the value of the key `track_tags`: a list with the number of SimpleTags in `tags` of each of `tracks` that has
-/// some. A track is named by its index from 0.
+/// Makes the value of the key `track_tags` in the JSON of `merge -J`: a list with the number of SimpleTags in `tags` of
+/// each of `tracks` that has some. A track is named by its index from 0.
 pub(crate) fn track_tags_value(
     alloc: Global,
     tags: &Option<Tree>,
@@ -48,14 +48,15 @@ pub(crate) fn track_tags_value(
     Ok(Value::Array(values))
 }
 
-// Makes the object for `count` SimpleTags of the track with index `id`, from 0.
+// Makes the object for `count` SimpleTags of the track with index `id`, from 0, for `track_tags_value`.
 fn track_tags(alloc: Global, count: usize, id: usize) -> Result<Value, AllocError>
     ensures { IfOk result (λ value. view value ≡ counted_tags count id) }
 {
     json!(in alloc; {"num_entries": count, "track_id": id})
 }
 
-/// Returns the number of SimpleTags directly in the Tags of `tags` that `scope` counts; 0 if the file has no Tags.
+/// Returns the number of SimpleTags directly in the Tags of `tags` that `scope` counts; 0 if the file has no Tags. The
+/// key `global_tags` of `merge -J` has it for the tags of no track.
 pub(crate) fn tag_count(tags: &Option<Tree>, scope: Scope) -> Result<usize, AllocError>
     requires { IfSome tags.now AreTags }
     ensures { IfOk result (λ count. count ≡ tag_count scope tags.now) }
@@ -72,7 +73,8 @@ pub(crate) fn tag_count(tags: &Option<Tree>, scope: Scope) -> Result<usize, Allo
     Ok(count)
 }
 
-// Checks whether `tag`, a Tag, is counted in `scope`: it names no track, or it names the track of the scope.
+// Checks whether `tag`, a Tag, is counted in `scope`, for `tag_count`: it names no track, or it names the track of the
+// scope.
 fn is_counted(tag: &Tree, scope: Scope) -> bool
     requires { IsSoundOf TAG_ID tag.now }
     ensures { result ≡ is_counted scope tag.now }
@@ -84,6 +86,7 @@ fn is_counted(tag: &Tree, scope: Scope) -> bool
 }
 
 // Checks whether `tag`, a Tag, names the track with the TrackUID `wanted`, or any track if `wanted` is None.
+// `is_counted` calls it.
 fn names(tag: &Tree, wanted: Option<u64>) -> bool
     requires { IsSoundOf TAG_ID tag.now }
     ensures { result ≡ list_any (is_wanted wanted) (tracks_named tag.now) }
@@ -97,6 +100,7 @@ fn names(tag: &Tree, wanted: Option<u64>) -> bool
 }
 
 // Checks whether `targets`, a Targets, names the track with the TrackUID `wanted`, or any track if `wanted` is None.
+// `names` does this for each Targets of a Tag.
 fn names_in(targets: &Tree, wanted: Option<u64>) -> bool
     requires { IsSoundOf TARGETS_ID targets.now }
     ensures { result ≡ list_any (is_wanted wanted) (named_in targets.now) }
@@ -110,7 +114,7 @@ fn names_in(targets: &Tree, wanted: Option<u64>) -> bool
 }
 
 // Checks whether a TagTrackUID with the value `uid` names the track with the TrackUID `wanted`, or any track if
-// `wanted` is None. A value of 0 names no track.
+// `wanted` is None. A value of 0 names no track. `names_in` calls it.
 fn is_wanted(uid: u64, wanted: Option<u64>) -> bool
     ensures { result ≡ (not (uid == 0) && is_wanted wanted uid) }
 {

@@ -22,7 +22,8 @@ use serde_json::{Map, Value, json, put};
 use std::alloc::{AllocError, Global};
 use track_records::Track;
 
-/// Makes the value of the key `tracks`: a list of the tracks in their order in the file, numbered from 0.
+/// Makes the value of the key `tracks` in the JSON of `merge -J`: a list of the tracks in their order in the file,
+/// numbered from 0.
 pub(crate) fn tracks_value(alloc: Global, tracks: &[Track]) -> Result<Value, AllocError>
     requires { All (λ t. IsEntry t.entry) tracks.now }
     ensures { IfOk result (λ value. view value ≡ tracks_value tracks.now) }
@@ -34,7 +35,7 @@ pub(crate) fn tracks_value(alloc: Global, tracks: &[Track]) -> Result<Value, All
     Ok(Value::Array(values))
 }
 
-// Makes the object of `track`, which has the index `id`, from 0.
+// Makes the object of `track`, which has the index `id`, from 0, for `tracks_value`.
 fn track_value(alloc: Global, id: usize, track: &Track) -> Result<Value, AllocError>
     requires { IsEntry track.now.entry }
     ensures { IfOk result (λ value. view value ≡ track_value id track.now) }
@@ -48,7 +49,7 @@ fn track_value(alloc: Global, id: usize, track: &Track) -> Result<Value, AllocEr
     })
 }
 
-// Makes the object with the properties of `track`. An absent property is left out.
+// Makes the object with the properties of `track`, for `track_value`. An absent property is left out.
 #[tactic(auto, using(crate::proofs::ValueLemmas::known))]
 fn properties_of(alloc: Global, track: &Track) -> Result<Value, AllocError>
     requires { IsEntry track.now.entry }
@@ -95,8 +96,8 @@ fn properties_of(alloc: Global, track: &Track) -> Result<Value, AllocError>
     Ok(Value::Object(properties))
 }
 
-// Returns the flag with the ID `id` in `entry`, a TrackEntry, as a JSON boolean. If it is absent, it is the default of
-// the Matroska table.
+// Returns the flag with the ID `id` in `entry`, a TrackEntry, as a JSON boolean, for `properties_of`. If it is absent,
+// it is the default of the Matroska table.
 fn flag(entry: &Tree, id: u32) -> Value
     requires entry { IsEntry entry.now }
     requires uint { HasUint (id_of entry.now) id }
@@ -105,7 +106,8 @@ fn flag(entry: &Tree, id: u32) -> Value
     Value::Bool(uint_in(entry, id) != 0)
 }
 
-// Returns the pixel dimensions in the first Video of `entry`, a TrackEntry, as `WIDTHxHEIGHT`; None if one is absent.
+// Returns the pixel dimensions in the first Video of `entry`, a TrackEntry, as `WIDTHxHEIGHT`, for `properties_of`;
+// None if one is absent. Used by `properties_of`.
 fn dimensions_of(alloc: Global, entry: &Tree) -> Result<Option<Value>, AllocError>
     requires { IsEntry entry.now }
     ensures { IfOk result (λ value. option_map view value ≡ option_map string (dimensions_of entry.now)) }
@@ -116,7 +118,8 @@ fn dimensions_of(alloc: Global, entry: &Tree) -> Result<Option<Value>, AllocErro
     }
 }
 
-// Returns PixelWidth and PixelHeight of `video`, a Video, as `WIDTHxHEIGHT`, or None if one is absent.
+// Returns PixelWidth and PixelHeight of `video`, a Video, as `WIDTHxHEIGHT`, or None if one is absent. `dimensions_of`
+// calls it.
 #[tactic(auto, using(crate::proofs::ValueLemmas::known))]
 fn pixels_in(alloc: Global, video: &Tree) -> Result<Option<Value>, AllocError>
     requires { IsSoundOf VIDEO_ID video.now }

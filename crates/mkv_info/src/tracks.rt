@@ -20,8 +20,8 @@ use mkv_schema::ids::TRACKS;
 use std::alloc::Global;
 use track_records::{Track, read_tracks};
 
-/// Reads the tracks of the open file `file`, whose outline is `outline`. The inner error is the damage for which its
-/// tracks are refused.
+/// Reads the tracks of the open file `file`, whose outline is `outline`, for the lines of `info`. The inner error is
+/// the damage for which its tracks are refused.
 pub fn tracks_of<R: Reads>(
     alloc: Global,
     outline: &Outline,
@@ -60,7 +60,7 @@ fn tracks_in(alloc: Global, tracks: &Option<Tree>) -> Result<Result<List<Track>,
     }
 }
 
-// Returns the parts of the line for `track`, which has the index `index`, from 0.
+// Returns the parts of the line for `track`, which has the index `index`, from 0. `say_tracks` prints it.
 fn shown<'a>(index: usize, track: &'a Track) -> ShownTrack<'a>
     ensures { text_of (line.Track result) ≡ shown_track index track.now }
 {
@@ -74,7 +74,7 @@ fn shown<'a>(index: usize, track: &'a Track) -> ShownTrack<'a>
     }
 }
 
-/// Prints a line for each of `tracks`, numbered from 0.
+/// Prints a line for each of `tracks`, numbered from 0, for `info`, after the lines of the Elements.
 pub fn say_tracks<P: Report>(
     alloc: Global,
     tracks: &List<Track>,

@@ -3,7 +3,7 @@ use Rattle.std.specs.Prelude.{ℕ, List, codes}
 use Rattle.mkv_io.specs.declared.damage.Kind.{Kind}
 use Rattle.mkv_io.specs.declared.damage.Kind.TheVariants.{NotEbml, BadId, BadSize, TooLong, Truncated, DocType, ReadVersion, MaxLengths, NoSegment, NoTracks, BadValue, MissingChild, RepeatedTrack, Encoding, TrackScale, HeaderTooLarge, ShortBlock, BadLacing, BlockTooLarge, TimeTooLarge, NoTimestamp, TooMany, UnknownSize, BadFrame}
 
--- the name of a kind of damage, as messages print it
+-- the name of a kind of damage, as messages print it. The contract of `Kind::name` promises it, and messages of damage contain it.
 unfoldable pub kind_name : Kind → List ℕ
 kind_name NotEbml = codes "NotEbml"
 kind_name BadId = codes "BadId"

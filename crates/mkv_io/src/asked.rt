@@ -12,7 +12,8 @@ pub enum Asked {
     Made(Text),
 }
 
-/// Returns a copy of `name`, and reserves room in `asked` for one more entry, before a file is opened or created.
+/// Returns a copy of `name`, and reserves room in `asked` for one more entry. `open_file` and `create` of each file
+/// system do this before they open or create the file, so that the name can be noted without allocating.
 pub fn room_for_name(asked: &mut Vec<Asked>, alloc: Global, name: &str) -> Result<Text, AllocError>
     ensures same { asked.new.items ≡ asked.old.items }
     ensures room { OnOk result (length asked.new.items < vec_capacity asked.new) }

@@ -60,7 +60,8 @@ pub enum Kind {
 impl Kind {
     ghost use Rattle.mkv_io.specs.Kind.{kind_name};
 
-    /// Returns the kind's name, as messages print it.
+    /// Returns the kind's name, as messages print it, such as `BadSize`. Used for each damaged place that a command
+    /// reports. Used by `room_for_name` and `fmt`.
     #[tactic(auto, unfolding(crate::specs::Kind::kind_name))]
     pub fn name(self) -> &'static str
         ensures { result.now ≡ kind_name self }

@@ -33,7 +33,8 @@ pub trait Files: Reads {
     /// Names that files were opened or created under, in order. The name of a `create` that failed may be among them.
     ghost asked: { Self → List Asked };
 
-    /// Opens the file `name`, and returns its number.
+    /// Opens the file `name` to read it, and returns its number. `merge`, `extract` and `info` open their inputs with
+    /// it; `name` is then among the asked names.
     fn open_file(&mut self, name: &str) -> Result<FileId, OpenFault>
         ensures missing { IfVisible (names self.old) (λ world. IsErrOf result OpenFault.Missing ↔ (world name.now ≡ None)) }
         ensures opened { IfOk result (IsOpenedFile Self.Reads names holder given self.old self.new name.now) }
@@ -48,8 +49,8 @@ pub trait Files: Reads {
         ensures cause { HasCause is_open_failure (Self.reading_faults self.old) (Self.reading_faults self.new) result }
         ensures asks { AsksFor (Opened name.now) (asked self.old) (asked self.new) result };
 
-    /// Creates the file `name` with an empty content, whatever it had before, and opens it. After a refusal its content
-    /// is as before, or empty.
+    /// Creates the file `name` with an empty content, whatever it had before, and opens it. Used for each output of a
+    /// command. After a refusal its content is as before, or empty.
     fn create(&mut self, name: &str) -> Result<FileId, MakeFault>
         ensures made { IfOk result (IsMadeFile Self.Reads names holder given self.old self.new name.now) }
 
@@ -63,7 +64,8 @@ pub trait Files: Reads {
         ensures cause { HasCause is_make_failure (writing_faults self.old) (writing_faults self.new) result }
         ensures unread { ReadsNothing Self.Reads self.old self.new };
 
-    /// Appends `bytes` to the live file `file`. After `Failed` the file may have gained a prefix of `bytes`.
+    /// Appends `bytes` to the live file `file`, an output that is being written. After `Failed` the file may have
+    /// gained a prefix of `bytes`.
     fn append(&mut self, file: FileId, bytes: &[u8]) -> Result<(), MakeFault>
         requires { IsLive Self.Reads self.old file }
         ensures ok { OnOk result (AddsOctets Self.Reads names holder self.old self.new file bytes.now) }
@@ -77,7 +79,8 @@ pub trait Files: Reads {
         ensures cause { HasCause is_make_failure (writing_faults self.old) (writing_faults self.new) result }
         ensures unread { ReadsNothing Self.Reads self.old self.new };
 
-    /// Writes `bytes` over the same number of bytes of the live file `file`, from the offset `at`. After `Failed` the
+    /// Writes `bytes` over the same number of bytes of the live file `file`, from the offset `at`. `merge` does this
+    /// for the Duration, the SeekHead and the Segment's size, when the rest of an output is written. After `Failed` the
     /// bytes of this range may be anything.
     fn overwrite(&mut self, file: FileId, at: u64, bytes: &[u8]) -> Result<(), Failed>
         requires live { IsLive Self.Reads self.old file }
@@ -89,7 +92,7 @@ pub trait Files: Reads {
         ensures cause { HasCause is_failure (writing_faults self.old) (writing_faults self.new) result }
         ensures unread { ReadsNothing Self.Reads self.old self.new };
 
-    /// Closes the live file `file`. The content of its name stays.
+    /// Closes the live file `file`, when a command has read or written it. The content of its name stays.
     fn close(&mut self, file: FileId)
         requires { IsLive Self.Reads self.old file }
         ensures ended { (live_files Self.Reads self.new).live file.n ≡ false }

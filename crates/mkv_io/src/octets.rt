@@ -22,7 +22,7 @@ impl Model for Bytes {
 }
 
 impl Bytes {
-    /// Returns no bytes. Doesn't allocate.
+    /// Returns a buffer without bytes. Doesn't allocate. Used by all crates for bytes in memory.
     pub fn new(alloc: Global) -> Self
         ensures { result ≡ [] }
     {
@@ -31,7 +31,8 @@ impl Bytes {
         }
     }
 
-    /// Returns an empty buffer with memory for `room` bytes.
+    /// Returns an empty buffer with memory for `room` bytes, for an output that is written or a journal that is
+    /// planned.
     pub fn with_room(alloc: Global, room: usize) -> Result<Bytes, AllocError>
         ensures { IfOk result (λ bytes. bytes ≡ []) }
     {
@@ -40,21 +41,21 @@ impl Bytes {
         })
     }
 
-    /// Makes a buffer of the bytes of `octets`, without allocating.
+    /// Makes a buffer of the bytes of `octets`, which it takes, without allocating. Used for contents that were read.
     pub fn from_vec(octets: Vec<u8>) -> Self
         ensures { result ≡ octets.items }
     {
         Bytes { octets }
     }
 
-    /// Returns the bytes, without allocating.
+    /// Returns the bytes of the buffer, which it takes, as a vector, without allocating. Used to append without a copy.
     pub fn into_vec(self) -> Vec<u8>
         ensures { result.items ≡ self }
     {
         self.octets
     }
 
-    /// Returns the number of bytes.
+    /// Returns the number of bytes in the buffer. Used by all crates.
     pub fn len(&self) -> usize
         ensures exact { result ≡ length self.now }
         ensures most { result < 2 ^ 63 }
@@ -62,21 +63,21 @@ impl Bytes {
         self.octets.len()
     }
 
-    /// Checks whether there are no bytes.
+    /// Checks whether the buffer has no bytes. Used by all crates.
     pub fn is_empty(&self) -> bool
         ensures { IsTrue result ↔ (self.now ≡ []) }
     {
         self.octets.is_empty()
     }
 
-    /// Returns a reference to the bytes.
+    /// Returns a reference to the bytes of the buffer, to read or to write them to a file.
     pub fn as_slice(&self) -> &[u8]
         ensures { result.now ≡ self.now }
     {
         self.octets.as_slice()
     }
 
-    /// Appends `bytes`.
+    /// Appends `bytes` to the buffer. If memory runs out, the buffer stays as it was. Used by all writers.
     pub fn append(&mut self, bytes: &[u8]) -> Result<(), AllocError>
         ensures ok { OnOk result (self.new ≡ self.old ++ bytes.now) }
         ensures err { OnErr result (self.new ≡ self.old) }
@@ -84,7 +85,7 @@ impl Bytes {
         self.octets.extend_from_slice(bytes)
     }
 
-    /// Writes `bytes` over the same number of bytes, from the offset `at`.
+    /// Writes `bytes` over the same number of bytes of the buffer, from the offset `at`. Used by files in memory.
     pub fn overwrite(&mut self, at: usize, bytes: &[u8])
         requires { at + length bytes.now ≤ length self.old }
         ensures { self.new ≡ take at self.old ++ (bytes.now ++ drop (at + length bytes.now) self.old) }
@@ -92,7 +93,7 @@ impl Bytes {
         self.octets[at..at + bytes.len()].copy_from_slice(bytes);
     }
 
-    /// Keeps only the first `len` bytes. The memory stays reserved.
+    /// Keeps only the first `len` bytes of the buffer, to reuse it. The memory stays reserved.
     pub fn truncate(&mut self, len: usize)
         requires { len ≤ length self.old }
         ensures { self.new ≡ take len self.old }
@@ -100,7 +101,7 @@ impl Bytes {
         self.octets.truncate(len);
     }
 
-    /// Removes all bytes. The memory stays reserved.
+    /// Removes all bytes of the buffer, to reuse it. The memory stays reserved.
     pub fn clear(&mut self)
         ensures { self.new ≡ [] }
     {
@@ -124,7 +125,7 @@ impl Model for Text {
 }
 
 impl Text {
-    /// Returns an empty text. Doesn't allocate.
+    /// Returns an empty text. Doesn't allocate. Used by all crates for names, titles and other UTF-8 text in memory.
     pub fn new(alloc: Global) -> Self
         ensures { result ≡ [] }
     {
@@ -133,14 +134,15 @@ impl Text {
         }
     }
 
-    /// Makes a text of `text`, without allocating.
+    /// Makes a text of `text`, which it takes, without allocating. Used for titles, printed lines, and the names of
+    /// parts.
     pub fn from_string(text: String) -> Self
         ensures { result ≡ string_bytes text }
     {
         Text { text }
     }
 
-    /// Returns the number of bytes of the text.
+    /// Returns the number of bytes of the text, not of its characters. Used by all crates.
     pub fn len(&self) -> usize
         ensures exact { result ≡ length self.now }
         ensures most { result < 2 ^ 63 }
@@ -148,14 +150,15 @@ impl Text {
         self.text.len()
     }
 
-    /// Checks whether the text is empty.
+    /// Checks whether the text is empty. Used by all crates.
     pub fn is_empty(&self) -> bool
         ensures { IsTrue result ↔ (self.now ≡ []) }
     {
         self.text.is_empty()
     }
 
-    /// Returns a reference to the text.
+    /// Returns a reference to the text, to compare it, print it or copy it to an output. Used by `apply` of
+    /// `edit_changes` and others.
     pub fn as_str(&self) -> &str
         ensures same { result.now ≡ self.now }
         ensures utf8 { IsUtf8 self.now }
@@ -163,7 +166,7 @@ impl Text {
         self.text.as_str()
     }
 
-    /// Appends `text`.
+    /// Appends `text` to the text. If memory runs out, the text stays as it was. Used by all crates.
     pub fn append(&mut self, text: &str) -> Result<(), AllocError>
         ensures ok { OnOk result (self.new ≡ self.old ++ text.now) }
         ensures err { OnErr result (self.new ≡ self.old) }

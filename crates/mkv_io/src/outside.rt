@@ -52,6 +52,7 @@ pub enum ReadEnd {
 impl From<Failed> for OpenFault {
     ghost from_gives = { λ _ end. end ≡ open_fault.Failed };
 
+    /// Converts a failed call to the system, for `?` in the functions that open a file.
     fn from(_failed: Failed) -> OpenFault {
         OpenFault::Failed
     }
@@ -60,6 +61,7 @@ impl From<Failed> for OpenFault {
 impl From<AllocError> for OpenFault {
     ghost from_gives = { λ _ end. end ≡ open_fault.Memory };
 
+    /// Converts a failed allocation, for `?` in the functions that open a file.
     fn from(_error: AllocError) -> OpenFault {
         OpenFault::Memory
     }
@@ -68,6 +70,8 @@ impl From<AllocError> for OpenFault {
 impl<T: Drop> From<AllocFailed<T>> for OpenFault {
     ghost from_gives = { λ _ end. end ≡ open_fault.Memory };
 
+    /// Converts a failed allocation that returns its value, which is dropped, for `?` in the functions that open a
+    /// file.
     fn from(_failed: AllocFailed<T>) -> OpenFault {
         OpenFault::Memory
     }
@@ -76,6 +80,7 @@ impl<T: Drop> From<AllocFailed<T>> for OpenFault {
 impl From<Failed> for MakeFault {
     ghost from_gives = { λ _ end. end ≡ make_fault.Failed };
 
+    /// Converts a failed call to the system, for `?` in the functions that create or write a file.
     fn from(_failed: Failed) -> MakeFault {
         MakeFault::Failed
     }
@@ -84,6 +89,7 @@ impl From<Failed> for MakeFault {
 impl From<AllocError> for MakeFault {
     ghost from_gives = { λ _ end. end ≡ make_fault.Memory };
 
+    /// Converts a failed allocation, for `?` in the functions that create or write a file.
     fn from(_error: AllocError) -> MakeFault {
         MakeFault::Memory
     }
@@ -92,6 +98,8 @@ impl From<AllocError> for MakeFault {
 impl<T: Drop> From<AllocFailed<T>> for MakeFault {
     ghost from_gives = { λ _ end. end ≡ make_fault.Memory };
 
+    /// Converts a failed allocation that returns its value, which is dropped, for `?` in the functions that create or
+    /// write a file.
     fn from(_failed: AllocFailed<T>) -> MakeFault {
         MakeFault::Memory
     }
@@ -100,6 +108,7 @@ impl<T: Drop> From<AllocFailed<T>> for MakeFault {
 impl From<Failed> for ReadEnd {
     ghost from_gives = { λ _ end. end ≡ read_end.ReadFault };
 
+    /// Converts a failed call to the system, for `?` in the functions that read a file.
     fn from(_failed: Failed) -> ReadEnd {
         ReadEnd::ReadFault
     }
@@ -108,6 +117,7 @@ impl From<Failed> for ReadEnd {
 impl From<AllocError> for ReadEnd {
     ghost from_gives = { λ _ end. end ≡ read_end.Memory };
 
+    /// Converts a failed allocation, for `?` in the functions that read a file.
     fn from(_error: AllocError) -> ReadEnd {
         ReadEnd::Memory
     }
@@ -116,6 +126,8 @@ impl From<AllocError> for ReadEnd {
 impl<T: Drop> From<AllocFailed<T>> for ReadEnd {
     ghost from_gives = { λ _ end. end ≡ read_end.Memory };
 
+    /// Converts a failed allocation that returns its value, which is dropped, for `?` in the functions that read a
+    /// file.
     fn from(_failed: AllocFailed<T>) -> ReadEnd {
         ReadEnd::Memory
     }

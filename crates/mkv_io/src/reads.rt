@@ -10,9 +10,9 @@ use crate::outside::{Failed, FileId};
 
 /// Live files, each with a number, whose bytes can be read at any offset.
 ///
-/// The value `standing` is all that reading doesn't change. The numbers of the live files, their sizes and their contents
-/// are functions of it. So are the additions of traits that extend this one. A content may be visible to the proof or
-/// not: the content of a file in memory is, the content of a real file isn't.
+/// The value `standing` is all that reading doesn't change. The numbers of the live files, their sizes and their
+/// contents are functions of it. So are the additions of traits that extend this one. A content may be visible to the
+/// proof or not: the content of a file in memory is, the content of a real file isn't.
 pub trait Reads {
     /// Everything that reading doesn't change.
     ghost Standing: { Type 0 };
@@ -28,13 +28,14 @@ pub trait Reads {
     /// Number of bytes that were read.
     ghost octets_read: { Self → ℕ };
 
-    /// Returns the length of the live file `file`, in bytes.
+    /// Returns the length of the live file `file`, in bytes. Readers use it to stay within the file.
     fn size(&self, file: FileId) -> u64
         requires { IsTrue ((files (standing self.now)).live file.n) }
         ensures exact { result ≡ (files (standing self.now)).size file.n }
         ensures most { result ≤ LONGEST_FILE };
 
-    /// Fills `into` with the bytes of the live file `file` from the offset `at`.
+    /// Fills `into` with the bytes of the live file `file` from the offset `at`. All readers use it. After `Failed` the
+    /// bytes of `into` may be anything.
     fn read_at(&mut self, file: FileId, at: u64, into: &mut [u8]) -> Result<(), Failed>
         requires live { IsTrue ((files (standing self.old)).live file.n) }
         requires range { at + length into.old ≤ (files (standing self.old)).size file.n }

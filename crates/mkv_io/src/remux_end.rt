@@ -22,6 +22,8 @@ impl From<MakeFault> for RemuxEnd {
 
     ghost from_gives = { λ fault end. end ≡ end_of_make fault };
 
+    /// Converts the error `fault` of creating or writing an output, for `?` in the functions that read inputs and write
+    /// outputs.
     fn from(fault: MakeFault) -> RemuxEnd {
         match fault {
             MakeFault::Failed => RemuxEnd::WriteFault,
@@ -35,6 +37,7 @@ impl From<ReadEnd> for RemuxEnd {
 
     ghost from_gives = { λ end now. now ≡ end_of_read end };
 
+    /// Converts the end `end` of a reader of an input, for `?` in the functions that read inputs and write outputs.
     fn from(end: ReadEnd) -> RemuxEnd {
         match end {
             ReadEnd::ReadFault => RemuxEnd::ReadFault,
@@ -47,6 +50,7 @@ impl From<ReadEnd> for RemuxEnd {
 impl From<Failed> for RemuxEnd {
     ghost from_gives = { λ _ end. end ≡ remux_end.WriteFault };
 
+    /// Converts a failed overwrite of an output, for `?` in the functions that write outputs.
     fn from(_failed: Failed) -> RemuxEnd {
         RemuxEnd::WriteFault
     }
@@ -55,6 +59,7 @@ impl From<Failed> for RemuxEnd {
 impl From<AllocError> for RemuxEnd {
     ghost from_gives = { λ _ end. end ≡ remux_end.Memory };
 
+    /// Converts a failed allocation, for `?` in the functions that read inputs and write outputs.
     fn from(_error: AllocError) -> RemuxEnd {
         RemuxEnd::Memory
     }
@@ -63,6 +68,8 @@ impl From<AllocError> for RemuxEnd {
 impl<T: Drop> From<AllocFailed<T>> for RemuxEnd {
     ghost from_gives = { λ _ end. end ≡ remux_end.Memory };
 
+    /// Converts a failed allocation that returns its value, which is dropped, for `?` in the functions that write
+    /// outputs.
     fn from(_failed: AllocFailed<T>) -> RemuxEnd {
         RemuxEnd::Memory
     }

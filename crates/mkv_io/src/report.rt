@@ -14,7 +14,8 @@ pub trait Report {
     /// Number of lines that couldn't be printed.
     ghost faults: { Self → ℕ };
 
-    /// Prints `line` and a line end. After a refusal the line may be there or not.
+    /// Prints `line` and a line end on the report. Used for each message and warning of a command. After a refusal the
+    /// line may be there or not.
     fn say(&mut self, line: &str) -> Result<(), Failed>
         ensures ok { OnOk result (lines self.new ≡ with_lines (lines self.old) (line.now ∷ [])) }
         ensures err { OnErr result (MaySay (lines self.old) (lines self.new) line.now) }

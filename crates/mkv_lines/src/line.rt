@@ -276,7 +276,7 @@ impl fmt::Display for Line<'_> {
     }
 }
 
-// Writes the line of `info` for the Element `header` at level 0.
+// Writes the line of `info` for the Element `header` at level 0 to `f`. `Line::Level0` is printed by it.
 fn level_0<W: fmt::Write>(f: &mut fmt::Formatter<W>, header: Header) -> fmt::Result
     ensures { WritesOnOk W.write_str_gives f.old result (level_0_line header) f.new }
 {
@@ -284,7 +284,7 @@ fn level_0<W: fmt::Write>(f: &mut fmt::Formatter<W>, header: Header) -> fmt::Res
     write!(f, "{name}{place}")
 }
 
-// Writes the line of `info` for the Element `header` at level 1.
+// Writes the line of `info` for the Element `header` at level 1 to `f`. `Line::Level1` is printed by it.
 fn level_1<W: fmt::Write>(f: &mut fmt::Formatter<W>, header: Header) -> fmt::Result
     ensures { WritesOnOk W.write_str_gives f.old result (level_1_line header) f.new }
 {
@@ -292,8 +292,8 @@ fn level_1<W: fmt::Write>(f: &mut fmt::Formatter<W>, header: Header) -> fmt::Res
     write!(f, "  {name}{place}")
 }
 
-// Writes a line about the damaged place `damage` of the file `name`; `head` is the start of the line, `error: ` or
-// `warning: `.
+// Writes a line about the damaged place `damage` of the file `name` to `f`; `head` is the start of the line, `error: `
+// or `warning: `. `Line::Refused` and `Line::Warned` are printed by it.
 fn damaged<W: fmt::Write>(
     f: &mut fmt::Formatter<W>,
     head: &str,
@@ -306,8 +306,8 @@ fn damaged<W: fmt::Write>(
     write!(f, "{head}{name}: {damage}")
 }
 
-// Writes the warning of `count` further places of the file `name` that aren't printed each; `what` is the end of the
-// line.
+// Writes the warning of `count` further places of the file `name` that aren't printed each to `f`; `what` is the end of
+// the line. `Line::MoreDamages` and `Line::MoreBadFrames` are printed by it.
 fn counted<W: fmt::Write>(
     f: &mut fmt::Formatter<W>,
     name: &str,
@@ -320,8 +320,8 @@ fn counted<W: fmt::Write>(
     write!(f, "warning: {name}: {count}{what}")
 }
 
-// Writes a line about the track, line or attached file with the number `number` of the file `name`. `head` is the start
-// of the line, and `what` the words before the number.
+// Writes a line about the track, line, attached file or offset with the number `number` of the file `name` to `f`.
+// `head` is the start of the line, and `what` the words before the number. Used for several kinds of `Line`.
 fn numbered<W: fmt::Write>(
     f: &mut fmt::Formatter<W>,
     head: &str,
@@ -335,7 +335,8 @@ fn numbered<W: fmt::Write>(
     write!(f, "{head}{name}{what}{number}")
 }
 
-// Writes a line about the file `name`, with `head` before the name and `tail` after it.
+// Writes a line about the file `name` to `f`, with `head` before the name and `tail` after it. Used for several kinds
+// of `Line`, such as `Missing`.
 fn named<W: fmt::Write>(
     f: &mut fmt::Formatter<W>,
     head: &str,
@@ -348,7 +349,8 @@ fn named<W: fmt::Write>(
     write!(f, "{head}{name}{tail}")
 }
 
-// Writes a line that ends with the name `name`, with `head` before it.
+// Writes a line that ends with the name `name` to `f`, with `head` before it. Used for several kinds of `Line`, such as
+// `Edited`.
 fn headed<W: fmt::Write>(f: &mut fmt::Formatter<W>, head: &str, name: &str) -> fmt::Result
     ensures { WritesOnOk W.write_str_gives f.old result (head.now ++ shown_text name.now) f.new }
 {
@@ -356,7 +358,8 @@ fn headed<W: fmt::Write>(f: &mut fmt::Formatter<W>, head: &str, name: &str) -> f
     write!(f, "{head}{name}")
 }
 
-// Writes the error line for the file `name`, for the reason `why`, because of the Element with the ID `id`.
+// Writes the error line for the file `name` to `f`, for the reason `why`, because of the Element with the ID `id`.
+// `Line::AppendDiffers` and `Line::TooLarge` are printed by it.
 fn of_element<W: fmt::Write>(
     f: &mut fmt::Formatter<W>,
     name: &str,
@@ -369,7 +372,8 @@ fn of_element<W: fmt::Write>(
     write!(f, "error: {name}: {why}{element}")
 }
 
-// Writes the line that the output `name` is complete and has `blocks` blocks.
+// Writes the line that the output `name` is complete and has `blocks` blocks to `f`. `Line::WroteBlocks` is printed by
+// it, for each output of `merge`.
 fn wrote_blocks<W: fmt::Write>(f: &mut fmt::Formatter<W>, name: &str, blocks: u64) -> fmt::Result
     ensures { WritesOnOk W.write_str_gives f.old result (wrote_blocks_line name.now blocks) f.new }
 {
@@ -377,7 +381,7 @@ fn wrote_blocks<W: fmt::Write>(f: &mut fmt::Formatter<W>, name: &str, blocks: u6
     write!(f, "wrote {name}: {blocks} blocks")
 }
 
-// Writes the line that the file `name` has a new index of `cues` cue points.
+// Writes the line that the file `name` has a new index of `cues` cue points to `f`. `Line::Reindexed` is printed by it.
 fn reindexed<W: fmt::Write>(f: &mut fmt::Formatter<W>, name: &str, cues: u64) -> fmt::Result
     ensures { WritesOnOk W.write_str_gives f.old result (reindexed_line name.now cues) f.new }
 {
@@ -385,8 +389,8 @@ fn reindexed<W: fmt::Write>(f: &mut fmt::Formatter<W>, name: &str, cues: u64) ->
     write!(f, "reindexed {name}: {cues} cues")
 }
 
-// Writes the line about the files of `generate n`: the blocks, Clusters and cue points of the merged file, and the
-// number of its parts.
+// Writes the line about the files of `generate n` to `f`: the blocks, Clusters and cue points of the merged file, and
+// the number of its parts. `Line::Generated` is printed by it.
 fn generated<W: fmt::Write>(
     f: &mut fmt::Formatter<W>,
     n: u32,
@@ -403,7 +407,8 @@ fn generated<W: fmt::Write>(
     )
 }
 
-// Writes the warning that `uuids` segment identifiers were given for `outputs` outputs.
+// Writes the warning that `uuids` segment identifiers were given for `outputs` outputs to `f`. `Line::UuidCount` is
+// printed by it, for `merge`.
 fn uuid_count<W: fmt::Write>(f: &mut fmt::Formatter<W>, uuids: u64, outputs: u64) -> fmt::Result
     ensures { WritesOnOk W.write_str_gives f.old result (uuid_count_line uuids outputs) f.new }
 {
@@ -411,7 +416,7 @@ fn uuid_count<W: fmt::Write>(f: &mut fmt::Formatter<W>, uuids: u64, outputs: u64
 }
 
 // Writes the error line that the edit with the number `edit`, counted from 1, of the file `name` is refused, for the
-// reason `why`.
+// reason `why`, to `f`. `Line::EditRefused` is printed by it, for `propedit`.
 fn edit_refused<W: fmt::Write>(
     f: &mut fmt::Formatter<W>,
     name: &str,
@@ -424,8 +429,9 @@ fn edit_refused<W: fmt::Write>(
     write!(f, "error: {name}: {why}, edit {edit}")
 }
 
-// Writes the error line that an edit of the file `name` lacks room of the kind `why`. It needs `need`, and there is
-// `have`.
+// Writes the error line that an edit of the file `name` lacks room of the kind `why` to `f`. It needs `need`, and there
+// is `have`: bytes, an offset or a number of Elements, depending on `why`. `Line::NoRoom` is printed by it, for
+// `propedit` and `reindex`.
 fn no_room<W: fmt::Write>(
     f: &mut fmt::Formatter<W>,
     name: &str,
@@ -439,8 +445,8 @@ fn no_room<W: fmt::Write>(
     write!(f, "error: {name}: NoRoom, {why}, need {need}, have {have}")
 }
 
-// Writes the error line that the edits of the file `name` write too much: `length` bytes in all, or `nodes` Elements in
-// one.
+// Writes the error line that the edits of the file `name` write too much to `f`: `length` bytes in all, or `nodes`
+// Elements in one. `Line::EditTooLarge` is printed by it.
 fn edit_too_large<W: fmt::Write>(
     f: &mut fmt::Formatter<W>,
     name: &str,
@@ -456,8 +462,8 @@ fn edit_too_large<W: fmt::Write>(
     )
 }
 
-// Writes the error line that the journal of the file `name` was made for another file. The two differ in `mark`: `kept`
-// in the journal, and `found` in the file.
+// Writes the error line that the journal of the file `name` was made for another file to `f`. The two differ in `mark`:
+// `kept` in the journal, and `found` in the file. `Line::Foreign` is printed by it, for `recover`.
 fn foreign<W: fmt::Write>(
     f: &mut fmt::Formatter<W>,
     name: &str,

@@ -11,7 +11,8 @@ use crate::status::{CommandEnd, Status};
 use mkv_io::{Failed, Report};
 use std::alloc::Global;
 
-/// Prints the message `line`. If the report fails, the line may be in it or not.
+/// Prints the message `line` to `report`. Every command uses it. It takes memory. If the report fails, the line may be
+/// in it or not.
 pub fn say<R: Report>(alloc: Global, report: &mut R, line: &Line) -> Result<(), CommandEnd>
     ensures said { Says (R.lines report.old) (R.lines report.new) (text_of line.now ∷ []) result }
     ensures cause { HasSayCause (R.faults report.old) (R.faults report.new) result }
@@ -26,7 +27,8 @@ pub fn say<R: Report>(alloc: Global, report: &mut R, line: &Line) -> Result<(), 
     }
 }
 
-/// Prints `text` as a line. It takes no memory, so that it may follow changes that can't be undone.
+/// Prints `text` as a line to `report`. It takes no memory, so that it may follow changes that can't be undone. The
+/// last messages of `propedit`, `reindex` and `recover` are printed by it.
 pub fn say_text<R: Report>(report: &mut R, text: &str) -> Result<(), CommandEnd>
     ensures said { Says (R.lines report.old) (R.lines report.new) (text.now ∷ []) result }
     ensures memory { result ≡ Err CommandEnd.Memory → ⊥ }
@@ -38,7 +40,8 @@ pub fn say_text<R: Report>(report: &mut R, text: &str) -> Result<(), CommandEnd>
     }
 }
 
-/// Prints the error line `why` of a refusal, and returns the status `Refused`.
+/// Prints the error line `why` of a refusal to `report`, and returns the status `Refused`. Every command ends by it if
+/// it is refused.
 pub fn refuse<R: Report>(alloc: Global, why: &Line, report: &mut R) -> Result<Status, CommandEnd>
     ensures verdict { SaysVerdict (R.lines report.old) (R.lines report.new) result (refused (text_of why.now)) }
     ensures ordinary { IfOk result IsOrdinary }
@@ -49,7 +52,8 @@ pub fn refuse<R: Report>(alloc: Global, why: &Line, report: &mut R) -> Result<St
     Ok(Status::Refused)
 }
 
-/// Prints the line `fault: files`: a read or a write of a file failed. It takes no memory.
+/// Prints the line `fault: files` to `report`: a read or a write of a file failed. `run_command_line` does this before
+/// it ends with the status of an I/O failure. It takes no memory.
 pub fn say_files_fault<R: Report>(report: &mut R) -> Result<(), CommandEnd>
     ensures said { Says (R.lines report.old) (R.lines report.new) (files_fault_line ∷ []) result }
     ensures memory { result ≡ Err CommandEnd.Memory → ⊥ }
@@ -58,8 +62,8 @@ pub fn say_files_fault<R: Report>(report: &mut R) -> Result<(), CommandEnd>
     say_text(report, "fault: files")
 }
 
-/// Prints the line `fault: disk`: a call on the file that is edited in place, or on its journal, failed. `run` prints
-/// it before it ends with the status of an I/O failure. It takes no memory.
+/// Prints the line `fault: disk` to `report`: a call on the file that is edited in place, or on its journal, failed.
+/// `run_command_line` does this before it ends with the status of an I/O failure. It takes no memory.
 pub fn say_disk_fault<R: Report>(report: &mut R) -> Result<(), CommandEnd>
     ensures said { Says (R.lines report.old) (R.lines report.new) (disk_fault_line ∷ []) result }
     ensures memory { result ≡ Err CommandEnd.Memory → ⊥ }

@@ -22,7 +22,7 @@ impl fmt::Display for ShownText<'_> {
     }
 }
 
-// Writes `text` as a message prints it, with escaped control characters.
+// Writes `text` as a message prints it to `f`, with escaped control characters. `ShownText` is printed by it.
 fn write_shown<W: fmt::Write>(text: &str, f: &mut fmt::Formatter<W>) -> fmt::Result
     ensures { WritesOnOk W.write_str_gives f.old result (shown_text text.now) f.new }
 {

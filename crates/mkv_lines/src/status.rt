@@ -12,7 +12,8 @@ pub enum Status {
     Done,
     /// Everything is done, and a message warns of a problem.
     Warned,
-    /// Nothing is done, and a message gives the reason. There is no message if an argument isn't UTF-8.
+    /// The command is refused, and a message gives the reason. Files that `generate` wrote before a refusal remain.
+    /// There is no message if an argument isn't UTF-8.
     Refused,
     /// Memory ran out.
     NoMemory,
@@ -21,7 +22,7 @@ pub enum Status {
 }
 
 impl Status {
-    /// Returns the number of the status, which the program exits with.
+    /// Returns the number of the status, from 0 to 4, which the program exits with. `program` calls it last.
     pub fn code(self) -> u8
         ensures { result ≡ code_of self }
     {
@@ -61,7 +62,8 @@ impl From<ReadEnd> for CommandEnd {
     }
 }
 
-/// Returns the reason why a command ends early, for the error `end` of a call that reads and writes files.
+/// Returns the reason why a command ends early, for the error `end` of a call that reads and writes files. `extract`,
+/// `merge` and `generate` end by it.
 pub fn stop_of(end: RemuxEnd) -> CommandEnd
     ensures { result ≡ stop_of end }
 {

@@ -5,7 +5,7 @@ use Rattle.mkv_memory.specs.SeenFiles.{SeenFiles}
 use Rattle.mkv_memory.specs.StoreIn.{stored_in}
 use Rattle.mkv_memory.specs.declared.mem_files.MemFiles.{MemFiles}
 
--- the observable state of files in memory
+-- the observable state of files in memory, `files`, which their contracts are about
 abbrev pub seen : MemFiles → SeenFiles
 seen files = record {
   stored = stored_in files.store;

@@ -6,7 +6,8 @@ use Rattle.mkv_disk.specs.Image.{DiskFile, IsImage}
 use Rattle.mkv_disk.specs.Pair.{Pair}
 use Rattle.mkv_memory.specs.SeenDisk.{size_in}
 
--- The content of the file `f` as read and its content at the last sync are possible after a crash. Neither is longer than the limit.
+-- The content of the file `f` as read and its content at the last sync are possible after a crash. Neither is longer than the limit. It is true of
+-- both files of every disk in memory. Used by `short`.
 pub record IsSound (f : DiskFile) : Type 0 where
   pub reads : IsImage f f.reads
   pub synced : IsImage f f.synced

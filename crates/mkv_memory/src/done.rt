@@ -23,7 +23,8 @@ pub struct Call {
     pub done: Done,
 }
 
-/// Returns the number of bytes that a call with the effect `done` wrote.
+/// Returns the number of bytes that a call with the effect `done` wrote. The log of a disk in memory finds the bytes of
+/// each call by it. Used by `replayed`.
 pub fn octets_done(done: Done) -> usize
     ensures { result ≡ octets_done done }
 {
@@ -33,8 +34,8 @@ pub fn octets_done(done: Done) -> usize
     }
 }
 
-/// Applies the effect `done`, with the bytes `bytes`, to the content `reads` of a file. Allocates only if the vector
-/// has no room left.
+/// Applies the effect `done`, with the bytes `bytes`, to the content `reads` of a file, for a disk in memory. Allocates
+/// only if the vector has no room left. `LoggedPair::make` and `Pending::make` call it.
 pub fn apply(reads: &mut Vec<u8>, done: Done, bytes: &[u8]) -> Result<(), AllocError>
     requires count { length bytes.now ≡ octets_done done }
     requires inside { CanChange (change_of done bytes.now) reads.old.items }
@@ -52,7 +53,7 @@ pub fn apply(reads: &mut Vec<u8>, done: Done, bytes: &[u8]) -> Result<(), AllocE
     }
 }
 
-/// Writes `bytes` over `octets` from the offset `at`, also past the end.
+/// Writes `bytes` over `octets` from the offset `at`, also past the end. `apply` calls it for a write.
 fn write_over(octets: &mut Vec<u8>, at: usize, bytes: &[u8]) -> Result<(), AllocError>
     requires inside { at ≤ length octets.old.items }
     requires short { at + length bytes.now < 2 ^ 64 }

@@ -48,7 +48,7 @@ impl Model for LoggedPair {
 
 impl LoggedPair {
     /// Returns the edited file with the content `media` and the journal with the content `sidecar`, with room for
-    /// `room` calls and bytes.
+    /// `room` calls and bytes. `MemDisk::new` calls it.
     pub fn new(
         alloc: Global,
         media: &[u8],
@@ -68,14 +68,16 @@ impl LoggedPair {
         })
     }
 
-    /// Returns the room for calls and bytes that was reserved at first.
+    /// Returns the room for calls and bytes that was reserved at first. A disk after a crash gets the same. Used by
+    /// `new`, `with_room` and others.
     pub fn room(&self) -> CallBudget
         ensures { result ≡ self.now.room }
     {
         self.room
     }
 
-    /// Returns the content of `file`, as reads return it.
+    /// Returns the content of `file`, as reads return it: the edited file for MEDIA, and the journal otherwise.
+    /// `MemDisk::read_at` and `size` call it.
     pub fn reads(&self, file: FileId) -> &[u8]
         ensures { result.now ≡ (file_of file.n (pair_of self.now.history)).reads }
     {
@@ -86,7 +88,8 @@ impl LoggedPair {
         }
     }
 
-    /// Checks whether there is room for one more call that writes `octets` bytes.
+    /// Checks whether there is room for one more call that writes `octets` bytes. `MemDisk::make` calls it before it
+    /// makes a change.
     pub fn has_room(&self, octets: usize) -> bool
         ensures { result ≡ has_room self.now octets }
     {
@@ -94,7 +97,8 @@ impl LoggedPair {
             && octets as u64 <= self.room.octets - self.octets.len() as u64
     }
 
-    /// Returns the file `file` with its pending writes, the ones that a crash may undo.
+    /// Returns the file `file` with its pending writes, the ones that a crash may undo. `MemDisk::crashed` calls it for
+    /// both files.
     pub fn pending(&self, alloc: Global, file: FileId) -> Result<Pending, AllocError>
         ensures { IfOk result (λ pending. Shows pending (file_of file.n (pair_of self.now.history))) }
     {
@@ -102,7 +106,8 @@ impl LoggedPair {
         replayed(alloc, media, sidecar, &self.calls, &self.octets, file)
     }
 
-    /// Applies the effect `done` with the bytes `bytes` to `file`, and logs it.
+    /// Applies the effect `done` with the bytes `bytes` to `file`, and logs it. `MemDisk::make` calls it if the call
+    /// doesn't fail and there is room.
     pub fn make(&mut self, file: FileId, done: Done, bytes: &[u8])
         requires count { length bytes.now ≡ octets_done done }
         requires inside { CanChange (change_of done bytes.now) (file_of file.n (pair_of self.old.history)).reads }
@@ -120,7 +125,7 @@ impl LoggedPair {
 }
 
 /// Returns the file `file`, after the calls `calls`, which wrote the bytes `octets` in sequence. The two files had the
-/// contents `media` and `sidecar` at first.
+/// contents `media` and `sidecar` at first. `pending` calls it.
 fn replayed(
     alloc: Global,
     media: &[u8],
@@ -145,14 +150,15 @@ fn replayed(
     Ok(pending)
 }
 
-/// Checks whether both numbers name one file of the two: 0 the edited file, another number the journal.
+/// Checks whether the numbers `file` and `other` name one file of the two: 0 the edited file, another number the
+/// journal. `replayed` calls it.
 fn is_same(file: FileId, other: FileId) -> bool
     ensures { result ≡ is_same file.n other.n }
 {
     (file == MEDIA) == (other == MEDIA)
 }
 
-/// Returns a copy of `bytes` with room for `more` bytes after them.
+/// Returns a copy of `bytes` with room for `more` bytes after them. `LoggedPair::new` calls it for each file.
 fn with_room(alloc: Global, bytes: &[u8], more: u64) -> Result<Vec<u8>, AllocError>
     ensures items { IfOk result (λ octets. octets.items ≡ bytes.now) }
     ensures room { IfOk result (λ octets. length bytes.now + more ≤ vec_capacity octets) }

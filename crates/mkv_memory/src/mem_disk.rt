@@ -35,6 +35,7 @@ pub struct MemDisk {
 }
 
 /// Returns the contents of the edited file and of the journal that a crash leaves, chosen by the number `pick`.
+/// `MemDisk::crashed` calls it.
 fn left_by(pick: u64) -> (CrashImage, CrashImage)
     ensures { result ≡ left_by pick }
 {
@@ -48,7 +49,7 @@ fn left_by(pick: u64) -> (CrashImage, CrashImage)
     }
 }
 
-/// Checks whether a call with the effect `done` would make a file longer than the limit.
+/// Checks whether a call with the effect `done` would make a file longer than the limit. `MemDisk::make` calls it.
 fn is_too_long(done: Done) -> bool
     ensures { (bytes : List ℕ) → length bytes ≡ octets_done done → result ≡ is_too_long (change_of done bytes) }
 {
@@ -63,8 +64,8 @@ impl MemDisk {
     ghost use Rattle.mkv_memory.specs.SeenDisk.{IsOnImage, MakesChange, crashed_by, failing_at, fresh, pair_in, reads_in, room_for, stopping_at};
     ghost use Rattle.mkv_memory.specs.DiskIn.{seen};
 
-    /// Returns a disk with an edited file and a journal without pending writes. It has room for `calls` calls of
-    /// `write_at`, `cut` and `sync`, and for `octets` bytes that they write in all.
+    /// Returns a disk with an edited file and a journal without pending writes, for tests. It has room for `calls`
+    /// calls of `write_at`, `cut` and `sync`, and for `octets` bytes that they write in all.
     pub fn new(
         alloc: Global,
         media: &[u8],
@@ -88,7 +89,8 @@ impl MemDisk {
         })
     }
 
-    /// Sets the call with the number `call`, counted from 0, to fail. It then does nothing.
+    /// Sets the call with the number `call`, counted from 0, to fail. It then does nothing. Tests choose the call by
+    /// it.
     pub fn fail_at(&mut self, call: u64) -> Result<(), AllocError>
         ensures ok { OnOk result (seen self.new ≡ failing_at (seen self.old) call) }
         ensures err { OnErr result (seen self.new ≡ seen self.old) }
@@ -96,15 +98,16 @@ impl MemDisk {
         self.failing.fail_at(call)
     }
 
-    /// Sets the call with the number `call`, counted from 0, and all later ones to fail.
+    /// Sets the call with the number `call`, counted from 0, and all later ones to fail. Tests cut off an edit in place
+    /// by it.
     pub fn stop_at(&mut self, call: u64)
         ensures { seen self.new ≡ stopping_at (seen self.old) call }
     {
         self.failing.stop_at(call);
     }
 
-    /// Returns a disk with contents that a crash may leave now, and with the room that this one had at first. The
-    /// number `pick` chooses the contents.
+    /// Returns a disk with contents that a crash may leave now, and with the room that this one had at first. Tests
+    /// recover an edit in place on it. The number `pick` chooses the contents.
     ///
     /// With 0 both files are as read, and with 1 as last synced. With 2 the edited file is as read and the journal as
     /// last synced, and with 3 the reverse. With 4 both are as read, with FF in each byte that was written since its
@@ -125,6 +128,7 @@ impl MemDisk {
     }
 
     /// Applies the effect `done` with the bytes `bytes` to `file`, unless the call must fail or there is no room.
+    /// `write_at`, `cut` and `sync` call it.
     fn make(&mut self, file: FileId, done: Done, bytes: &[u8]) -> Result<(), Failed>
         requires count { length bytes.now ≡ octets_done done }
         requires inside { BeginsWithin (change_of done bytes.now) (reads_in (seen self.old) file.n) }
@@ -162,12 +166,13 @@ impl Reads for MemDisk {
 
     ghost short = { λ d n live. short-of_sound (pair_of d.files.history) n d.media_sound d.sidecar_sound };
 
-    /// Returns the length of a live file in bytes.
+    /// Returns the length of the live file `file` in bytes, as reads return it.
     fn size(&self, file: FileId) -> u64 {
         self.files.reads(file).len() as u64
     }
 
-    /// Fills `into` with the bytes of the live file from the offset `at` onwards, or fails if the call must fail.
+    /// Fills `into` with the bytes of the live file `file` from the offset `at` onwards, or fails if the call must fail
+    /// and leaves `into` unchanged.
     fn read_at(&mut self, file: FileId, at: u64, into: &mut [u8]) -> Result<(), Failed>
         requires live { IsTrue (is_live (seen self.old).opened file.n) }
         requires range { at + length into.old ≤ size_in (pair_in (seen self.old)) file.n }
@@ -224,7 +229,8 @@ impl Disk for MemDisk {
 
     ghost writing_stands = { λ a b same. ap (λ (s : Option (List ℕ) × Logged × ℕ). s.2) same };
 
-    /// Opens the edited file `name` and its journal.
+    /// Opens the edited file `name` and its journal, which any name opens. It fails if the call must fail, or memory
+    /// runs out.
     fn open_pair(&mut self, name: &str) -> Result<(), OpenFault>
         ensures exact { OpensPair (seen self.old) name.now result (seen self.new) }
         ensures cause { HasCause is_open_failure (seen self.old).reading_faults (seen self.new).reading_faults result }
@@ -239,7 +245,8 @@ impl Disk for MemDisk {
         Ok(())
     }
 
-    /// Writes `bytes` over the file from the offset `at` onwards. Until the file is synced, a crash may undo this.
+    /// Writes `bytes` over the live file `file` from the offset `at` onwards. Until the file is synced, a crash may
+    /// undo this.
     fn write_at(&mut self, file: FileId, at: u64, bytes: &[u8]) -> Result<(), Failed>
         requires live { IsTrue (is_live (seen self.old).opened file.n) }
         requires inside { at ≤ length (reads_in (seen self.old) file.n) }
@@ -250,7 +257,7 @@ impl Disk for MemDisk {
         self.make(file, Done::Wrote { at, len }, bytes)
     }
 
-    /// Truncates the file to `len` bytes. Until the file is synced, a crash may undo this.
+    /// Truncates the live file `file` to `len` bytes. Until the file is synced, a crash may undo this.
     fn cut(&mut self, file: FileId, len: u64) -> Result<(), Failed>
         requires live { IsTrue (is_live (seen self.old).opened file.n) }
         requires inside { len ≤ length (reads_in (seen self.old) file.n) }
@@ -260,7 +267,7 @@ impl Disk for MemDisk {
         self.make(file, Done::Cut { len }, &[])
     }
 
-    /// Makes all changes of the file permanent.
+    /// Makes all changes of the live file `file` permanent, so that a crash can't undo them.
     fn sync(&mut self, file: FileId) -> Result<(), Failed>
         requires { IsTrue (is_live (seen self.old).opened file.n) }
         ensures exact { MakesChange (seen self.old) file.n synced result (seen self.new) }

@@ -37,7 +37,7 @@ impl MemFiles {
     ghost use Rattle.mkv_memory.specs.SeenFiles.{with_file, with_stored, no_files, with_failure};
     ghost use Rattle.mkv_memory.specs.FilesIn.{seen};
 
-    /// Returns an empty set of files in memory; no call is set to fail.
+    /// Returns an empty set of files in memory, for tests; no call is set to fail.
     pub fn new(alloc: Global) -> Result<MemFiles, AllocError>
         ensures { IsOkAnd result (λ files. seen files ≡ no_files) }
     {
@@ -53,7 +53,8 @@ impl MemFiles {
         })
     }
 
-    /// Sets the content of the file `name` to `bytes`. Live files with this name get it too.
+    /// Sets the content of the file `name` to `bytes`. Live files with this name get it too. Tests make their inputs
+    /// with it.
     pub fn put(&mut self, name: &str, bytes: &[u8]) -> Result<(), AllocError>
         requires { length bytes.now ≤ LONGEST_FILE }
         ensures ok { OnOk result (seen self.new ≡ with_file (seen self.old) name.now bytes.now) }
@@ -65,7 +66,7 @@ impl MemFiles {
     }
 
     /// Sets the call with the number `call`, counted from 0, to fail. If it is an `append`, it keeps the first `kept`
-    /// bytes, or all except the last if there are fewer.
+    /// bytes, or all except the last if there are fewer. Tests choose the call by it.
     pub fn fail_at(&mut self, call: u64, kept: u64) -> Result<(), AllocError>
         ensures ok { OnOk result (seen self.new ≡ with_failure (seen self.old) call kept) }
         ensures err { OnErr result (seen self.new ≡ seen self.old) }
@@ -74,14 +75,15 @@ impl MemFiles {
         Ok(())
     }
 
-    /// Returns the content of the file `name`, or None if no file has this name.
+    /// Returns the content of the file `name`, or None if no file has this name. Tests read outputs by it.
     pub fn bytes(&self, name: &str) -> Option<&[u8]>
         ensures { option_map (λ (bytes : Bor (List ℕ)). bytes.now) result ≡ (seen self.now).stored.world name.now }
     {
         self.store.content(name)
     }
 
-    /// Counts a call. If it must fail, returns the number of bytes that it keeps.
+    /// Counts a call. If it must fail, returns the number of bytes that it keeps; otherwise None. Each call except
+    /// `close` begins with it.
     fn next_failure(&mut self) -> Option<u64>
         ensures kept { result ≡ get nat_cmp self.old.failing self.old.calls }
         ensures rest { self.new ≡ record self.old { calls = min (self.old.calls + 1) last_count } }
@@ -93,6 +95,7 @@ impl MemFiles {
 }
 
 /// Returns the number of bytes that an append of `len` bytes keeps if it fails: `kept`, but never the last byte.
+/// `append` calls it.
 fn kept_of(len: usize, kept: u64) -> usize
     ensures { result ≡ min kept (len - 1) }
 {
@@ -122,12 +125,13 @@ impl Reads for MemFiles {
 
     ghost short = { λ m file live. short-of_names (stored_in m.store).world (name_of_file (stored_in m.store).opened file) m.store.short };
 
-    /// Returns the length of a live file in bytes.
+    /// Returns the length of the live file `file` in bytes.
     fn size(&self, file: FileId) -> u64 {
         self.store.octets(file).len() as u64
     }
 
-    /// Fills `into` with the bytes of the live file from the offset `at` onwards, or fails if the call must fail.
+    /// Fills `into` with the bytes of the live file `file` from the offset `at` onwards, or fails if the call must fail
+    /// and leaves `into` unchanged.
     fn read_at(&mut self, file: FileId, at: u64, into: &mut [u8]) -> Result<(), Failed>
         requires live { IsTrue ((files_of (seen self.old).stored).live file.n) }
         requires range { at + length into.old ≤ (files_of (seen self.old).stored).size file.n }
@@ -184,7 +188,8 @@ impl Files for MemFiles {
 
     ghost asked_stands = { λ a b same. ap (λ (s : Stored × ℕ × List Asked). s.2) same };
 
-    /// Opens the file with the name `name` for reading.
+    /// Opens the file with the name `name` for reading, and returns its number. A name without a content is missing;
+    /// the call may also be set to fail.
     fn open_file(&mut self, name: &str) -> Result<FileId, OpenFault>
         ensures exact { OpensName (seen self.old) name.now result (seen self.new) }
         ensures cause { HasCause is_open_failure (seen self.old).reading_faults (seen self.new).reading_faults result }
@@ -203,7 +208,7 @@ impl Files for MemFiles {
         Ok(file)
     }
 
-    /// Creates the file `name` with an empty content, whatever it had before, and opens it.
+    /// Creates the file `name` with an empty content, whatever it had before, opens it, and returns its number.
     fn create(&mut self, name: &str) -> Result<FileId, MakeFault>
         ensures exact { CreatesName (seen self.old) name.now result (seen self.new) }
         ensures cause { HasCause is_make_failure (seen self.old).writing_faults (seen self.new).writing_faults result }
@@ -219,7 +224,8 @@ impl Files for MemFiles {
         Ok(file)
     }
 
-    /// Appends `bytes` to the live file; a call that must fail appends a prefix of them.
+    /// Appends `bytes` to the live file `file`; a call that must fail appends a prefix of them. It also fails if the
+    /// file would be longer than the limit.
     fn append(&mut self, file: FileId, bytes: &[u8]) -> Result<(), MakeFault>
         requires { IsTrue ((files_of (seen self.old).stored).live file.n) }
         ensures exact { AppendsTo (seen self.old) file.n bytes.now result (seen self.new) }
@@ -241,7 +247,7 @@ impl Files for MemFiles {
         }
     }
 
-    /// Writes `bytes` over the live file from the offset `at` onwards; a failed call leaves the file as it was.
+    /// Writes `bytes` over the live file `file` from the offset `at` onwards; a failed call leaves the file as it was.
     fn overwrite(&mut self, file: FileId, at: u64, bytes: &[u8]) -> Result<(), Failed>
         requires live { IsTrue ((files_of (seen self.old).stored).live file.n) }
         requires range { at + length bytes.now ≤ (files_of (seen self.old).stored).size file.n }
@@ -256,7 +262,7 @@ impl Files for MemFiles {
         Ok(())
     }
 
-    /// Closes the live file.
+    /// Closes the live file `file`. It isn't counted as a call.
     fn close(&mut self, file: FileId)
         requires { IsTrue ((files_of (seen self.old).stored).live file.n) }
         ensures { ClosesFile (seen self.old) file.n (seen self.new) }

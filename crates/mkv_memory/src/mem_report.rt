@@ -32,7 +32,8 @@ impl MemReport {
     ghost use Rattle.mkv_memory.specs.SeenReport.{no_lines, with_failure, with_line};
     ghost use Rattle.mkv_memory.specs.ReportIn.{seen};
 
-    /// Returns a report without lines, with room for `lines` lines and `octets` bytes in all. No call is set to fail.
+    /// Returns a report without lines, for tests, with room for `lines` lines and `octets` bytes in all. No call is set
+    /// to fail.
     pub fn new(alloc: Global, lines: u32, octets: u64) -> Result<MemReport, AllocError>
         ensures { IfOk result (λ report. seen report ≡ no_lines lines octets) }
     {
@@ -50,7 +51,7 @@ impl MemReport {
         })
     }
 
-    /// Sets the call with the number `call`, counted from 0, to fail.
+    /// Sets the call of `say` with the number `call`, counted from 0, to fail. Tests choose the call by it.
     pub fn fail_at(&mut self, call: u64) -> Result<(), AllocError>
         ensures ok { OnOk result (seen self.new ≡ with_failure (seen self.old) call) }
         ensures err { OnErr result (seen self.new ≡ seen self.old) }
@@ -59,7 +60,8 @@ impl MemReport {
         Ok(())
     }
 
-    /// Returns the line with the number `k`, counted from 0, or None if there are fewer lines.
+    /// Returns the line with the number `k`, counted from 0, or None if there are fewer lines. Tests read the messages
+    /// by it.
     pub fn line(&self, k: usize) -> Option<&str>
         ensures { option_map (λ (line : Bor (List ℕ)). line.now) result ≡ slice_get (seen self.now).lines k }
     {
@@ -69,7 +71,7 @@ impl MemReport {
         Some(&self.text.as_str()[self.cuts[k]..self.cuts[k + 1]])
     }
 
-    /// Appends `line` to the report, which has room for it in memory.
+    /// Appends `line` to the report, which has room for it in memory. `say` calls it.
     fn add_line(&mut self, line: &str)
         requires lines { 0 < (seen self.old).lines_left }
         requires octets { length line.now ≤ (seen self.old).octets_left }
@@ -92,7 +94,7 @@ impl Report for MemReport {
 
     ghost faults = { λ r. r.faults };
 
-    /// Appends `line` to the report, or fails if the call must fail or there is no room.
+    /// Appends `line`, a message of a command, to the report, or fails if the call must fail or there is no room.
     fn say(&mut self, line: &str) -> Result<(), Failed>
         ensures exact { SaysLine (seen self.old) line.now result (seen self.new) }
         ensures cause { HasCause is_failure (seen self.old).faults (seen self.new).faults result }

@@ -42,7 +42,7 @@ impl Pending {
     ghost use Rattle.mkv_memory.specs.Images.{ff_where, image_of, mix};
     ghost use Rattle.mkv_memory.specs.Shows.{IsChanged, Shows, is_noted};
 
-    /// Returns a file with the content `octets` and no pending write.
+    /// Returns a file with the content `octets` and no pending write. The log is replayed on it.
     pub fn new(alloc: Global, octets: &[u8]) -> Result<Pending, AllocError>
         ensures { IfOk result (λ file. Shows file (clean octets.now)) }
     {
@@ -55,7 +55,7 @@ impl Pending {
     }
 
     /// Changes the file by `done`: writes `bytes`, truncates it, or syncs it. Until a sync, it notes the changes that a
-    /// crash may undo.
+    /// crash may undo. Called for each logged call on the file.
     pub fn make(&mut self, done: Done, bytes: &[u8]) -> Result<(), AllocError>
         requires count { length bytes.now ≡ octets_done done }
         requires inside { CanChange (change_of done bytes.now) self.old.reads.items }
@@ -78,7 +78,7 @@ impl Pending {
         Ok(())
     }
 
-    /// Returns the content that a crash leaves of the file, chosen by `left`.
+    /// Returns the content that a crash leaves of the file, chosen by `left`. `MemDisk::crashed` calls it.
     pub fn image(&self, alloc: Global, left: CrashImage) -> Result<Vec<u8>, AllocError>
         ensures { IfOk result (λ octets. (f : DiskFile) → Shows self.now f → octets.items ≡ image_of left f) }
     {
@@ -90,7 +90,7 @@ impl Pending {
         }
     }
 
-    /// Checks whether the byte at the offset `k` of the file was written since the last sync.
+    /// Checks whether the byte at the offset `k` of the file was written since the last sync. `blotted` calls it.
     fn is_written(&self, k: u64) -> bool
         ensures { result ≡ is_noted self.now.written.items k }
     {
@@ -100,6 +100,7 @@ impl Pending {
     }
 
     /// Returns the content of the file as read, with the byte FF at each offset that was written since the last sync.
+    /// `image` calls it.
     fn blotted(&self, alloc: Global) -> Result<Vec<u8>, AllocError>
         ensures { IfOk result (λ octets. octets.items ≡ ff_where (is_noted self.now.written.items) self.now.reads.items) }
     {
@@ -115,7 +116,7 @@ impl Pending {
     }
 
     /// Returns the content of the file with the least length since the last sync. Bytes at odd offsets are as at that
-    /// sync, the others as read.
+    /// sync, the others as read. `image` calls it.
     fn mixed(&self, alloc: Global) -> Result<Vec<u8>, AllocError>
         ensures { IfOk result (λ octets. octets.items ≡ mix self.now.least self.now.reads.items self.now.synced.items) }
     {

@@ -27,7 +27,7 @@ pub struct Store {
 impl Store {
     ghost use Rattle.mkv_memory.specs.StoreIn.{stored_in};
 
-    /// Returns a store without names and open files.
+    /// Returns a store without names and open files. Files in memory begin with it.
     pub fn new(alloc: Global) -> Store
         ensures { stored_in result ≡ record { world = λ _. None; opened = [] } }
     {
@@ -38,14 +38,14 @@ impl Store {
         }
     }
 
-    /// Checks whether no number is left for one more file.
+    /// Checks whether no number is left for one more file. `open_file` and `create` of files in memory then fail.
     pub fn is_full(&self) -> bool
         ensures { IsTrue result ↔ (length (stored_in self.now).opened ≡ 2 ^ 64 - 1) }
     {
         self.opened.len() as u64 == u64::MAX
     }
 
-    /// Returns the content of the file `name`, if there is one.
+    /// Returns the content of the file `name`, or None if there is none. `MemFiles::bytes` and `octets` call it.
     pub fn content(&self, name: &str) -> Option<&[u8]>
         ensures { option_map (λ (bytes : Bor (List ℕ)). bytes.now) result ≡ (stored_in self.now).world name.now }
     {
@@ -55,7 +55,7 @@ impl Store {
         }
     }
 
-    /// Returns the bytes of the live file `file`.
+    /// Returns the bytes of the live file `file`. Reads of files in memory use it.
     pub fn octets(&self, file: FileId) -> &[u8]
         ensures { result.now ≡ unwrap_or (content_of_file (stored_in self.now) file.n) [] }
     {
@@ -65,7 +65,7 @@ impl Store {
         }
     }
 
-    /// Sets the content of the file `name` to `content`.
+    /// Sets the content of the file `name` to `content`. `MemFiles::put` calls it.
     pub fn set(&mut self, name: &str, content: Bytes) -> Result<(), AllocError>
         requires { length content ≤ LONGEST_FILE }
         ensures ok { OnOk result (stored_in self.new ≡ with_content_at (stored_in self.old) name.now content) }
@@ -75,7 +75,7 @@ impl Store {
         Ok(())
     }
 
-    /// Opens the file `name`, which has a content, and returns its number.
+    /// Opens the file `name`, which has a content, and returns its number. `MemFiles::open_file` calls it.
     pub fn open(&mut self, name: &str) -> Result<FileId, AllocError>
         requires there { IsSome ((stored_in self.old).world name.now) }
         requires room { length (stored_in self.old).opened < 2 ^ 64 - 1 }
@@ -91,6 +91,7 @@ impl Store {
     }
 
     /// Creates the file `name` with no bytes, whatever it had before, opens it, and returns its number.
+    /// `MemFiles::create` calls it.
     pub fn create(&mut self, name: &str) -> Result<FileId, AllocError>
         requires { length (stored_in self.old).opened < 2 ^ 64 - 1 }
         ensures number { IfOk result (λ file. file.n ≡ length (stored_in self.old).opened) }
@@ -107,7 +108,7 @@ impl Store {
         Ok(FileId { n: number })
     }
 
-    /// Appends `more` to the live file `file`.
+    /// Appends `more` to the content of the live file `file`. `MemFiles::append` calls it.
     pub fn append(&mut self, file: FileId, more: &[u8]) -> Result<(), AllocError>
         requires live { IsTrue ((files_of (stored_in self.old)).live file.n) }
         requires room { (files_of (stored_in self.old)).size file.n + length more.now ≤ LONGEST_FILE }
@@ -119,7 +120,7 @@ impl Store {
         Ok(())
     }
 
-    /// Writes `bytes` over the live file `file` from the offset `at`.
+    /// Writes `bytes` over the live file `file` from the offset `at`. `MemFiles::overwrite` calls it.
     pub fn overwrite(&mut self, file: FileId, at: usize, bytes: &[u8])
         requires live { IsTrue ((files_of (stored_in self.old)).live file.n) }
         requires range { at + length bytes.now ≤ (files_of (stored_in self.old)).size file.n }
@@ -129,7 +130,7 @@ impl Store {
         write_over(&mut self.contents, name, at, bytes);
     }
 
-    /// Closes the live file `file`.
+    /// Closes the live file `file`. `MemFiles::close` calls it.
     pub fn close(&mut self, file: FileId)
         requires { IsTrue ((files_of (stored_in self.old)).live file.n) }
         ensures { stored_in self.new ≡ closed (stored_in self.old) file.n }
@@ -138,7 +139,8 @@ impl Store {
     }
 }
 
-/// Returns the name that the live file `file` was opened under; `opened` has the names of all files by number.
+/// Returns the name that the live file `file` was opened under; `opened` has the names of all files by number. `append`
+/// and `overwrite` call it.
 fn holder<'a>(opened: &'a Vec<Option<Text>>, file: FileId) -> &'a str
     requires { IsTrue (is_some (name_of_file opened.now.items file.n)) }
     ensures { name_of_file opened.now.items file.n ≡ Some result.now }
@@ -149,7 +151,7 @@ fn holder<'a>(opened: &'a Vec<Option<Text>>, file: FileId) -> &'a str
     }
 }
 
-/// Sets the content of the file `name` in `contents` to `content`.
+/// Sets the content of the file `name` in `contents` to `content`. `Store::set` and `Store::create` call it.
 fn set(contents: &mut Contents, alloc: Global, name: &str, content: Bytes) -> Result<(), AllocError>
     ensures ok { OnOk result (Changes name.now (λ _. Some content) contents.old.entries contents.new.entries) }
     ensures err { OnErr result (content_of_name contents.new.entries ≡ content_of_name contents.old.entries) }
@@ -159,7 +161,7 @@ fn set(contents: &mut Contents, alloc: Global, name: &str, content: Bytes) -> Re
     Ok(())
 }
 
-/// Appends `more` to the content of the file `name` in `contents`.
+/// Appends `more` to the content of the file `name` in `contents`. `Store::append` calls it.
 fn grow(contents: &mut Contents, name: &str, more: &[u8]) -> Result<(), AllocError>
     ensures ok { OnOk result (Changes name.now (with_appended more.now) contents.old.entries contents.new.entries) }
     ensures err { OnErr result (content_of_name contents.new.entries ≡ content_of_name contents.old.entries) }
@@ -173,7 +175,7 @@ fn grow(contents: &mut Contents, name: &str, more: &[u8]) -> Result<(), AllocErr
     }
 }
 
-/// Writes `bytes` over the content of the file `name` in `contents`, from the offset `at`.
+/// Writes `bytes` over the content of the file `name` in `contents`, from the offset `at`. `Store::overwrite` calls it.
 fn write_over(contents: &mut Contents, name: &str, at: usize, bytes: &[u8])
     requires { at + length bytes.now ≤ length (unwrap_or (content_of_name contents.old.entries name.now) []) }
     ensures { Changes name.now (with_overwritten at bytes.now) contents.old.entries contents.new.entries }

@@ -17,7 +17,7 @@ use Rattle.mkv_merge.specs.declared.refusal.Refusal.TheVariants.{Missing, Plan}
 use Rattle.mkv_merge.specs.declared.refusal.Refusal.{Refusal}
 
 -- A call that only reads ended with this result, and the count of failed reads was `before` and is `now`. The count rises exactly if a failed read
--- stopped the call. No other failure stops it.
+-- stopped the call. No other failure stops it. Used by `EndsReading`, in the contracts of `prepare` and its steps.
 abbrev pub HasReadCause : {T : Type 0} → ℕ → ℕ → Result T MergeEnd → Type 0
 HasReadCause before now (Ok _) = now ≡ before
 HasReadCause before now (Err (Refused why)) = now ≡ before
@@ -26,7 +26,8 @@ HasReadCause before now (Err (Stopped stop.Files)) = HasIncreased before now
 HasReadCause before now (Err (Stopped stop.Disk)) = ⊥
 HasReadCause before now (Err (Stopped stop.Report)) = ⊥
 
--- The end of a call that reads no files: the merge was refused, or memory ran out.
+-- The end of a call that reads no files: the merge was refused, or memory ran out. The contracts of `with_file` and `with_times`, which apply text
+-- files, state it of their errors.
 abbrev pub IsQuiet : MergeEnd → Type 0
 IsQuiet (Refused why) = ⊤
 IsQuiet (Stopped stop.Memory) = ⊤
@@ -34,28 +35,30 @@ IsQuiet (Stopped stop.Files) = ⊥
 IsQuiet (Stopped stop.Disk) = ⊥
 IsQuiet (Stopped stop.Report) = ⊥
 
--- the end of a merge whose inputs can't be opened, by the reason
+-- the end of a merge whose inputs can't be opened, by the reason. The conversion from `InputsEnd` states it.
 abbrev pub unopened : InputsEnd → MergeEnd
 unopened (inputs_end.Missing input) = Refused (Missing input)
 unopened inputs_end.Failed = Stopped stop.Files
 unopened inputs_end.Memory = Stopped stop.Memory
 
--- the end of a merge that can't be planned, by the reason
+-- the end of a merge that can't be planned, by the reason. The conversion from `PlanEnd` states it.
 abbrev pub unplanned : PlanEnd → MergeEnd
 unplanned (plan_end.Refused why) = Refused (Plan why)
 unplanned plan_end.Memory = Stopped stop.Memory
 
--- the end of a merge that prints messages, by the result of its writing; an early end is a stop, never a refusal
+-- the end of a merge that prints messages, by the result of its writing; an early end is a stop, never a refusal. The contract of `written` states
+-- it.
 abbrev pub as_written : Result Status CommandEnd → Result Status MergeEnd
 as_written (Ok s) = Ok s
 as_written (Err why) = Err (Stopped why)
 
--- the end of a merge that prints nothing, by the result of its writing; an early end is a stop, never a refusal
+-- the end of a merge that prints nothing, by the result of its writing; an early end is a stop, never a refusal. The contract of `remuxed` states it.
 abbrev pub as_remuxed : Result Summary RemuxEnd → Result Summary MergeEnd
 as_remuxed (Ok s) = Ok s
 as_remuxed (Err end) = Err (Stopped (stop_of end))
 
--- the end of a command by the end of the merge that it ran. `done` is applied to the merge's result, and `told` to its refusal; a stop stays one.
+-- the end of a command by the end of the merge that it ran. `done` is applied to the merge's result, and `told` to its refusal; a stop stays one. For
+-- `merge`, which prints a refusal, and for `generate`, which returns it.
 abbrev pub end_as : {A T : Type 0} → (A → T) → (Refusal → T) → Result A MergeEnd → Result T CommandEnd
 end_as done told (Ok x) = Ok (done x)
 end_as done told (Err (Refused why)) = Ok (told why)

@@ -32,69 +32,73 @@ use Rattle.mkv_merge.specs.declared.refusal.MergeEnd.{MergeEnd}
 use Rattle.mkv_merge.specs.declared.refusal.Refusal.{Refusal}
 use Rattle.mkv_merge.specs.declared.refusal.Refusal.TheVariants.{Missing, OutputIsInput}
 
--- the text files of a merge whose command line names none
+-- the text files of a merge whose command line names none, as `generate` merges
 abbrev pub no_texts : TextFiles
 no_texts = record { chapters = Absent; times = [] }
 
 -- the sources of the merge `words` without text files, if its inputs have the contents `contents`, or its refusal. It is refused first if an output
--- could have the name of a file that is read.
+-- could have the name of a file that is read. For the merges of `generate`.
 abbrev pub sources_apart : MergeWords → List (List ℕ) → Result (List Source) Refusal
 sources_apart words contents = sources_unless (option_map OutputIsInput (first_written words) ∷ []) words no_texts contents
 
 -- the sources of the merge `words` without text files, if the files are `world`, or its refusal. An output with the name of a file that is read and a
--- missing input are refused first, in this order. Pending edits don't matter.
+-- missing input are refused first, in this order. Pending edits don't matter. For the contract of `merge_files`.
 abbrev pub sources_alone : (List ℕ → Option (List ℕ)) → MergeWords → Result (List Source) Refusal
 sources_alone world words =
     sources_unless (option_map OutputIsInput (first_written words) ∷ option_map Missing (first_missing world (file_names words.files)) ∷ [])
     words no_texts (contents_held world words)
 
--- the bytes that the merge `words` without text files may read if the files are `world`
+-- the number of bytes that the merge `words` without text files may read if the files are `world`. The contract of `merge_files` states it as a
+-- bound.
 abbrev pub most_lone : (List ℕ → Option (List ℕ)) → MergeWords → ℕ
 most_lone world words = most_of (sources_alone world words) (contents_length world words.files) (contents_walked world words.files)
 
 -- ---- merged files
 
--- The summary `s` of the merge `words` lists the outputs of `sources`, and gives the warnings about their damage.
+-- The summary `s` of the merge `words` lists the outputs of `sources`, and gives the warnings about their damage. A part of `HasMerged`.
 pub record IsSummaryOf (words : MergeWords) (sources : List Source) (s : Summary) : Type 0 where
   pub outputs : s.outputs ≡ map written_of (outputs_of words sources)
   pub warned : warnings_from s 0 words.files ≡ flat_map (warnings words sources) (enumerate_from 0 words.files)
   pub damaged : is_some_of s.damages ≡ has_damage words sources
 
 -- From the files `old` to the files `new`, the merge `words` has written all outputs of its sources, and nothing else. `found` has these sources, and
--- `s` is the summary.
+-- `s` is the summary. The result of `merge_files` if it wrote its outputs.
 pub record HasMerged (old new : Names) (words : MergeWords) (found : Result (List Source) Refusal) (s : Summary) : Type 0 where
   pub sources : List Source
   pub are : found ≡ Ok sources
   pub writes : WritesAll old new (outputs_of words sources)
   pub summary : IsSummaryOf words sources s
 
--- the outputs of the merge `words` if `found` has its sources; none if it has a refusal
+-- the outputs of the merge `words` if `found` has its sources; none if it has a refusal. For `Merges`.
 abbrev pub outputs_found : MergeWords → Result (List Source) Refusal → List PlannedOutput
 outputs_found words (Ok sources) = outputs_of words sources
 outputs_found words (Err why) = []
 
 -- The result of a merge that prints nothing, with the files `old` before it and `new` after it. All outputs of the sources in `found` were written,
--- or `found` has its refusal and no file changed. After a stop some first outputs are complete, and the next one is a draft.
+-- or `found` has its refusal and no file changed. After a stop some first outputs are complete, and the next one is a draft. Used by the contracts of
+-- `merge_files` and its steps.
 abbrev pub Merges : Names → Names → MergeWords → Result (List Source) Refusal → Result Merged CommandEnd → Type 0
 Merges old new words found (Ok (Written s)) = HasMerged old new words found s
 Merges old new words found (Ok (Refused why)) = (found ≡ Err why) × (new ≡ old)
 Merges old new words found (Err stop) = AreWrittenInOrder old new (drafts_of (outputs_found words found))
 
--- the result of `merge_files`, by the end of its merge: a summary, a refusal, or a stop
+-- the result of `merge_files`, by the end of its merge: a summary, a refusal, or a stop. The contracts of `join_opened` and `join_named` state their
+-- results so.
 abbrev pub as_merged : Result Summary MergeEnd → Result Merged CommandEnd
 as_merged result = end_as Written Refused result
 
 -- `Merges` holds for the live files `list`, if names and contents are visible to the proof. The state is `old` before the merge `words` and `new`
--- after it.
+-- after it. The contract of `join_opened` states it. `r` and `f` give the proof's view of the files.
 abbrev pub MergesLive : {S : Type 0} → Ghosts S → writing.Ghosts S → S → S → MergeWords → List FileId → Result Merged CommandEnd → Type 0
 MergesLive r f old new words list result = IfAllTold r old list (λ contents. Merges (f.names old) (f.names new) words (sources_unless [] words no_texts contents) result)
 
 -- `Merges` holds for the files that `words` names, if their contents are visible to the proof. The state is `old` before the merge and `new` after
--- it.
+-- it. The contract of `merge_files` states it. `f` gives the proof's view of the files.
 abbrev pub MergesAlone : {S : Type 0} → writing.Ghosts S → S → S → MergeWords → Result Merged CommandEnd → Type 0
 MergesAlone f old new words result = IfVisible (f.names old) (λ world. Merges (f.names old) (f.names new) words (sources_alone world words) result)
 
--- From `old` to `new` the merge `words` without text files reads no more bytes of the live files `list` than `most_of` gives.
+-- From `old` to `new` the merge `words` without text files reads no more bytes of the live files `list` than `most_of` gives. The contract of
+-- `join_opened` states it. `r` gives the proof's view of the files.
 abbrev pub ReadsLive : {S : Type 0} → Ghosts S → S → S → MergeWords → List FileId → Type 0
 ReadsLive r old new words list = IfAllTold r old list (λ contents.
     ReadsUpTo r old new (most_of (sources_unless [] words no_texts contents) (live_size r old list) (live_walked r old words.files list)))

@@ -18,29 +18,34 @@ use Rattle.mkv_lines.specs.declared.status.CommandEnd.{CommandEnd}
 use Rattle.mkv_merge.specs.Merge.{outputs_of}
 use Rattle.mkv_merge.specs.declared.refusal.Refusal.{Refusal}
 
--- `n` is an AttachedFile that was read, with the bytes `octets` as its data.
+-- `n` is an AttachedFile that was read, with the bytes `octets` as its data. A part of `HaveRecords`, in the promise that the outputs of `merge` can
+-- be read again.
 pub record IsFilled (n : Node) : Type 0 where
   pub entry : Node
   pub octets : List ℕ
   pub is : n ≡ with_data octets entry
   pub attachment : IsAttachment entry
 
--- The attached files of `sources`, and their Chapters and Tags if any, can be written and read again; the identifiers have 64 bits.
+-- The attached files of `sources`, and their Chapters and Tags if any, can be written and read again; the identifiers have 64 bits. A condition of
+-- the laws on the outputs of `merge`.
 pub record HaveRecords (sources : List Source) : Type 0 where
   pub attachments : All IsFilled (attachments_of sources)
   pub chapters : IfSome (chapters_of (reads_of sources)) (IsRecord CHAPTERS)
   pub tags : IfSome (tags_of (reads_of sources)) (IsRecord TAGS)
   pub numbers : Have64Bits (identifiers_of (reads_of sources))
 
--- None of the outputs of `sources` is longer than a file may be.
+-- None of the outputs of `sources` is longer than a file may be. A part of `CanBeReadAgain`, in the promise that the outputs of `merge` can be read
+-- again.
 abbrev pub AreShort : MergeWords → List Source → Type 0
 AreShort words sources = All (λ (o : PlannedOutput). IsShort o.document) (outputs_of words sources)
 
--- The outputs of `sources` can be read again: their records are valid, and they aren't longer than files may be.
+-- The outputs of the merge `words` of `sources` can be read again: their records are valid, and they aren't longer than files may be. Used by
+-- `EndsReadable`.
 pub record CanBeReadAgain (words : MergeWords) (sources : List Source) : Type 0 where
   pub records : HaveRecords sources
   pub short : AreShort words sources
 
--- The outputs of the merge `words` can be read again, if it ended with a status and wasn't refused. `found` has its sources or its refusal.
+-- The outputs of the merge `words` can be read again, if it ended with a status and wasn't refused. `found` has its sources or its refusal. The
+-- contract of `merge_of` states it.
 abbrev pub EndsReadable : MergeWords → Result (List Source) Refusal → Result Status CommandEnd → Type 0
 EndsReadable words found result = IfOk result (λ _. IfOk found (CanBeReadAgain words))

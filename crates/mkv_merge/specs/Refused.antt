@@ -16,7 +16,7 @@ use Rattle.mkv_merge.specs.declared.refusal.Refusal.TheVariants.{OutputIsInput, 
 
 -- ---- the first refusal that holds
 
--- the first of the refusals `causes` that is present
+-- the first of the refusals `causes` that is present. `merge` reports only this one.
 abbrev pub first_cause : List (Option Refusal) → Option Refusal
 first_cause [] = None
 first_cause (None ∷ causes) = first_cause causes
@@ -24,32 +24,34 @@ first_cause (Some why ∷ causes) = Some why
 
 -- ---- lines
 
--- the name of the input number `input` of `words`, counted from 0, or an empty text if there is none
+-- the name of the input number `input` of `words`, counted from 0, or an empty text if there is none. For `line_of`, in the message of a refused
+-- `merge`.
 abbrev pub name_of : MergeWords → ℕ → List ℕ
 name_of words input = option_map_or (λ (file : FileWords). file.name) (slice_get words.files input) []
 
--- the message that reports why the merge can't be planned; `output` is the name of the output
+-- the message that reports why the merge can't be planned; `output` is the name of the output. For `line_of`.
 abbrev pub plan_line : List ℕ → PlanRefusal → List ℕ
 plan_line output NoLane = no_lane_line
 plan_line output TooManyLanes = too_many_lanes_line
 plan_line output (NotWebm codec) = not_webm_line codec
 plan_line output (HeaderTooLarge id) = too_large_line output id
 
--- the name of the chapter file on the command line, or an empty text if there is none
+-- the name of the chapter file on the command line, or an empty text if there is none. For `line_of`, in the message of a refused `merge`.
 abbrev pub chapters_name : MergeWords → List ℕ
 chapters_name words = unwrap_or words.chapters []
 
--- the message that reports why the chapter file or timestamp file `name` is refused
+-- the message that reports why the chapter file or timestamp file `name` is refused. For `line_of`, in the message of a refused `merge`.
 abbrev pub text_line : List ℕ → TextRefusal → List ℕ
 text_line name TooLarge = text_too_large_line name
 text_line name (Bad line) = bad_text_line name line
 
--- the message that reports why the input `name` is refused
+-- the message that reports why the input `name` is refused. For `line_of`, in the message of a refused `merge`.
 abbrev pub input_line : List ℕ → InputRefusal → List ℕ
 input_line name (Damaged damage) = refusal_line name damage
 input_line name (Text why) = text_line name why
 
--- the message that reports the refusal of the merge `words`
+-- the message that reports the refusal of the merge `words`. `merge` prints it and writes nothing. Inputs are named by their numbers in `words`,
+-- counted from 0.
 abbrev pub line_of : MergeWords → Refusal → List ℕ
 line_of words (OutputIsInput name) = output_is_input_line name
 line_of words (Missing input) = missing_line (name_of words input)

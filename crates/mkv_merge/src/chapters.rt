@@ -13,7 +13,7 @@ use mkv_io::List;
 use std::alloc::{AllocError, Global};
 
 /// Returns `inputs` with the Chapters `chapters` in the first input, and without Chapters in all others: a merge has
-/// one Chapters Element. `with_file` calls it for a chapter file that was read.
+/// one Chapters Element. `with_file` calls it for a chapter file that was read. Fails if memory runs out.
 fn first_with(
     alloc: Global,
     chapters: Option<Tree>,
@@ -31,8 +31,8 @@ fn first_with(
 }
 
 /// Applies the chapter file `file` of the command line to the read inputs: its Chapters replace the ones of all
-/// `inputs`. With `webm` the inputs have no Chapters then. Without a chapter file they stay as they are. Fails if
-/// `file` is refused.
+/// `inputs`. With `webm`, for a WebM output, the inputs have no Chapters then. Without a chapter file they stay as they
+/// are. Fails if `file` is refused. `prepare` calls it after all inputs are read.
 pub fn with_file(
     alloc: Global,
     webm: bool,

@@ -31,7 +31,7 @@ pub enum Merged {
 }
 
 /// Reads, plans and writes the merge of the open files `ids`, which are the inputs of the command line `words`, in its
-/// order. No chapter file or timestamp file is applied.
+/// order. Writes the outputs to `files`. No chapter file or timestamp file is applied. For `join_named`.
 fn join_opened<F: Files>(
     alloc: Global,
     words: &MergeWords,
@@ -55,7 +55,7 @@ fn join_opened<F: Files>(
 }
 
 /// Opens the inputs that `words` names, merges them and closes them again. Refuses the merge first if an output could
-/// have the name of a file that is read.
+/// have the name of a file that is read. For `merge_files`.
 fn join_named<F: Files>(
     alloc: Global,
     words: &MergeWords,
@@ -77,8 +77,8 @@ fn join_named<F: Files>(
     ended
 }
 
-/// Merges the files that `words` names, and prints nothing, for a caller with its own messages (`generate`). Opens no
-/// journal, chapter file or timestamp file.
+/// Merges the files that `words` names, and prints nothing, for a caller with its own messages (`generate`). A refusal
+/// is a result (`Merged::Refused`), not an error. Opens no journal, chapter file or timestamp file.
 pub fn merge_files<F: Files>(
     alloc: Global,
     words: &MergeWords,

@@ -27,7 +27,7 @@ use std::alloc::Global;
 
 /// Merges the open files `ids`, the inputs of `words`, with the chapter file and timestamp files that `texts` has.
 /// Refuses the merge for a missing text file, for a pending edit of an input or of an unsplit output, or as `prepare`
-/// does.
+/// does. Prints messages to `report`. For `merge_named`.
 fn merge_opened<F: Files, P: Report>(
     alloc: Global,
     words: &MergeWords,
@@ -51,7 +51,7 @@ fn merge_opened<F: Files, P: Report>(
 }
 
 /// Reads the text files and opens the inputs that `words` names, merges them, and closes the inputs again. Refuses the
-/// merge first if an output could have the name of a file that is read. Doesn't print the refusal.
+/// merge first if an output could have the name of a file that is read. Doesn't print the refusal. For `merge_of`.
 fn merge_named<F: Files, P: Report>(
     alloc: Global,
     words: &MergeWords,
@@ -74,7 +74,8 @@ fn merge_named<F: Files, P: Report>(
 }
 
 /// Runs `merge`: writes the selected tracks of several files to one file, or to several parts. Timestamp files and a
-/// chapter file that `words` names replace the inputs' timestamps and Chapters.
+/// chapter file that `words` names replace the inputs' timestamps and Chapters. Prints messages to `report`, also a
+/// refusal, and returns the exit status. Called once the command line is read.
 pub fn merge_of<F: Files, P: Report>(
     alloc: Global,
     words: &MergeWords,

@@ -14,7 +14,8 @@ use sidecar_edit::sidecar_name;
 use splitter::is_part_name;
 use std::alloc::{AllocError, Global};
 
-/// Appends the names of the inputs `files` to `names`, for the list of names that no output may have.
+/// Appends the names of the inputs `files` to `names`, for the list of names that no output may have. A step of
+/// `read_names`.
 fn add_names(files: &[FileWords], names: &mut List<Text>) -> Result<(), AllocError>
     ensures { OnOk result (names.new ≡ names.old ++ file_names files.now) }
 {
@@ -25,7 +26,7 @@ fn add_names(files: &[FileWords], names: &mut List<Text>) -> Result<(), AllocErr
 }
 
 /// Appends the name of the chapter file to `names`, if the command line gives one, for the list of names that no output
-/// may have.
+/// may have. A step of `read_names`.
 fn add_chapters(chapters: &Option<Text>, names: &mut List<Text>) -> Result<(), AllocError>
     ensures { OnOk result (names.new ≡ names.old ++ option_to_list chapters.now) }
 {
@@ -35,7 +36,8 @@ fn add_chapters(chapters: &Option<Text>, names: &mut List<Text>) -> Result<(), A
     }
 }
 
-/// Appends the names of the timestamp files `times` to `names`, for the list of names that no output may have.
+/// Appends the names of the timestamp files `times` to `names`, for the list of names that no output may have. A step
+/// of `read_names`.
 fn add_times(times: &[TimesName], names: &mut List<Text>) -> Result<(), AllocError>
     ensures { OnOk result (names.new ≡ names.old ++ times_names times.now) }
 {
@@ -45,7 +47,8 @@ fn add_times(times: &[TimesName], names: &mut List<Text>) -> Result<(), AllocErr
     Ok(())
 }
 
-/// Appends the names of the journals of the inputs `files` to `names`, for the list of names that no output may have.
+/// Appends the names of the journals of the inputs `files` to `names`, for the list of names that no output may have. A
+/// step of `read_names`.
 fn add_sidecars(
     alloc: Global,
     files: &[FileWords],
@@ -60,7 +63,7 @@ fn add_sidecars(
 }
 
 /// Appends the names of the journals of the timestamp files `times` to `names`, for the list of names that no output
-/// may have.
+/// may have. A step of `read_names`.
 fn add_times_sidecars(
     alloc: Global,
     times: &[TimesName],
@@ -75,7 +78,7 @@ fn add_times_sidecars(
 }
 
 /// Returns the names that no output of the merge `words` may have. They are the names of inputs, chapter file and
-/// timestamp files, then the journals of inputs and of timestamp files.
+/// timestamp files, then the journals of inputs and of timestamp files. For `first_written`.
 fn read_names(alloc: Global, words: &MergeWords) -> Result<List<Text>, AllocError>
     ensures { IfOk result (λ names. names ≡ read_names words.now) }
 {
@@ -90,14 +93,16 @@ fn read_names(alloc: Global, words: &MergeWords) -> Result<List<Text>, AllocErro
     Ok(names)
 }
 
-/// Checks whether the output is split and `name` could be the name of one of its parts, whatever the part's number.
+/// Checks whether the output is split and `name` could be the name of one of its parts, whatever the part's number. For
+/// `part_among`, so that `merge` overwrites no file that it reads.
 fn is_part(words: &MergeWords, name: &str) -> bool
     ensures { result ≡ is_part words.now name.now }
 {
     words.split.is_some() && is_part_name(words.output.as_str(), name)
 }
 
-/// Returns the first of `names` that equals the output's name on the command line `words`.
+/// Returns the first of `names` that equals the output's name on the command line `words`, or None. For
+/// `first_written`, so that `merge` overwrites no file that it reads.
 fn output_among<'a>(words: &MergeWords, names: &'a [Text]) -> Option<&'a Text>
     ensures { option_copied result ≡ find (is_output words.now) names.now }
 {
@@ -105,7 +110,8 @@ fn output_among<'a>(words: &MergeWords, names: &'a [Text]) -> Option<&'a Text>
     names.iter().find(|name| name.as_str() == output)
 }
 
-/// Returns the first of `names` that could be the name of a part of the output, if it is split.
+/// Returns the first of `names` that could be the name of a part of the output, if `words` split it, or None. For
+/// `first_written`, so that `merge` overwrites no file that it reads.
 fn part_among<'a>(words: &MergeWords, names: &'a [Text]) -> Option<&'a Text>
     ensures { option_copied result ≡ find (is_part words.now) names.now }
 {
@@ -114,7 +120,7 @@ fn part_among<'a>(words: &MergeWords, names: &'a [Text]) -> Option<&'a Text>
 
 /// Returns the name of a file that is read and that an output could overwrite, if there is one; the merge is refused
 /// then. A name that equals the output's own is found first, also if the output is split; then one that a part could
-/// have.
+/// have. `merge` calls it before it opens a file.
 pub fn first_written(alloc: Global, words: &MergeWords) -> Result<Option<Text>, AllocError>
     ensures { IfOk result (λ name. name ≡ first_written words.now) }
 {

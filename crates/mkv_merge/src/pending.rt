@@ -19,7 +19,8 @@ use sidecar_edit::is_pending;
 use std::alloc::Global;
 
 /// Returns the refusal of a merge because of a pending edit, if there is one. The inputs are checked in the order of
-/// `words`, then an existing file with the output's name, unless the output is split. Looks only into journals.
+/// `words`, then an existing file with the output's name, unless the output is split. Looks only into the journals
+/// among `files`. For `begun_refusal`.
 fn pending_of<F: Files>(
     alloc: Global,
     words: &MergeWords,
@@ -39,8 +40,9 @@ fn pending_of<F: Files>(
     Ok(None)
 }
 
-/// Returns the refusal of a merge whose inputs exist but weren't read yet, if there is one. The causes are a missing
-/// chapter file, a missing timestamp file, and a pending edit, in this order.
+/// Returns the refusal of a merge whose inputs exist but weren't read yet, or None. The causes are a missing chapter
+/// file, a missing timestamp file, and a pending edit, in this order. `texts` has the text files that were read.
+/// `merge` calls it after the inputs are opened.
 pub fn begun_refusal<F: Files>(
     alloc: Global,
     words: &MergeWords,

@@ -32,7 +32,7 @@ pub struct Prepared {
 
 /// Reads Info, Tracks and the other records of the input number `input`, counted from 0, but none of its blocks. `file`
 /// is its open file, and `held` the size of the records of the inputs before it, in bytes. A refusal names the input by
-/// its number.
+/// its number. `webm` is true for a WebM output. For `read_inputs`, before `merge` plans its outputs.
 fn read_one<R: Reads>(
     alloc: Global,
     words: &FileWords,
@@ -58,7 +58,8 @@ fn read_one<R: Reads>(
     }
 }
 
-/// Returns the total size of Info, Tracks, Chapters and Tags of an input, in bytes. A SubRip text has none of them.
+/// Returns for `read_inputs` the total size of Info, Tracks, Chapters and Tags of an input, in bytes. A SubRip text has
+/// none of them.
 fn held_by(blocks: &Blocks) -> u64
     ensures { result ≡ held_in blocks.now }
 {
@@ -69,7 +70,8 @@ fn held_by(blocks: &Blocks) -> u64
 }
 
 /// Reads the records of all inputs, but none of their blocks, in the order of `words`; `files` are their open files.
-/// The sizes of Info, Tracks, Chapters and Tags are added up, since they are limited for all inputs together.
+/// The sizes of Info, Tracks, Chapters and Tags are added up, since they are limited for all inputs together. The first
+/// step of `prepare`.
 fn read_inputs<R: Reads>(
     alloc: Global,
     words: &MergeWords,
@@ -94,8 +96,9 @@ fn read_inputs<R: Reads>(
     Ok(inputs)
 }
 
-/// Reads the live files, applies the text files and plans the merge. Only a file that the next one is appended to is
-/// walked to its end. Fails if one of them is refused.
+/// Reads the live files `files`, the inputs of `words`, applies the text files `texts` and plans the merge. Only a file
+/// that the next one is appended to is walked to its end. Fails if one of them is refused. The stage of `merge` before
+/// it writes.
 pub fn prepare<R: Reads>(
     alloc: Global,
     words: &MergeWords,

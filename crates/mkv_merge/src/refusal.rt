@@ -50,7 +50,8 @@ pub enum MergeEnd {
     Stopped(CommandEnd),
 }
 
-/// Converts the result `ended` of `write`, which prints messages: an early end is a stop, never a refusal.
+/// Converts the result `ended` of `write`, which prints messages: an early end is a stop, never a refusal. For
+/// `merge_opened`, when `merge` ends.
 pub fn written(ended: Result<Status, CommandEnd>) -> Result<Status, MergeEnd>
     ensures { result ≡ as_written ended }
 {
@@ -60,7 +61,8 @@ pub fn written(ended: Result<Status, CommandEnd>) -> Result<Status, MergeEnd>
     }
 }
 
-/// Converts the result `ended` of `remux`, which prints nothing: an early end is a stop, never a refusal.
+/// Converts the result `ended` of `remux`, which prints nothing: an early end is a stop, never a refusal. For
+/// `join_opened`.
 pub fn remuxed(ended: Result<Summary, RemuxEnd>) -> Result<Summary, MergeEnd>
     ensures { result ≡ as_remuxed ended }
 {
@@ -73,6 +75,7 @@ pub fn remuxed(ended: Result<Summary, RemuxEnd>) -> Result<Summary, MergeEnd>
 impl From<AllocError> for MergeEnd {
     ghost from_gives = { λ _ end. end ≡ merge_end.Stopped stop.Memory };
 
+    // Converts a lack of memory to the end of a merge, for `?` in the steps of `merge`.
     fn from(_error: AllocError) -> MergeEnd {
         MergeEnd::Stopped(CommandEnd::Memory)
     }
@@ -81,6 +84,7 @@ impl From<AllocError> for MergeEnd {
 impl From<ReadEnd> for MergeEnd {
     ghost from_gives = { λ why end. end ≡ merge_end.Stopped (read_stop why) };
 
+    // Converts the failure `why` of a read to the end of a merge, for `?` in the steps of `merge`.
     fn from(why: ReadEnd) -> MergeEnd {
         MergeEnd::Stopped(CommandEnd::from(why))
     }
@@ -89,6 +93,8 @@ impl From<ReadEnd> for MergeEnd {
 impl From<InputsEnd> for MergeEnd {
     ghost from_gives = { λ why end. end ≡ unopened why };
 
+    // Converts the failure `why` to open inputs to the end of a merge, for `?` after `open_all`. A missing input is a
+    // refusal.
     fn from(why: InputsEnd) -> MergeEnd {
         match why {
             InputsEnd::Missing { input } => MergeEnd::Refused(Refusal::Missing { input }),
@@ -101,6 +107,7 @@ impl From<InputsEnd> for MergeEnd {
 impl From<PlanEnd> for MergeEnd {
     ghost from_gives = { λ why end. end ≡ unplanned why };
 
+    // Converts the failure `why` to plan to the end of a merge, a refusal or a lack of memory, for `?` in `prepare`.
     fn from(why: PlanEnd) -> MergeEnd {
         match why {
             PlanEnd::Refused(why) => MergeEnd::Refused(Refusal::Plan(why)),

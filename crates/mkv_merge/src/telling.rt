@@ -22,7 +22,7 @@ use requests::{FileWords, MergeWords};
 use std::alloc::Global;
 
 /// Returns the name of the input number `input` of the command line `words`, counted from 0, or an empty text if there
-/// is none.
+/// is none. For the message of a refusal.
 fn name_of(words: &MergeWords, input: usize) -> &str
     ensures { result.now ≡ name_of words.now input }
 {
@@ -32,7 +32,8 @@ fn name_of(words: &MergeWords, input: usize) -> &str
     }
 }
 
-/// Returns the message that reports why the chapter file or timestamp file `name` is refused.
+/// Returns the message that reports why the chapter file or timestamp file `name` is refused. For the message of a
+/// refusal.
 fn text_line<'a>(name: &'a str, why: &TextRefusal) -> Line<'a>
     ensures { text_of result ≡ text_line name.now why.now }
 {
@@ -42,7 +43,7 @@ fn text_line<'a>(name: &'a str, why: &TextRefusal) -> Line<'a>
     }
 }
 
-/// Returns the message that reports why the input `name` is refused.
+/// Returns the message that reports why the input `name` is refused. For the message of a refusal.
 fn input_line<'a>(name: &'a str, why: &InputRefusal) -> Line<'a>
     ensures { text_of result ≡ input_line name.now why.now }
 {
@@ -55,7 +56,8 @@ fn input_line<'a>(name: &'a str, why: &InputRefusal) -> Line<'a>
     }
 }
 
-/// Returns the message that reports why the merge can't be planned; `name` is the name of the output.
+/// Returns the message that reports why the merge can't be planned; `name` is the name of the output. For the message
+/// of a refusal.
 fn plan_line<'a>(name: &'a str, why: &'a PlanRefusal) -> Line<'a>
     ensures { text_of result ≡ plan_line name.now why.now }
 {
@@ -69,7 +71,8 @@ fn plan_line<'a>(name: &'a str, why: &'a PlanRefusal) -> Line<'a>
     }
 }
 
-/// Returns the name of the chapter file on the command line `words`, or an empty text if there is none.
+/// Returns the name of the chapter file on the command line `words`, or an empty text if there is none. For the message
+/// of a refusal.
 fn chapters_name(words: &MergeWords) -> &str
     ensures { result.now ≡ chapters_name words.now }
 {
@@ -79,7 +82,8 @@ fn chapters_name(words: &MergeWords) -> &str
     }
 }
 
-/// Returns the message that reports the refusal `why`, with the names of files from the command line `words`.
+/// Returns the message that reports the refusal `why`, with the names of files from the command line `words`. For
+/// `refuse`, when `merge` prints its messages.
 fn line_of<'a>(words: &'a MergeWords, why: &'a Refusal) -> Line<'a>
     ensures { text_of result ≡ line_of words.now why.now }
 {
@@ -112,7 +116,8 @@ fn line_of<'a>(words: &'a MergeWords, why: &'a Refusal) -> Line<'a>
     }
 }
 
-/// Prints the message that reports the refusal `why` of a merge, and returns the status of a refusal.
+/// Prints the message that reports the refusal `why` of a merge, and returns the status of a refusal. `merge_of` calls
+/// it, and no output is written then.
 pub fn refuse<P: Report>(
     alloc: Global,
     words: &MergeWords,
@@ -127,7 +132,7 @@ pub fn refuse<P: Report>(
 }
 
 /// Warns of each track number in the options of `file` that the input doesn't have. Track numbers count from 0, and
-/// `count` is the number of its tracks.
+/// `count` is the number of its tracks. For `say_absent`, when `merge` prints its messages.
 fn say_absent_of<P: Report>(
     alloc: Global,
     file: &FileWords,
@@ -149,7 +154,7 @@ fn say_absent_of<P: Report>(
 }
 
 /// Warns of the tracks that options name and that inputs don't have, in the order of `words`. `inputs` are the inputs
-/// as they were read.
+/// as they were read. `merge` calls it before it writes an output.
 pub fn say_absent<P: Report>(
     alloc: Global,
     words: &MergeWords,
@@ -167,7 +172,7 @@ pub fn say_absent<P: Report>(
 }
 
 /// Checks whether an option of `file` names a track number, counted from 0, that isn't below `count`, the number of
-/// tracks of this input. Such a merge ends with the status of warnings.
+/// tracks of this input. Such a merge ends with the status of warnings. For `has_absent`.
 fn has_absent_of(file: &FileWords, count: usize) -> bool
     ensures { result ≡ is_some_of (absent_of file.now count) }
 {
@@ -177,8 +182,8 @@ fn has_absent_of(file: &FileWords, count: usize) -> bool
         .any(|number| *number >= count as u64)
 }
 
-/// Checks whether an option of `words` names a track that its input doesn't have; such a merge ends with the status of
-/// warnings.
+/// Checks whether an option of `words` names a track number, counted from 0, that its input doesn't have. `inputs` are
+/// the inputs as they were read. Such a merge ends with the status of warnings. For `write`.
 pub fn has_absent(words: &MergeWords, inputs: &[Input]) -> bool
     requires { length inputs.now ≡ length words.now.files }
     ensures { result ≡ has_absent words.now (reads_in inputs.now) }
@@ -192,7 +197,8 @@ pub fn has_absent(words: &MergeWords, inputs: &[Input]) -> bool
 }
 
 /// Prints a warning for each damaged place in `damages` that is in the input number `input`, counted from 0; `name` is
-/// its name. `damages` has the places of all inputs that are reported one by one.
+/// its name. `damages` has the places of all inputs that are reported one by one. For `warn`, when `merge` prints its
+/// messages.
 fn warn_of<P: Report>(
     alloc: Global,
     name: &str,
@@ -213,8 +219,9 @@ fn warn_of<P: Report>(
     Ok(())
 }
 
-/// Prints a warning with the number of damaged places of an input that aren't reported one by one, if there are any.
-/// The input has the number `input`, counted from 0, and the name `name`.
+/// Prints a warning with the number of damaged places of an input that aren't reported one by one, if `more` has one
+/// for it. The input has the number `input`, counted from 0, and the name `name`. For `warn`, when `merge` prints its
+/// messages.
 fn warn_more<P: Report>(
     alloc: Global,
     name: &str,
@@ -235,8 +242,8 @@ fn warn_more<P: Report>(
     Ok(())
 }
 
-/// Prints the warnings about damaged places that were met while the outputs were written, input by input, in the order
-/// of `words`.
+/// Prints the warnings about the damaged places in `summary` that were met while the outputs were written, input by
+/// input, in the order of `words`. `merge` calls it after the messages about outputs.
 pub fn warn<P: Report>(
     alloc: Global,
     words: &MergeWords,
@@ -255,14 +262,15 @@ pub fn warn<P: Report>(
 }
 
 /// Checks whether `words` gives segment identifiers (`--segment-uid`), but not exactly one for each of the `outputs`
-/// outputs. Such a merge ends with the status of warnings.
+/// outputs. Such a merge ends with the status of warnings. For the status and for `say_uuids`.
 pub fn has_other_count(words: &MergeWords, outputs: usize) -> bool
     ensures { result ≡ has_other_count words.now outputs }
 {
     !words.uuids.is_empty() && words.uuids.len() != outputs
 }
 
-/// Prints a warning if `words` gives segment identifiers, but not exactly one for each of the `outputs` outputs.
+/// Prints a warning if `words` gives segment identifiers, but not exactly one for each of the `outputs` outputs. It is
+/// the last message of `merge`.
 pub fn say_uuids<P: Report>(
     alloc: Global,
     words: &MergeWords,

@@ -16,7 +16,7 @@ use mkv_io::List;
 use std::alloc::{AllocError, Global};
 use std::rc::Rc;
 
-/// Returns the refusal of the merge if the timestamp file `file` doesn't exist.
+/// Returns the refusal of the merge if the timestamp file `file` doesn't exist, or None. For `missing_times`.
 fn missing_by(file: &TimesFile) -> Result<Option<Refusal>, AllocError>
     ensures { IfOk result (λ why. why ≡ missing_by file.now) }
 {
@@ -29,7 +29,8 @@ fn missing_by(file: &TimesFile) -> Result<Option<Refusal>, AllocError>
     }
 }
 
-/// Returns the first of the timestamp files `files` that doesn't exist.
+/// Returns the first of the timestamp files `files` that doesn't exist, or None. For `missing_times`, when `merge`
+/// applies its timestamp files.
 fn first_missing(files: &[TimesFile]) -> Option<&TimesFile>
     ensures { option_copied result ≡ first_refusing missing_by files.now }
 {
@@ -39,7 +40,7 @@ fn first_missing(files: &[TimesFile]) -> Option<&TimesFile>
 }
 
 /// Returns the refusal of the merge because of the first of the timestamp files `files` that doesn't exist, if there is
-/// one.
+/// one. For `missing_text`.
 fn missing_times(files: &[TimesFile]) -> Result<Option<Refusal>, AllocError>
     ensures { IfOk result (λ why. why ≡ missing_times files.now) }
 {
@@ -50,7 +51,7 @@ fn missing_times(files: &[TimesFile]) -> Result<Option<Refusal>, AllocError>
 }
 
 /// Returns the refusal of the merge because of a text file that doesn't exist, if there is one. The chapter file is
-/// checked first, then the timestamp files.
+/// checked first, then the timestamp files. `merge` calls it before it reads an input.
 pub fn missing_text(texts: &TextFiles) -> Result<Option<Refusal>, AllocError>
     ensures { IfOk result (λ why. why ≡ missing_text texts.now) }
 {
@@ -61,7 +62,7 @@ pub fn missing_text(texts: &TextFiles) -> Result<Option<Refusal>, AllocError>
 }
 
 /// Returns the refusal of the merge if the content of the timestamp file `file` is refused: it is too large or has an
-/// invalid line.
+/// invalid line. Returns None otherwise. For `times_refusal`.
 fn refusal_by(file: &TimesFile) -> Result<Option<Refusal>, AllocError>
     ensures { IfOk result (λ why. why ≡ refusal_by file.now) }
 {
@@ -74,7 +75,8 @@ fn refusal_by(file: &TimesFile) -> Result<Option<Refusal>, AllocError>
     }
 }
 
-/// Returns the first of the timestamp files `files` whose content is refused.
+/// Returns the first of the timestamp files `files` whose content is refused, or None. For `times_refusal`, when
+/// `merge` applies its timestamp files.
 fn first_refused(files: &[TimesFile]) -> Option<&TimesFile>
     ensures { option_copied result ≡ first_refusing refusal_by files.now }
 {
@@ -84,7 +86,7 @@ fn first_refused(files: &[TimesFile]) -> Option<&TimesFile>
 }
 
 /// Returns the refusal of the merge because of the first of the timestamp files `files` whose content is refused, if
-/// there is one.
+/// there is one. For `with_times`.
 fn times_refusal(files: &[TimesFile]) -> Result<Option<Refusal>, AllocError>
     ensures { IfOk result (λ why. why ≡ times_refusal files.now) }
 {
@@ -103,7 +105,8 @@ struct SharedTimes {
     times: Rc<Times>,
 }
 
-/// Appends the timestamps of `file` to `list`, with the input and track that they are for, if the file was read.
+/// Appends the timestamps of `file` to `list`, with the input and track that they are for, if the file was read. For
+/// `shared`; fails if memory runs out.
 fn share(alloc: Global, file: TimesFile, list: &mut List<SharedTimes>) -> Result<(), AllocError>
     ensures { OnOk result (map listed_of list.new ≡ map listed_of list.old ++ listed_by file) }
 {
@@ -122,7 +125,7 @@ fn share(alloc: Global, file: TimesFile, list: &mut List<SharedTimes>) -> Result
 }
 
 /// Returns the timestamps of all timestamp files `files`, each with the input and track that it is for. Output tracks
-/// share them instead of copying them.
+/// share them instead of copying them. For `with_times`, when `merge` applies its timestamp files.
 fn shared(alloc: Global, files: List<TimesFile>) -> Result<List<SharedTimes>, AllocError>
     ensures { IfOk result (λ list. map listed_of list ≡ listed_in files) }
 {
@@ -133,8 +136,8 @@ fn shared(alloc: Global, files: List<TimesFile>) -> Result<List<SharedTimes>, Al
     Ok(list)
 }
 
-/// Appends the timestamps `each` to `times`, the ones of the input number `input`, if they are for that input. Inputs
-/// count from 0.
+/// Appends the timestamps `each` to `times`, which has the ones of the input number `input`, if they are for that
+/// input. Inputs count from 0. For `times_at`, when `merge` applies its timestamp files.
 fn add_at(input: usize, each: &SharedTimes, times: &mut List<TrackTimes>) -> Result<(), AllocError>
     ensures { OnOk result (listings_in times.new ≡ listings_in times.old ++ at_input input (listed_of each.now)) }
 {
@@ -149,7 +152,7 @@ fn add_at(input: usize, each: &SharedTimes, times: &mut List<TrackTimes>) -> Res
 }
 
 /// Selects the timestamps in `shared` that are for the input number `input`, counted from 0, each with the ID of its
-/// track.
+/// track. For `times_for`, when `merge` applies its timestamp files.
 fn times_at(
     alloc: Global,
     input: usize,
@@ -165,7 +168,7 @@ fn times_at(
 }
 
 /// Selects the timestamps in `shared` that are for `input`, the input number `number`, counted from 0. An appended
-/// input gets none: it keeps its own timestamps.
+/// input gets none: it keeps its own timestamps. For `timed`, when `merge` applies its timestamp files.
 fn times_for(
     alloc: Global,
     number: usize,
@@ -181,7 +184,8 @@ fn times_for(
     }
 }
 
-/// Returns `inputs`, each with the timestamps in `shared` that are for it. Nothing else of an input changes.
+/// Returns `inputs`, each with the timestamps in `shared` that are for it. Nothing else of an input changes. For
+/// `with_times`, when `merge` applies its timestamp files.
 fn timed(
     alloc: Global,
     shared: &[SharedTimes],
@@ -199,7 +203,7 @@ fn timed(
 }
 
 /// Applies the timestamp files `files` of the command line: returns `inputs` with their timestamps. Fails if a
-/// timestamp file is refused.
+/// timestamp file is refused. `prepare` calls it after the chapter file is applied.
 pub fn with_times(
     alloc: Global,
     files: List<TimesFile>,

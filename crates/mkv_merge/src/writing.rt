@@ -21,7 +21,8 @@ use remuxer::remux;
 use requests::MergeWords;
 use std::alloc::Global;
 
-/// Prints a message for each completed output, with its name and number of blocks.
+/// Prints a message for each completed output in `outputs`, with its name and number of blocks. For `tell_outputs`,
+/// after `merge` has written its outputs.
 fn say_wrote<P: Report>(
     alloc: Global,
     outputs: &[Written],
@@ -37,7 +38,8 @@ fn say_wrote<P: Report>(
     Ok(())
 }
 
-/// Prints a message for each completed output in `summary`, then the warnings about the damage of the inputs.
+/// Prints a message for each completed output in `summary`, then the warnings about the damage of the inputs of
+/// `words`. For `tell`, after `merge` has written its outputs.
 fn tell_outputs<P: Report>(
     alloc: Global,
     words: &MergeWords,
@@ -52,9 +54,9 @@ fn tell_outputs<P: Report>(
     Ok(())
 }
 
-/// Prints all messages after the outputs were written. They are one for each output, warnings of damage, and a warning
-/// if the number of segment identifiers isn't the number of outputs. Returns the status, which is `Warned` after a
-/// warning or if a selected track is `absent`.
+/// Prints to `report` all messages after the outputs were written. They are one for each output, warnings of damage,
+/// and a warning if the number of segment identifiers isn't the number of outputs. Returns the status, which is
+/// `Warned` after a warning or if an option names a track that its input lacks (`absent`). The last step of `write`.
 fn tell<P: Report>(
     alloc: Global,
     words: &MergeWords,
@@ -78,7 +80,7 @@ fn tell<P: Report>(
 }
 
 /// Warns of absent tracks, writes the outputs that `prepared` plans, and prints the messages about them. `ids` are the
-/// open inputs of `words`.
+/// open inputs of `words`. `merge` calls it after `prepare`; an error stops it with some outputs written.
 pub fn write<F: Files, P: Report>(
     alloc: Global,
     words: &MergeWords,

@@ -36,7 +36,7 @@ impl Model for Outputs {
 }
 
 impl Outputs {
-    /// Returns an empty list of outputs.
+    /// Returns an empty list of outputs. `extract` begins with it before it creates its track files.
     pub fn new(alloc: Global) -> Outputs
         ensures { result ≡ [] }
     {
@@ -46,7 +46,8 @@ impl Outputs {
         }
     }
 
-    /// Creates the file `name`, empty, as the last output. Allocates all memory before it touches the file.
+    /// Creates the file `name`, empty, as the last output. Allocates all memory before it touches the file. `extract`
+    /// calls it for each track file, before it reads blocks.
     pub fn add<F: Files>(&mut self, files: &mut F, name: &str) -> Result<(), MakeFault>
         requires outputs { AreOpen F.Reads files.old self.old }
         requires apart { AreOthers name.now (names_under F.Files.own files.old self.old) }
@@ -63,7 +64,8 @@ impl Outputs {
         Ok(())
     }
 
-    /// Appends `bytes` to the output with the number `k`, counted from 0. They may wait in its buffer.
+    /// Appends `bytes` to the output with the number `k`, counted from 0. They may wait in its buffer instead of being
+    /// written to its file. `extract` calls it for the bytes before the first frame, and for each frame.
     pub fn write<F: Files>(
         &mut self,
         files: &mut F,
@@ -79,7 +81,8 @@ impl Outputs {
         write(&mut self.sinks[k], files, bytes)
     }
 
-    /// Writes the waiting bytes of the output with the number `k`, counted from 0, to its file.
+    /// Writes the waiting bytes of the output with the number `k`, counted from 0, to its file. `flush` calls it for
+    /// each output, in order.
     fn flush_one<F: Files>(&mut self, files: &mut F, k: usize) -> Result<(), MakeFault>
         requires below { k < length self.old }
         requires outputs { AreOpen F.Reads files.old self.old }
@@ -91,7 +94,8 @@ impl Outputs {
         flush(&mut self.sinks[k], files)
     }
 
-    /// Writes the waiting bytes of all outputs to their files.
+    /// Writes the waiting bytes of all outputs to their files, in order, up to the first failure. `extract` calls it
+    /// after the last block, before it closes the outputs.
     pub fn flush<F: Files>(&mut self, files: &mut F) -> Result<(), MakeFault>
         requires { AreOpen F.Reads files.old self.old }
         ensures finishes { Finishes F.Files.own files.old files.new self.old result }
@@ -106,7 +110,8 @@ impl Outputs {
         Ok(())
     }
 
-    /// Closes the files of all outputs, whether earlier calls failed or not. Waiting bytes are dropped.
+    /// Closes the files of all outputs, whether earlier calls failed or not. Waiting bytes are dropped. `extract` calls
+    /// it last.
     pub fn close<F: Files>(self, files: &mut F)
         requires { AreOpen F.Reads files.old self }
         ensures { EndsOnly F.Reads F.Files.own files.old files.new (ids_of self) }
@@ -117,7 +122,8 @@ impl Outputs {
     }
 }
 
-/// Returns an empty buffer for the output with the number `k`, counted from 0.
+/// Returns an empty buffer for the output with the number `k`, counted from 0. The first 64 have room reserved for
+/// 262,144 bytes; the buffers of further outputs grow. `add` calls it.
 fn buffer(alloc: Global, k: usize) -> Result<Bytes, AllocError>
     ensures { IfOk result (λ waiting. waiting ≡ []) }
 {

@@ -19,7 +19,8 @@ pub struct Sink {
     pub waiting: Bytes,
 }
 
-/// Writes the waiting bytes of the output `sink` to its file.
+/// Writes the waiting bytes of the output `sink` to its file among `files`. After a failure they still wait.
+/// `Outputs::flush_one` calls it, and `write` if the buffer is full.
 pub fn flush<F: Files>(sink: &mut Sink, files: &mut F) -> Result<(), MakeFault>
     requires live { IsLive F.Reads files.old sink.old.file }
     requires few { WaitFew sink.old }
@@ -37,8 +38,9 @@ pub fn flush<F: Files>(sink: &mut Sink, files: &mut F) -> Result<(), MakeFault>
     Ok(())
 }
 
-/// Appends `bytes` to the output `sink`. They wait in memory if there is room; otherwise the waiting bytes and `bytes`
-/// are written.
+/// Appends `bytes` to the output `sink`. They wait in memory if its buffer of ROOM bytes has room. If not, the waiting
+/// bytes are written to its file among `files`; then `bytes` are written, or wait if they are fewer than ROOM.
+/// `Outputs::write` calls it.
 pub fn write<F: Files>(sink: &mut Sink, files: &mut F, bytes: &[u8]) -> Result<(), MakeFault>
     requires live { IsLive F.Reads files.old sink.old.file }
     requires few { WaitFew sink.old }
@@ -56,8 +58,8 @@ pub fn write<F: Files>(sink: &mut Sink, files: &mut F, bytes: &[u8]) -> Result<(
     pass(sink, files, bytes)
 }
 
-/// Appends `bytes` to the output `sink` while no other bytes wait. They are written at once if they would fill the
-/// buffer, and otherwise wait.
+/// Appends `bytes` to the output `sink` while no other bytes wait. They are written to its file at once if they would
+/// fill the buffer of ROOM bytes, and otherwise wait. `write` calls it after a flush.
 fn pass<F: Files>(sink: &mut Sink, files: &mut F, bytes: &[u8]) -> Result<(), MakeFault>
     requires live { IsLive F.Reads files.old sink.old.file }
     requires none { sink.old.waiting ≡ [] }

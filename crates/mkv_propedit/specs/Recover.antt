@@ -13,7 +13,7 @@ use Rattle.mkv_lines.specs.declared.status.Status.{Status}
 use Rattle.mkv_lines.specs.declared.status.CommandEnd.{CommandEnd}
 use Rattle.mkv_propedit.specs.Command.{SaysOfDisk}
 
--- the outcome of a recovery of the file `name`, by its result; nothing is printed if the disk failed
+-- the outcome of `recover` for the file `name`, by the result of the recovery; nothing is printed if the disk failed
 abbrev pub told : List ℕ → Result Recovered RecoverEnd → Verdict
 told name (Ok Applied) = done (recovered_line name ∷ [])
 told name (Ok Nothing) = done (nothing_line name ∷ [])
@@ -27,27 +27,29 @@ abbrev pub recover_verdict : Bool → List ℕ → List ℕ → List ℕ → Ver
 recover_verdict is_there name media sidecar = if is_there then told name (recovery media sidecar) else refused (missing_line name)
 
 -- The call prints the outcome of `recover` for the file `name`. `disk` is the state of the disk before, `report` and `report'` are the states of the
--- report before and after. It is promised if the disk is visible to the proof.
+-- report before and after. It is promised if the disk is visible to the proof. Used by the contract of `recover_of`.
 abbrev pub SaysOfRecover : {D P : Type 0} → Ghosts D → ReportGhosts P → D → P → P → Result Status CommandEnd → List ℕ → Type 0
 SaysOfRecover d p disk report report' result name = SaysOfDisk d p disk report report' result (recover_verdict (d.is_there disk name) name)
 
 -- The call prints the outcome of `recover` for the file `name`, which is open with its journal on `disk`. `report` and `report'` are the states of
--- the report before and after. It is promised if the disk is visible to the proof.
+-- the report before and after. It is promised if the disk is visible to the proof. Used by the contract of `recover_open`.
 abbrev pub SaysOfRecovery : {D P : Type 0} → Ghosts D → ReportGhosts P → D → P → P → Result Status CommandEnd → List ℕ → Type 0
 SaysOfRecovery d p disk report report' result name = SaysOfDisk d p disk report report' result (λ M S. told name (recovery M S))
 
--- The visible content of a disk: whether a name has a file, and the contents of the open file and its journal.
+-- The visible content of a disk: whether a name has a file, and the contents of the open file and its journal. The outcome of `propedit`, `reindex`
+-- and `recover` depends on it.
 pub record DiskWorld : Type 0 where
   pub is_there : List ℕ → Bool
   pub media : List ℕ
   pub sidecar : List ℕ
 
--- the content of the disk in the state `disk`, if it is visible to the proof
+-- the content of the disk in the state `disk`, if it is visible to the proof, or None. The contract of a run uses it. Used by `execute` of `mkv_run`
+-- and others.
 abbrev pub disk_world : {D : Type 0} → Ghosts D → D → Option DiskWorld
 disk_world d disk =
     if d.told then Some record { is_there = d.is_there disk; media = (d.pair disk).media.reads; sidecar = (d.pair disk).sidecar.reads }
     else None
 
--- the outcome of `recover` for the file `name` on a disk with the content `world`
+-- the outcome of `recover` for the file `name` on a disk with the content `world`. The outcome of a run uses it.
 abbrev pub verdict_on : DiskWorld → List ℕ → Verdict
 verdict_on world name = recover_verdict (world.is_there name) name world.media world.sidecar

@@ -23,8 +23,9 @@ use mkv_lines::{CommandEnd, Line, Status};
 use sidecar_edit::{DiskFault, Plan, commit, settle};
 use std::alloc::Global;
 
-/// Makes the edits of `plan` in the open file, whose journal has no pending edit, and prints `line`. All memory is
-/// taken before anything is written, so that only a failed call can stop it.
+/// Makes the edits of `plan` in the open file on `disk`, whose journal has no pending edit, and prints `line`.
+/// `change_quiet` calls it if the change isn't refused. All memory is taken before anything is written, so that only a
+/// failed call can stop it.
 pub fn edit_planned<D: Disk, R: Report>(
     alloc: Global,
     line: &Line,
@@ -50,8 +51,8 @@ pub fn edit_planned<D: Disk, R: Report>(
     tell(&edited, made, report)
 }
 
-/// Makes the edits of `plan`. It resets the journal, which has no pending edit, and writes the plan there and the new
-/// bytes to the file. Then it resets the journal again.
+/// Makes the edits of `plan` in the open file on `disk`, for `propedit` and `reindex`. It resets the journal, which has
+/// no pending edit, and writes the plan there and the new bytes to the file. Then it resets the journal again.
 fn carry_out<D: Disk>(plan: &Plan, disk: &mut D) -> Result<(), DiskFault>
     requires ready { IsReady D.Reads D.Disk.own disk.old }
     requires some { 1 ≤ length plan.now.head.places }

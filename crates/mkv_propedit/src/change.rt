@@ -33,7 +33,8 @@ pub struct ChangePlan<'a> {
     pub line: Line<'a>,
 }
 
-/// Plans `change` of the file on `disk`, which has the name `name`, or returns the first refusal. Nothing is written.
+/// Plans `change` of the file on `disk`, which has the name `name`, or returns the first refusal. `change_quiet` calls
+/// it before anything is written. It only reads.
 pub fn plan_change<'a, D: Disk>(
     alloc: Global,
     name: &'a str,

@@ -21,8 +21,9 @@ use mkv_lines::{CommandEnd, Line, Status, refuse};
 use sidecar_edit::{Gate, state};
 use std::alloc::Global;
 
-/// Makes `change` in the file `name`, wholly or not at all, and prints the outcome. It opens the file and its journal
-/// on `disk`. After a stop at any moment, `recover` gives the file as it was or wholly changed.
+/// Makes `change` in the file `name`, wholly or not at all, and prints the outcome. `propedit` and `reindex` call it.
+/// It opens the file and its journal on `disk`. After a stop at any moment, `recover` gives the file as it was or
+/// wholly changed.
 pub fn change_file<D: Disk, R: Report>(
     alloc: Global,
     name: &str,
@@ -46,8 +47,8 @@ pub fn change_file<D: Disk, R: Report>(
     }
 }
 
-/// Makes `change` in the file `name`, which is open with its journal. It prints only an error if the journal has a
-/// pending edit or is invalid.
+/// Makes `change` in the file `name`, which is open with its journal. `change_file` calls it. It prints only an error
+/// if the journal has a pending edit or is invalid.
 fn change_open<D: Disk, R: Report>(
     alloc: Global,
     name: &str,
@@ -72,7 +73,7 @@ fn change_open<D: Disk, R: Report>(
 }
 
 /// Makes `change` in the file `name`, which is open with a journal without a pending edit: it plans the change and then
-/// makes it. A refusal is printed, and nothing is written.
+/// makes it. `change_open` calls it. A refusal is printed, and nothing is written.
 fn change_quiet<D: Disk, R: Report>(
     alloc: Global,
     name: &str,

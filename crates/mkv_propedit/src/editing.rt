@@ -19,8 +19,8 @@ use mkv_lines::{CommandEnd, Status};
 use requests::Edit;
 use std::alloc::Global;
 
-/// Makes `edits` in the file `name`, all of them or none, and prints the outcome. After a stop at any moment, `recover`
-/// gives the file as it was or with all edits.
+/// Makes `edits` in the file `name`, all of them or none, and prints the outcome. It is the command `propedit`. After a
+/// stop at any moment, `recover` gives the file as it was or with all edits.
 pub fn propedit_of<D: Disk, R: Report>(
     alloc: Global,
     name: &str,

@@ -14,8 +14,8 @@ use mkv_lines::{CommandEnd, Line, Status, refuse, say, say_text};
 use sidecar_edit::{RecoverEnd, Recovered};
 use std::alloc::{AllocError, Global};
 
-/// Returns the line that reports a completed edit of the file `name`. It is made beforehand, while memory may still run
-/// out.
+/// Returns the line that reports a completed edit of the file `name`. `recover` makes it beforehand, while memory may
+/// still run out.
 pub fn recovered_text(alloc: Global, name: &str) -> Result<String, AllocError>
     ensures { IfOk result (λ text. string_bytes text ≡ recovered_line name.now) }
 {
@@ -23,8 +23,8 @@ pub fn recovered_text(alloc: Global, name: &str) -> Result<String, AllocError>
     format!(in alloc; "{line}")
 }
 
-/// Prints the outcome of a recovery of the file `name`, unless the disk failed, and returns its status. `recovered` is
-/// the line for a completed edit, which takes no memory.
+/// Prints the outcome of a recovery of the file `name`, unless the disk failed, and returns its status. `recover` calls
+/// it last. `recovered` is the line for a completed edit, which takes no memory.
 pub fn tell<R: Report>(
     alloc: Global,
     name: &str,

@@ -18,8 +18,8 @@ use mkv_lines::{CommandEnd, Line, Status, refuse};
 use sidecar_edit::recover;
 use std::alloc::Global;
 
-/// Completes an interrupted edit of the file `name`, as its journal has it, and prints the outcome. It opens the file
-/// and its journal on `disk`.
+/// Completes an interrupted edit of the file `name`, as its journal has it, and prints the outcome. It is the command
+/// `recover`. It opens the file and its journal on `disk`.
 pub fn recover_of<D: Disk, R: Report>(
     alloc: Global,
     name: &str,
@@ -42,8 +42,8 @@ pub fn recover_of<D: Disk, R: Report>(
     }
 }
 
-/// Recovers the file `name`, which is open with its journal, and prints the outcome. All memory is taken before
-/// anything is written.
+/// Recovers the file `name`, which is open with its journal, and prints the outcome. `recover_of` calls it. All memory
+/// is taken before anything is written.
 fn recover_open<D: Disk, R: Report>(
     alloc: Global,
     name: &str,

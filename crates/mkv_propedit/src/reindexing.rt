@@ -17,8 +17,8 @@ use mkv_io::Report;
 use mkv_lines::{CommandEnd, Status};
 use std::alloc::Global;
 
-/// Rewrites the index of the file `name`, its Cues and SeekHead, and prints the outcome. After a stop at any moment,
-/// `recover` gives the file as it was or with the new index.
+/// Rewrites the index of the file `name`, its Cues and SeekHead, and prints the outcome. It is the command `reindex`.
+/// After a stop at any moment, `recover` gives the file as it was or with the new index.
 pub fn reindex_of<D: Disk, R: Report>(
     alloc: Global,
     name: &str,

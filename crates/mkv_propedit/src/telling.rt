@@ -15,16 +15,16 @@ use mkv_lines::{CommandEnd, Line, Status, say_text};
 use sidecar_edit::DiskFault;
 use std::alloc::{AllocError, Global};
 
-/// Returns the text of `line`. It is made before the change, and printed after it, when no memory may be needed any
-/// more.
+/// Returns the text of `line`, the message of a change. `edit_planned` makes it before the change, and prints it after
+/// it, when no memory may be needed any more.
 pub fn line_text(alloc: Global, line: &Line) -> Result<String, AllocError>
     ensures { IfOk result (λ text. string_bytes text ≡ text_of line.now) }
 {
     format!(in alloc; "{line}")
 }
 
-/// Prints `edited`, the line that reports a completed change, unless the disk failed, and returns the status. It takes
-/// no memory. `made` is the result of the change.
+/// Prints `edited`, the line that reports a completed change, unless the disk failed, and returns the status.
+/// `edit_planned` calls it last. It takes no memory. `made` is the result of the change.
 pub fn tell<R: Report>(
     edited: &str,
     made: Result<(), DiskFault>,
@@ -45,6 +45,7 @@ pub fn tell<R: Report>(
 }
 
 /// Returns the error line for an edit or new index of the file `name` that was refused for the reason `refusal`.
+/// `change_quiet` prints it.
 pub fn refusal_line(name: &str, refusal: Refusal) -> Line<'_>
     ensures { text_of result ≡ spec.refusal_text name.now refusal }
 {
@@ -69,7 +70,8 @@ pub fn refusal_line(name: &str, refusal: Refusal) -> Line<'_>
     }
 }
 
-// Returns the name of the reason `why` in an error line, such as `NoSuchTrack`.
+// Returns the name of the reason `why` in an error line, such as `NoSuchTrack`, for the message of a refused
+// `propedit`.
 fn why_name(why: EditRefusal) -> &'static str
     ensures { result.now ≡ spec.why_name why }
 {
@@ -83,7 +85,8 @@ fn why_name(why: EditRefusal) -> &'static str
     }
 }
 
-// Returns the name of the kind of missing room in an error line, such as `SeekHead`.
+// Returns the name of the kind `room` of missing room in an error line, such as `SeekHead`, for the message of a
+// refused `propedit` or `reindex`.
 fn room_name(room: Room) -> &'static str
     ensures { result.now ≡ spec.room_name room }
 {

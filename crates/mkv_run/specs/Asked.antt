@@ -19,7 +19,7 @@ use Rattle.mkv_generate.specs.Asked.{IsBesidesGenerate}
 use Rattle.mkv_generate.specs.Generate.{names_of}
 
 -- The command doesn't ask for `asked`, a call that opens or creates a name. An edit in place opens its file on the disk, and asks for nothing here.
--- Nor do help and the version.
+-- Nor do help and the version. For the promise that a run opens and creates no other name.
 abbrev pub IsNotRequested : Command → Asked → Type 0
 IsNotRequested (Info file) asked = IsNotAmong (with_sidecar file) [] asked
 IsNotRequested (Identify file) asked = IsNotAmong (with_sidecar file) [] asked
@@ -28,20 +28,23 @@ IsNotRequested (Merge words) asked = IsBesidesMerge (opened_by words) words aske
 IsNotRequested (Generate n prefix) asked = IsBesidesGenerate (names_of prefix) asked
 IsNotRequested _ asked = ⊤
 
--- A command line, as parsed, doesn't ask for `asked`, a call that opens or creates a name. A refused command line asks for none.
+-- A command line, as parsed, doesn't ask for `asked`, a call that opens or creates a name. A refused command line asks for none. Used by
+-- `AsksByWords` and by the promise of the program.
 abbrev pub IsBesidesAfter : Result Command Usage → Asked → Type 0
 IsBesidesAfter (Ok command) asked = IsNotRequested command asked
 IsBesidesAfter (Err usage) asked = ⊤
 
--- From the state `files` to `files'`, no name is opened or created that `command` doesn't ask for.
+-- From the state `files` to `files'`, no name is opened or created that `command` doesn't ask for. The contract of `execute` states it.
 abbrev pub AsksToObey : {F : Type 0} → FilesGhosts F → F → F → Command → Type 0
 AsksToObey f files files' command = AsksNone (IsNotRequested command) (f.asked files) (f.asked files')
 
--- From the state `files` to `files'`, no name is opened or created that the command line `words` doesn't ask for.
+-- From the state `files` to `files'`, no name is opened or created that the command line `words` doesn't ask for. The contract of `carry_out` states
+-- it.
 abbrev pub AsksByWords : {F : Type 0} → FilesGhosts F → F → F → List (String Global) → Type 0
 AsksByWords f files files' words = AsksNone (IsBesidesAfter (command (texts words))) (f.asked files) (f.asked files')
 
--- From the state `files` to `files'`, the same files are open. No name is opened or created that the command line `words` doesn't ask for.
+-- From the state `files` to `files'`, the same files are open. No name is opened or created that the command line `words` doesn't ask for. The
+-- contract of `run_command_line` states it.
 pub record LeavesFiles {F : Type 0} (r : ReadsGhosts F) (f : FilesGhosts F) (files files' : F) (words : List (String Global)) : Type 0 where
   pub live : (file : ℕ) → (live_files r files').live file ≡ (live_files r files).live file
   pub asks : AsksByWords f files files' words

@@ -9,7 +9,8 @@ use Rattle.mkv_lines.specs.declared.status.Status.{Status}
 use Rattle.mkv_lines.specs.declared.status.Status.TheVariants as status
 use Rattle.mkv_run.specs.RunSeen.{DiskRose, RunSeen}
 
--- From the report `old` to `new`, a first part of the lines `all` was printed, and then the line `fault`.
+-- From the report `old` to `new`, a first part of the lines `all` was printed, and then the line `fault`. A case of `EndsOutside`, in the promise of
+-- a whole run.
 pub record SaysFault (old new : ReportLines) (all : List (List ℕ)) (fault : List ℕ) : Type 0 where
   pub said : List (List ℕ)
   pub left : List (List ℕ)
@@ -18,7 +19,7 @@ pub record SaysFault (old new : ReportLines) (all : List (List ℕ)) (fault : Li
 
 -- From the state `old` to `new`, a call of the system has failed. After a failure of the files, a first part of the lines `all` and the line of the
 -- failure are printed. After a failure of the disk, only the line of the failure is printed. The line of the failure is missing only if the report
--- failed.
+-- failed. `all` are the lines of the command's outcome. A case of `Ends`, in the promise of a whole run.
 abbrev pub EndsOutside : RunSeen → RunSeen → List (List ℕ) → Type 0
 EndsOutside old new all =
     (FilesRose old.seen.counts new.seen.counts × SaysFault old.seen.lines new.seen.lines all files_fault_line)
@@ -26,7 +27,8 @@ EndsOutside old new all =
     ⊎ (ReportRose old.seen.counts new.seen.counts × SaysPart old.seen.lines new.seen.lines all))
 
 -- A run from the state `old` to `new` with the outcome `v` ends with its status, lines and outputs. If memory runs out or a call of the system fails,
--- it ends with a first part of them. Then no line after the outputs is printed unless the outputs are complete.
+-- it ends with a first part of them. Then no line after the outputs is printed unless the outputs are complete. Used by the contract of
+-- `run_command_line`.
 abbrev pub Ends : RunSeen → RunSeen → Status → Verdict → Type 0
 Ends old new status.NoMemory v = IsStopped old.seen new.seen v
 Ends old new status.Outside v = StopsSaying (EndsOutside old new) old.seen.names new.seen.names v

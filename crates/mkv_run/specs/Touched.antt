@@ -22,7 +22,7 @@ pub data Reach : Type 0 where
   edited : List ℕ → List Edit → Reach
   indexed : List ℕ → Reach
 
--- the objects that a command works on: nothing, files, or a file in place
+-- the objects that a command works on: nothing, files, or a file in place. For the contract of `execute`.
 abbrev pub reach_of : Command → Reach
 reach_of (Help about) = nothing
 reach_of Version = nothing
@@ -36,12 +36,13 @@ reach_of (Extract file job) = files
 reach_of (Propedit file edits) = edited file edits
 reach_of (Merge words) = files
 
--- the objects that a command line works on, as parsed; a refused one works on nothing
+-- the objects that a command line works on, as parsed; a refused one works on nothing. For the promises of a run about changes and crashes.
 abbrev pub reach_in : Result Command Usage → Reach
 reach_in (Ok command) = reach_of command
 reach_in (Err usage) = nothing
 
--- The command recovers, edits or indexes a file in place, by the objects that it works on.
+-- The command recovers, edits or indexes a file in place, by the objects that it works on. Then the disk must be at rest before the run. Used by
+-- `run_command_line`, `carry_out` and others.
 abbrev pub IsInPlace : Reach → Type 0
 IsInPlace nothing = ⊥
 IsInPlace files = ⊥
@@ -51,7 +52,7 @@ IsInPlace (indexed file) = ⊤
 
 -- A run with the status `s` changes only what its command works on. `old` and `new` are the states of the files before and after, `disk` and
 -- `disk_now` of the disk. An edit in place leaves the files, any other command the disk, and help or refused words both. A file in place is left as
--- its recovery, edit or new index allows.
+-- its recovery, edit or new index allows. The contract of `run_command_line` states it.
 abbrev pub Touches : {F D : Type 0} → reads.Ghosts D → disks.Ghosts D → Reach → F → F → D → D → Status → Type 0
 Touches r d nothing old new disk disk_now s = (new ≡ old) × (disk_now ≡ disk)
 Touches r d files old new disk disk_now s = disk_now ≡ disk
@@ -60,11 +61,12 @@ Touches r d (edited file edits) old new disk disk_now s = (new ≡ old) × IsEdi
 Touches r d (indexed file) old new disk disk_now s = (new ≡ old) × IsEditOf r d file writes_of_index disk disk_now s
 
 -- A command that ended with `result` changes only what it works on, `reach`. `old` and `new` are the states of the files before and after, `disk` and
--- `disk_now` of the disk.
+-- `disk_now` of the disk. The contracts of `execute` and `carry_out` state it.
 abbrev pub Touched : {F D : Type 0} → reads.Ghosts D → disks.Ghosts D → Reach → F → F → D → D → Result Status CommandEnd → Type 0
 Touched r d reach old new disk disk_now result = Touches r d reach old new disk disk_now (status_of result)
 
--- A file was `M` with the journal `S`. A crash at any moment of a command with the status `e` may leave the contents `m` and `s` of the two.
+-- A file was `M` with the journal `S`. A crash at any moment of a command with the status `e` may leave the contents `m` and `s` of the two. For the
+-- promise of a run about a crash.
 abbrev pub LeftOnTheWay : Reach → Status → List ℕ → List ℕ → List ℕ → List ℕ → Type 0
 LeftOnTheWay nothing e M S m s = (m ≡ M) × (s ≡ S)
 LeftOnTheWay files e M S m s = (m ≡ M) × (s ≡ S)

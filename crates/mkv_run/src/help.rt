@@ -11,7 +11,8 @@ use mkv_args::{Verb, explained, usage_lines, version_line};
 use mkv_io::{Report, Text};
 use mkv_lines::{CommandEnd, Status, say_text};
 
-/// Prints the help page of the command `about`, or the overview of all commands if there is none.
+/// Prints the help page of the command `about`, or the overview of all commands if there is none. For the command
+/// `--help`.
 pub fn help<R: Report>(about: Option<Verb>, report: &mut R) -> Result<Status, CommandEnd>
     ensures verdict { SaysVerdict (R.lines report.old) (R.lines report.new) result (done (usage_lines about)) }
     ensures ordinary { IfOk result IsOrdinary }
@@ -20,7 +21,8 @@ pub fn help<R: Report>(about: Option<Verb>, report: &mut R) -> Result<Status, Co
     print_lines(usage_lines(about), report)
 }
 
-/// Prints the page that explains `name`, a word of a message such as `BadValue`, or the list of all such words.
+/// Prints the page that explains `name`, a word of a message such as `BadValue`, or the list of all such words. For the
+/// command `explain`.
 pub fn explain<R: Report>(name: &Option<Text>, report: &mut R) -> Result<Status, CommandEnd>
     ensures verdict { SaysVerdict (R.lines report.old) (R.lines report.new) result (done (explained name.now)) }
     ensures ordinary { IfOk result IsOrdinary }
@@ -33,7 +35,8 @@ pub fn explain<R: Report>(name: &Option<Text>, report: &mut R) -> Result<Status,
     print_lines(lines, report)
 }
 
-/// Prints the line with the name of the program and its version to `report`.
+/// Prints the line with the name of the program and its version to `report`, and returns the status Done. For the
+/// command `--version`.
 pub fn version<R: Report>(report: &mut R) -> Result<Status, CommandEnd>
     ensures verdict { SaysVerdict (R.lines report.old) (R.lines report.new) result (done (version_line ∷ [])) }
     ensures ordinary { IfOk result IsOrdinary }
@@ -43,7 +46,8 @@ pub fn version<R: Report>(report: &mut R) -> Result<Status, CommandEnd>
     Ok(Status::Done)
 }
 
-// Prints each of `lines`, in order, and returns the status Done.
+// Prints each of `lines` to `report`, in order, and returns the status Done. For `help` and `explain`, when a page is
+// printed.
 fn print_lines<R: Report>(lines: &[&str], report: &mut R) -> Result<Status, CommandEnd>
     ensures verdict { SaysVerdict (R.lines report.old) (R.lines report.new) result (done (map (λ line. line.now) lines.now)) }
     ensures ordinary { IfOk result IsOrdinary }
@@ -53,7 +57,8 @@ fn print_lines<R: Report>(lines: &[&str], report: &mut R) -> Result<Status, Comm
     Ok(Status::Done)
 }
 
-// Prints each of `texts` as a line, in order, up to the first that can't be printed.
+// Prints each of `texts` to `report` as a line, in order, up to the first that can't be printed. For `print_lines`,
+// when a page is printed.
 fn say_texts<R: Report>(texts: &[&str], report: &mut R) -> Result<(), CommandEnd>
     ensures said { Says (R.lines report.old) (R.lines report.new) (map (λ text. text.now) texts.now) result }
     ensures cause { HasSayCause (R.faults report.old) (R.faults report.new) result }

@@ -31,7 +31,8 @@ use std::alloc::Global;
 
 /// Does what `words`, the command line without the program's name, ask for, prints the messages, and returns the
 /// status. If a call on the files or the disk failed, it prints the line of that failure, too. Requires that nothing on
-/// the disk is left to sync if the command edits or recovers a file in place.
+/// the disk is left to sync if the command edits or recovers a file in place. The program and its tests call it once a
+/// run.
 pub fn run_command_line<F: Files, D: Disk, R: Report>(
     alloc: Global,
     words: &Vec<String>,
@@ -84,7 +85,7 @@ pub fn run_command_line<F: Files, D: Disk, R: Report>(
 }
 
 // Parses `words` and executes their command, up to the first failed call or missing memory. Words that are refused get
-// only an error line.
+// only an error line. For `run_command_line`, in a run of the program.
 fn carry_out<F: Files, D: Disk, R: Report>(
     alloc: Global,
     words: &Vec<String>,
@@ -110,7 +111,7 @@ fn carry_out<F: Files, D: Disk, R: Report>(
 }
 
 // Executes `command`, whose arguments are parsed, over the files and the disk, and prints its messages to the report.
-// Each command has its own crate.
+// Each command has its own crate. Returns its status. For `carry_out`, in a run of the program.
 fn execute<F: Files, D: Disk, R: Report>(
     alloc: Global,
     command: &Command,
@@ -149,7 +150,7 @@ fn execute<F: Files, D: Disk, R: Report>(
 }
 
 // Prints the error line for the first wrong word of the command line, with its number `word` and the reason `why`.
-// Returns the status of a refusal.
+// Returns the status of a refusal. For `carry_out`, which then executes nothing.
 fn refuse<R: Report>(
     alloc: Global,
     word: usize,

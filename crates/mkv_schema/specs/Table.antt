@@ -12,7 +12,7 @@ pub data Default : Type 0 where
   number_value : ℕ → Default
   text_value : List ℕ → Default
 
--- a row of the table: an Element's name, ID, kind of value, parents and default
+-- a row of the table, which the look-ups search: an Element's name, ID, kind of value, parents and default. Used by `entry_of`, `element` and others.
 pub record Entry : Type 0 where
   pub name : List ℕ
   pub id : ℕ
@@ -20,25 +20,26 @@ pub record Entry : Type 0 where
   pub parents : Parents
   pub default : Option Default
 
--- the row of an Element with the name `name`
+-- the row of an Element with the name `name`, the ID `id`, the kind of value `kind`, the parents `parents` and the default `default`. The table is
+-- made of them.
 abbrev pub element : String → ℕ → ElementKind → Parents → Option Default → Entry
 element name id kind parents default =
     record { name = codes name; id = id; kind = kind; parents = parents; default = default }
 
--- no default, as a row has it
+-- no default, as a row of the table has it if the standards give none. Used by `table` and others.
 abbrev pub none : Option Default
 none = None
 
--- the number `n` as the default of a row
+-- the number `n` as the default of a row of the table. Used by `table`.
 abbrev pub number : ℕ → Option Default
 number n = Some (number_value n)
 
--- the text `t` as the default of a row
+-- the text `t` as the default of a row of the table. Used by `is_doc_type` and `table`.
 abbrev pub text : String → Option Default
 text t = Some (text_value (codes t))
 
--- the rows: name, ID, kind, parents, default. BlockAdditions is a master in RFC 9559. Here its bytes are copied as they are, so its kind is
--- Binary, and its children have no rows.
+-- the rows: name, ID, kind, parents, default; all look-ups of the schema search them. BlockAdditions is a master in RFC 9559. Here its bytes are
+-- copied as they are, so its kind is Binary, and its children have no rows. Used by `table_ids` and `entry_of`.
 unfoldable pub table : List Entry
 table =
     -- EBML Header Elements (RFC 8794, section 11.2)

@@ -11,7 +11,8 @@ use crate::kind::{ElementKind, Row};
 use crate::parents::Parents;
 use crate::table::{DefaultValue, look_up};
 
-/// Returns the row of the ID `id`, which has its marker bit, or None if the table doesn't have it.
+/// Returns the row of the ID `id`, which has its marker bit, or None if the table doesn't have it. Readers and messages
+/// find the name and kind of an Element with it.
 #[tactic(auto, using(crate::proofs::SchemaLemmas::laws))]
 pub fn row(id: u32) -> Option<Row>
     ensures id { IfSome result (λ row. row.id ≡ id) }
@@ -26,7 +27,8 @@ pub fn row(id: u32) -> Option<Row>
     look_up(id).map(|entry| entry.row)
 }
 
-/// Checks whether the table has `id` as a master.
+/// Checks whether the table has `id` as a master, whose content is read as Elements. Readers of trees ask for each
+/// child. Used by `allows` and others.
 pub fn is_master(id: u32) -> bool
     ensures exact { result ≡ is_master id }
     ensures kind { IsTrue result ↔ (kind_of id ≡ Some ElementKind.Master) }
@@ -34,7 +36,8 @@ pub fn is_master(id: u32) -> bool
     look_up(id).is_some_and(|entry| entry.row.kind == ElementKind::Master)
 }
 
-/// Checks whether the table has `id` at level 0: EBML, or Segment (RFC 8794, section 8, EBML Document).
+/// Checks whether the table has `id` at level 0: EBML, or Segment (RFC 8794, section 8, EBML Document). Such an Element
+/// ends a Segment or Cluster of unknown size. Used by `ends_segment` of `elements`.
 #[tactic(auto, using(crate::proofs::SchemaLemmas::laws))]
 pub fn is_level0(id: u32) -> bool
     ensures exact { result ≡ is_level0 id }
@@ -44,8 +47,9 @@ pub fn is_level0(id: u32) -> bool
     look_up(id).is_some_and(|entry| entry.parents == Parents::Root)
 }
 
-/// Checks whether the table has `id` as a child of Segment (RFC 9559, section 5.1, Segment Element). This excludes
-/// Void and CRC-32, which any master may have.
+/// Checks whether the table has `id` as a child of Segment (RFC 9559, section 5.1, Segment Element). This excludes Void
+/// and CRC-32, which any master may have. Such an Element ends a Cluster of unknown size. Used by `ends_cluster` of
+/// `elements`.
 #[tactic(auto, using(crate::proofs::SchemaLemmas::laws))]
 pub fn is_level1(id: u32) -> bool
     ensures exact { result ≡ is_level1 id }
@@ -56,7 +60,8 @@ pub fn is_level1(id: u32) -> bool
 }
 
 /// Checks whether an Element `id` may be a direct child of an Element `parent`. Level 0 isn't a parent. Every master
-/// may have Void and CRC-32 (RFC 8794, section 11.3, Global Elements).
+/// may have Void and CRC-32 (RFC 8794, section 11.3, Global Elements). Readers of trees check each child so. Used by
+/// `is_master_in` of `ebml_tree`.
 #[tactic(auto, using(crate::proofs::SchemaLemmas::laws))]
 pub fn may_stand(id: u32, parent: u32) -> bool
     ensures exact { result ≡ may_stand id parent }
@@ -66,7 +71,8 @@ pub fn may_stand(id: u32, parent: u32) -> bool
     look_up(id).is_some_and(|entry| allows(entry.parents, id, parent))
 }
 
-/// Returns the kind of an Element `id` as a direct child of `parent`, or None if the table doesn't have it there.
+/// Returns the kind of an Element `id` as a direct child of `parent`, or None if the table doesn't have it there. The
+/// check of a leaf's value uses it.
 #[tactic(auto, using(crate::proofs::SchemaLemmas::laws))]
 pub fn kind_under(id: u32, parent: u32) -> Option<ElementKind>
     ensures { result ≡ kind_under id parent }
@@ -75,7 +81,8 @@ pub fn kind_under(id: u32, parent: u32) -> Option<ElementKind>
     allows(entry.parents, id, parent).then_some(entry.row.kind)
 }
 
-/// Checks whether the ID `parent` is one of the parents `parents` of the Element `id`.
+/// Checks whether the ID `parent` is one of the parents `parents` of the Element `id`, for `may_stand` and
+/// `kind_under`.
 fn allows(parents: Parents, id: u32, parent: u32) -> bool
     ensures { result ≡ allows parents id parent }
 {
@@ -88,7 +95,7 @@ fn allows(parents: Parents, id: u32, parent: u32) -> bool
 }
 
 /// Returns the default of the integer Element `id`, which is its value if it is empty or missing. Returns None if the
-/// standards give none.
+/// standards give none. Readers of unsigned integers use it.
 #[tactic(auto, using(crate::proofs::SchemaLemmas::laws))]
 pub fn uint_default(id: u32) -> Option<u64>
     ensures exact { result ≡ uint_default id }
@@ -101,7 +108,7 @@ pub fn uint_default(id: u32) -> Option<u64>
 }
 
 /// Returns the default of the text Element `id`, which is its value if it is missing: `eng` for Language and
-/// ChapLanguage. Returns None if the standards give none.
+/// ChapLanguage. Returns None if the standards give none. Readers of texts use it.
 #[tactic(auto, using(crate::proofs::SchemaLemmas::laws))]
 pub fn text_default(id: u32) -> Option<&'static str>
     ensures exact { option_copied result ≡ text_default id }

@@ -157,14 +157,15 @@ static TABLE: [Entry; 107] = [
     entry!("TagString",            TAG_STRING,             Utf8,   ChildOf(SIMPLE_TAG)),
 ];
 
-/// Returns the entry of the ID `id` in the table, if the table has it.
+/// Returns the entry of the ID `id` in the table, or None if the table doesn't have it. All look-ups of the schema
+/// begin with it.
 pub fn look_up(id: u32) -> Option<&'static Entry>
     ensures { seen result ≡ entry_of id }
 {
     first_of(&TABLE, id)
 }
 
-/// Returns the first of `entries` with the ID `id`, if there is one.
+/// Returns the first of `entries` with the ID `id`, or None if there is none, for `look_up`.
 fn first_of(entries: &[Entry], id: u32) -> Option<&Entry>
     ensures { seen result ≡ find (λ e. e.id == id) (map shown entries.now) }
 {

@@ -10,7 +10,8 @@ use Rattle.block_format.specs.Events.{found_in}
 use Rattle.output_model.specs.declared.places.CuePoint.{CuePoint}
 
 -- The cue point `point` points at the block `block` in the Cluster with the header `cluster`. Its position in the Segment is the Cluster's, and its
--- position in the Cluster is the block's. Track number and tick are the block's.
+-- position in the Cluster is the block's. Track number and tick are the block's. `scale` is the nanoseconds per tick, `bytes` the file, and `segment`
+-- its Segment's header. Used by `PointsAtBlock`, in the laws on what `merge` writes.
 pub record PointsAt (scale : ℕ) (bytes : List ℕ) (segment : Header) (point : CuePoint) (cluster : Header) (block : Block) : Type 0 where
   pub stands : element_at in_segment bytes (segment.body + point.cluster) (segment_bound bytes segment) ≡ Ok cluster
   pub is_cluster : cluster.id ≡ CLUSTER
@@ -19,6 +20,7 @@ pub record PointsAt (scale : ℕ) (bytes : List ℕ) (segment : Header) (point :
   pub track : block.track ≡ point.lane
   pub time : block.time ≡ nanoseconds scale (pos point.tick)
 
--- The cue point `point` points at a block in the content `bytes`; `scale` is the nanoseconds per tick.
+-- The cue point `point` points at a block in the content `bytes`; `scale` is the nanoseconds per tick, and `segment` the Segment's header. The law
+-- `points_are_read` and `IsReadAs` state it of each cue point of an output.
 abbrev pub PointsAtBlock : ℕ → List ℕ → Header → CuePoint → Type 0
 PointsAtBlock scale bytes segment point = (cluster : Header) × (block : Block) × PointsAt scale bytes segment point cluster block

@@ -3,14 +3,16 @@
 
 ghost use Rattle.output_laws.specs.Layouts.{LayoutsAreRead, OpenedIsOverwritten};
 
-/// Law: a written document is read as that document: its outline, its records, its blocks, its Seeks and its cue
-/// points.
+/// Law: a document that can be written is read back as that document: its outline, its records, its blocks, its Seeks
+/// and its cue points. No reader's limits are applied. The laws on `merge`, on a repeated merge and on generated files
+/// build on it.
 pub fn layouts_are_read()
     ensures { LayoutsAreRead }
 {}
 
-/// Law: an output before its last writes differs from the finished one only in the Segment's size, in the area for its
-/// SeekHead and in its Duration.
+/// Law: an output that can be written, before its last writes, differs from the finished one only in three places. They
+/// are the Segment's size, the area for its SeekHead, and its Duration. The last writes of `merge` are these places. It
+/// is a promise to readers; no function cites it.
 pub fn opened_is_overwritten()
     ensures { OpenedIsOverwritten }
 {}

@@ -18,8 +18,9 @@ pub struct Durations {
     pub frames: List<Option<u64>>,
 }
 
-// Returns the ticks of `scale` nanoseconds that are nearest to `frames` frames of `duration` nanoseconds each, the
-// greater number of two, or 0 if the duration isn't known. More than 2^64 - 1 ticks become 2^64 - 1.
+// Returns the duration in ticks of `scale` nanoseconds of `frames` frames of `duration` nanoseconds each, rounded to
+// the nearest tick, or up if two are equally near. Returns 0 if the duration isn't known, and 2^64 - 1 for more ticks
+// than that. Used by `end_at`.
 fn ticks_of(scale: u64, frames: u64, duration: Option<u64>) -> u64
     requires scale { 1 ≤ scale }
     requires frames { frames ≤ 256 }
@@ -37,7 +38,8 @@ fn ticks_of(scale: u64, frames: u64, duration: Option<u64>) -> u64
 }
 
 impl Durations {
-    // Returns the nanoseconds of a frame on the output track `lane`, counted from 1, if they are known.
+    // Returns the nanoseconds of a frame on the output track `lane`, counted from 1, or None if they aren't known. Used
+    // by `end_at`.
     fn of_frame(&self, lane: u8) -> Option<u64>
         ensures { result ≡ frame_duration self.now lane }
     {
@@ -48,8 +50,9 @@ impl Durations {
         }
     }
 
-    /// Returns the tick at which a block ends that begins at `tick`. It has `frames` frames on the output track `lane`,
-    /// counted from 1, and the BlockDuration `duration` in ticks, if it has one.
+    /// Returns the tick at which a block ends that begins at `tick`, at most 2^64 - 1. It has `frames` frames on the
+    /// output track `lane`, counted from 1, and the BlockDuration `duration` in ticks, if it has one. `merge` calls it
+    /// for each block: the greatest end is the Duration of the output.
     pub fn end_at(&self, lane: u8, tick: u64, frames: usize, duration: Option<u64>) -> u64
         requires scale { 1 ≤ self.now.scale }
         requires frames { frames ≤ 256 }

@@ -4,12 +4,15 @@
 
 ghost use Rattle.output_model.specs.Laws.{ChildrenAreWritten, ElementsAreRead};
 
-/// Law: Elements in sequence are read as the same Elements, whatever is around them.
+/// States that Elements that are written in sequence, as the content of a master, are read as its children by
+/// `children_in`, whatever bytes are around them. Laws on whole outputs, such as `layouts_are_read`, build on the same
+/// lemmas.
 pub fn elements_are_read()
     ensures { ElementsAreRead }
 {}
 
-/// Law: children that are read without damage are Elements that fill the body of their master.
+/// States that children that are read without damage are Elements that fill the body of their master. A law of the
+/// readers, which the laws on edits build on; no command calls it.
 pub fn children_are_written()
     ensures { ChildrenAreWritten }
 {}

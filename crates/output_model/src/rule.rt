@@ -15,7 +15,8 @@ pub enum CueRule {
 }
 
 impl CueRule {
-    /// Checks whether a block gets a cue point; `key` is true for a keyframe.
+    /// Checks whether a block of the rule's output track gets a cue point; `key` is true for a keyframe. `merge` does
+    /// this for each block that it writes.
     pub fn takes(&self, key: bool) -> bool
         ensures { result ≡ is_cue_by self.now key }
     {

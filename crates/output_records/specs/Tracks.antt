@@ -3,6 +3,6 @@ use Rattle.std.specs.Prelude.{List}
 use Rattle.mkv_schema.specs.declared.ids.TheConstants.{TRACKS}
 use Rattle.tree_format.specs.Node.{Node, master, nodes_of}
 
--- the Tracks of an output with the TrackEntries `entries`, in their order
+-- the Tracks of an output of a merge or of `generate` with the TrackEntries `entries`, in their order
 abbrev pub output_tracks : List Node → Node
 output_tracks entries = master TRACKS 0 (nodes_of entries)

@@ -13,7 +13,8 @@ use output_model::Attachment;
 use record_changes::renumber;
 use std::alloc::{AllocError, Global};
 
-/// Returns the output's FileUIDs for the attached files of all inputs, in their order.
+/// Returns the output's FileUIDs for the attached files of all inputs, in their order. Used by `numbers_of`, for
+/// `merge_records`.
 pub(crate) fn file_numbers(alloc: Global, inputs: &[InputRecords]) -> Result<List<u64>, AllocError>
     ensures { IfOk result (λ numbers. numbers ≡ file_numbers inputs.now) }
 {
@@ -24,7 +25,8 @@ pub(crate) fn file_numbers(alloc: Global, inputs: &[InputRecords]) -> Result<Lis
     renumber(alloc, uids.as_slice())
 }
 
-// Returns a copy of the attached file `file` with the FileUID `uid`, also in its AttachedFile.
+// Returns a copy of the attached file `file` with the FileUID `uid`, also in its AttachedFile. Used by
+// `attachments_of`.
 fn with_uid(alloc: Global, uid: u64, file: &Attachment) -> Result<Attachment, AllocError>
     requires { IsAttached file.now }
     ensures exact { IfOk result (λ written. written ≡ with_uid uid file.now) }
@@ -41,7 +43,8 @@ fn with_uid(alloc: Global, uid: u64, file: &Attachment) -> Result<Attachment, Al
     })
 }
 
-/// Returns the attached files of all inputs, input after input, with the output's FileUIDs `numbers`.
+/// Returns the attached files of all inputs, input after input, with the output's FileUIDs `numbers`, one for each.
+/// Used by `merge_records`.
 pub(crate) fn attachments_of(
     alloc: Global,
     inputs: &[InputRecords],

@@ -18,8 +18,8 @@ use mkv_schema::ids::CHAPTERS;
 use record_changes::{push_chapter_uids, push_edition_uids, renumber, shift};
 use std::alloc::{AllocError, Global};
 
-// Returns a copy of an input's Chapters, with times that are later by `by` nanoseconds, the append offset, if it is
-// appended.
+// Returns a copy of an input's Chapters `chapters`, with times that are later by `by` nanoseconds, the append offset,
+// or unchanged if the input isn't appended (None). Used by `push_chapters`.
 fn later(alloc: Global, chapters: &Tree, by: Option<u64>) -> Result<Tree, AllocError>
     requires { IsRead CHAPTERS_ID chapters.now }
     ensures exact { IfOk result (λ tree. tree ≡ later by chapters.now) }
@@ -33,7 +33,7 @@ fn later(alloc: Global, chapters: &Tree, by: Option<u64>) -> Result<Tree, AllocE
     Ok(later)
 }
 
-// Appends the editions of an input's Chapters to `joined`, the Chapters of the output.
+// Appends the editions of the Chapters of `input` to `joined`, the Chapters of the output. Used by `joined_chapters`.
 fn push_chapters(alloc: Global, input: &InputRecords, joined: &mut Tree) -> Result<(), AllocError>
     requires input { IsInput input.now }
     requires joined { IsRecord CHAPTERS_ID joined.old }
@@ -47,6 +47,7 @@ fn push_chapters(alloc: Global, input: &InputRecords, joined: &mut Tree) -> Resu
 }
 
 /// Returns one Chapters with the editions of all inputs, input after input, and still with the inputs' identifiers.
+/// Used by `merge_records`.
 pub(crate) fn joined_chapters(alloc: Global, inputs: &[InputRecords]) -> Result<Tree, AllocError>
     requires { All IsInput inputs.now }
     ensures exact { IfOk result (λ joined. joined ≡ joined_chapters inputs.now) }
@@ -59,7 +60,8 @@ pub(crate) fn joined_chapters(alloc: Global, inputs: &[InputRecords]) -> Result<
     Ok(joined)
 }
 
-/// Returns the output's EditionUIDs for the editions in `joined`, the Chapters of all inputs.
+/// Returns the output's EditionUIDs for the editions in `joined`, the Chapters of all inputs, in their order. Used by
+/// `numbers_of`, for `merge_records`.
 pub(crate) fn edition_numbers(alloc: Global, joined: &Tree) -> Result<List<u64>, AllocError>
     requires { IsRead CHAPTERS_ID joined.now }
     ensures { IfOk result (λ numbers. numbers ≡ renumbered (edition_uids joined.now)) }
@@ -69,7 +71,8 @@ pub(crate) fn edition_numbers(alloc: Global, joined: &Tree) -> Result<List<u64>,
     renumber(alloc, uids.as_slice())
 }
 
-/// Returns the output's ChapterUIDs for the chapters in `joined`, the Chapters of all inputs.
+/// Returns the output's ChapterUIDs for the chapters in `joined`, the Chapters of all inputs, in their order. Used by
+/// `numbers_of`, for `merge_records`.
 pub(crate) fn chapter_numbers(alloc: Global, joined: &Tree) -> Result<List<u64>, AllocError>
     requires { IsRead CHAPTERS_ID joined.now }
     ensures { IfOk result (λ numbers. numbers ≡ renumbered (chapter_uids joined.now)) }

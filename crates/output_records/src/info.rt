@@ -13,8 +13,8 @@ use std::alloc::{AllocError, Global};
 /// Name and version of the program, for MuxingApp and WritingApp
 const APPLICATION: &str = "mkvsuite 1";
 
-/// Returns the Info of an output with `scale` nanoseconds per tick and the title `title`, which isn't written if it is
-/// empty.
+/// Returns the Info of an output of `merge` or `generate` with `scale` nanoseconds per tick and the title `title`,
+/// which isn't written if it is empty. A Duration is added later.
 pub fn info_of(alloc: Global, scale: u64, title: &str) -> Result<Tree, AllocError>
     ensures exact { IfOk result (λ info. info ≡ output_info scale title.now) }
     ensures sound { IfOk result (IsRecord INFO_ID) }

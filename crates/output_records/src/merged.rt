@@ -33,7 +33,7 @@ pub struct MergedRecords {
 }
 
 // Returns the output's identifiers for the editions, chapters and attached files of all inputs, in their order.
-// `joined` has the Chapters of all inputs.
+// `joined` has the Chapters of all inputs. Used by `merge_records`.
 fn numbers_of(alloc: Global, inputs: &[InputRecords], joined: &Tree) -> Result<Uids, AllocError>
     requires read { IsRead CHAPTERS joined.now }
     requires joined { joined.now ≡ joined_chapters inputs.now }
@@ -46,7 +46,7 @@ fn numbers_of(alloc: Global, inputs: &[InputRecords], joined: &Tree) -> Result<U
     })
 }
 
-/// Merges the attached files, Chapters and Tags of all inputs into the ones of the output.
+/// Merges the attached files, Chapters and Tags of all inputs into the ones of the output, when `merge` plans it.
 ///
 /// The attached files and editions of all inputs follow in sequence, with the output's FileUIDs, EditionUIDs and
 /// ChapterUIDs. For each kind, the first use of a positive identifier keeps it. The kept Tags follow, with the output's

@@ -11,7 +11,8 @@ ghost use Rattle.output_records.specs.RecordLimits.{is_too_large};
 use ebml_tree::{MAX_NODES, Tree};
 use mkv_schema::limits::MAX_MASTER_LEN;
 
-// Checks whether `children`, the children of a record, have more than 16 MiB as they are written.
+// Checks whether `children`, the children of a record, have more than 16 MiB as they are written. Used by
+// `is_too_large`.
 #[tactic(auto, using(ebml_tree::proofs::LoopLemmas::rest))]
 fn are_long(children: &[Tree]) -> bool
     ensures { result ≡ nat_lt MOST (length (flat_map octets children.now)) }
@@ -27,8 +28,8 @@ fn are_long(children: &[Tree]) -> bool
     false
 }
 
-// Returns `nodes` minus the number of written Elements in `tree`, or nothing if there are more. Elements that aren't
-// written, like Void, have no bytes.
+// Returns `nodes` minus the number of written Elements in `tree`, or None if there are more. Elements that aren't
+// written, like Void, have no bytes. Used by `is_too_large`.
 fn nodes_left(nodes: u32, tree: &Tree) -> Option<u32>
     ensures { SomeIff result (kept tree.now ≤ nodes) (nodes - kept tree.now) }
 {
@@ -41,8 +42,8 @@ fn nodes_left(nodes: u32, tree: &Tree) -> Option<u32>
     Some(left)
 }
 
-/// Checks whether the record `tree` is too large to be read again. It then has more than 16 MiB after its header, or
-/// more than 65,536 Elements with itself. Void and CRC-32 aren't written, and don't count.
+/// Checks whether the record `tree` of an output of `merge` is too large to be read again. It then has more than 16 MiB
+/// after its header, or more than 65,536 Elements with itself. Void and CRC-32 aren't written, and don't count.
 pub fn is_too_large(tree: &Tree) -> bool
     requires { IsMaster tree.now }
     ensures { result ≡ is_too_large tree.now }

@@ -9,7 +9,8 @@ ghost use Rattle.output_records.specs.Inputs.{with_some};
 use ebml_tree::Tree;
 use std::alloc::AllocError;
 
-/// Appends the children of `other`, a record with the same ID, to the record `tree`.
+/// Appends the children of `other`, an input's Chapters or Tags, to the record `tree` of the output, which has the same
+/// ID. Used by `push_chapters` and `push_tags`.
 pub(crate) fn push_all(tree: &mut Tree, other: Tree) -> Result<(), AllocError>
     requires own { IsRecord (id_of tree.old) tree.old }
     requires other { IsRead (id_of tree.old) other }
@@ -22,7 +23,7 @@ pub(crate) fn push_all(tree: &mut Tree, other: Tree) -> Result<(), AllocError>
     Ok(())
 }
 
-/// Returns the record `tree`, or nothing if it has no children and so isn't written.
+/// Returns the record `tree`, or None if it has no children and so isn't written. Used by `merge_records`.
 pub(crate) fn with_some(tree: Tree) -> Option<Tree>
     ensures { result ≡ with_some tree }
 {

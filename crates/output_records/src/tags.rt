@@ -15,7 +15,7 @@ use record_changes::{UidMap, merge_tags};
 use std::alloc::{AllocError, Global};
 
 // Appends the kept Tags of `input` to `joined`, the Tags of the output; `map` has the output's identifiers for their
-// targets.
+// targets. Used by `joined_tags`.
 fn push_tags(
     alloc: Global,
     input: &InputRecords,
@@ -33,7 +33,8 @@ fn push_tags(
     }
 }
 
-// Returns the identifiers in `numbers` after the first `count`, which are another input's.
+// Returns the output's identifiers in `numbers` after the first `count`, which are an earlier input's. Used by
+// `joined_tags`.
 fn behind(numbers: &[u64], count: usize) -> &[u64]
     ensures { result.now ≡ drop count numbers.now }
 {
@@ -41,7 +42,7 @@ fn behind(numbers: &[u64], count: usize) -> &[u64]
 }
 
 /// Returns one Tags with the kept Tags of all inputs. `numbers` has the output's identifiers for their editions,
-/// chapters and attached files, which their targets get.
+/// chapters and attached files, which their targets get. Used by `merge_records`.
 pub(crate) fn joined_tags(
     alloc: Global,
     inputs: &[InputRecords],

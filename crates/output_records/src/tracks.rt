@@ -11,7 +11,7 @@ use mkv_io::List;
 use mkv_schema::ids::TRACKS;
 use std::alloc::{AllocError, Global};
 
-/// Returns the Tracks of an output with the TrackEntries `entries`, in their order.
+/// Returns the Tracks of an output of `merge` or `generate` with the TrackEntries `entries`, in their order.
 pub fn tracks_of(alloc: Global, entries: List<Tree>) -> Result<Tree, AllocError>
     requires { All IsWholeEntry entries }
     ensures exact { IfOk result (λ tracks. tracks ≡ output_tracks entries) }

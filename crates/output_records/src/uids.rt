@@ -21,7 +21,8 @@ pub(crate) struct Uids {
     pub(crate) attachments: List<u64>,
 }
 
-/// Appends the FileUIDs of the attached files `files` to `uids`. If memory runs out, some may have been appended.
+/// Appends the FileUIDs of the attached files `files` of an input to `uids`, before they are numbered anew. If memory
+/// runs out, some may have been appended. Used by `file_numbers` and `uids_of`.
 pub(crate) fn push_file_uids(files: &[Attachment], uids: &mut List<u64>) -> Result<(), AllocError>
     ensures { OnOk result (uids.new ≡ uids.old ++ file_uids files.now) }
 {
@@ -31,7 +32,8 @@ pub(crate) fn push_file_uids(files: &[Attachment], uids: &mut List<u64>) -> Resu
     Ok(())
 }
 
-/// Returns the identifiers of the editions, chapters and attached files of `input`, as they are in the input.
+/// Returns the identifiers of the editions, chapters and attached files of `input`, as they are in the input. Used by
+/// `joined_tags`.
 pub(crate) fn uids_of(alloc: Global, input: &InputRecords) -> Result<Uids, AllocError>
     requires { IsInput input.now }
     ensures { IfOk result (λ uids. uids ≡ uids_of input.now) }
@@ -51,7 +53,8 @@ pub(crate) fn uids_of(alloc: Global, input: &InputRecords) -> Result<Uids, Alloc
     })
 }
 
-// Returns pairs of an input's identifiers `source` and the output's identifiers for them, `numbers`.
+// Returns pairs of an input's identifiers `source` and the output's identifiers for them, `numbers`. Used by
+// `number_map`.
 fn pairs_of(alloc: Global, source: &[u64], numbers: &[u64]) -> Result<Vec<(u64, u64)>, AllocError>
     ensures { IfOk result (λ pairs. pairs.items ≡ zip source.now numbers.now) }
 {
@@ -63,7 +66,7 @@ fn pairs_of(alloc: Global, source: &[u64], numbers: &[u64]) -> Result<Vec<(u64, 
 }
 
 // Returns a map from each of an input's identifiers `source` to the output's identifier for its first use, in
-// `numbers`. The first use is inserted last, so that it replaces others.
+// `numbers`. The first use is inserted last, so that it replaces others. Used by `map_of`.
 fn number_map(
     alloc: Global,
     source: &[u64],
@@ -76,8 +79,9 @@ fn number_map(
     pairs.into_iter().collect(alloc)
 }
 
-/// Returns the map from the identifiers `uids` of `input` to the output's. The lists `editions`, `chapters` and
-/// `attachments` have the output's identifiers from this input onwards; the next inputs follow.
+/// Returns the map from the identifiers `uids` of `input` to the output's, for the targets of its Tags. The lists
+/// `editions`, `chapters` and `attachments` have the output's identifiers from this input onwards; the next inputs
+/// follow. Used by `joined_tags`.
 pub(crate) fn map_of(
     alloc: Global,
     input: &InputRecords,

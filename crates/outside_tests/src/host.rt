@@ -8,7 +8,8 @@ use mkv_io::{Failed, FileId, Files, OpenFault, Reads};
 use std::fs;
 use std::test::Fail;
 
-/// Reads five bytes of a file from offset 12 on, if it was long enough when it was opened.
+/// Reads five bytes of `file` from byte 12 on, if it was long enough when it was opened, for the test
+/// `a_file_that_another_cuts_fails`. Used by `fails_where_cut` and `fails_where_film_is_cut`.
 fn read_end<R: Reads>(src: &mut R, file: FileId) -> Result<(), Failed>
     requires { IsLive R.Reads src.old file }
     ensures { IsLive R.Reads src.new file }
@@ -19,7 +20,8 @@ fn read_end<R: Reads>(src: &mut R, file: FileId) -> Result<(), Failed>
     src.read_at(file, 12, &mut [0; 5])
 }
 
-/// Opens the file `name`, cuts it to three bytes, and returns whether reading what it had fails then.
+/// Opens the file `name` in `files`, cuts it to three bytes by `rt`, and returns true if reading what it had fails
+/// then, for the test `a_file_that_another_cuts_fails`.
 fn fails_where_cut<F: Files>(
     rt: &HostRuntime,
     files: &mut F,
@@ -32,7 +34,8 @@ fn fails_where_cut<F: Files>(
     Ok(is_cut && !reads)
 }
 
-/// Does the same with a film that is edited.
+/// Opens the film `name` on `disk` for an edit, cuts it to three bytes by `rt`, and returns true if reading what it had
+/// fails then, for the test `a_file_that_another_cuts_fails`.
 fn fails_where_film_is_cut<D: Disk>(
     rt: &HostRuntime,
     disk: &mut D,

@@ -5,7 +5,8 @@ use std::cmp::min;
 use std::io;
 use std::io::ErrorKind;
 
-/// File that takes three bytes a call, is interrupted at every second call, and has little room.
+/// File of the test `a_short_write_goes_on` that takes three bytes a call, is interrupted at every second call, and has
+/// room for `room` more bytes.
 #[derive(Drop)]
 struct Slow {
     kept: Vec<u8>,
@@ -18,6 +19,8 @@ impl WriteAt for Slow {
 
     ghost content = { λ _. None };
 
+    /// Writes at most three of `bytes` at the offset `at`, and returns their number. Every second call is interrupted,
+    /// and without room it fails.
     fn write_at(&mut self, bytes: &[u8], at: u64) -> io::Result<usize> {
         self.calls = self.calls.saturating_add(1);
         if self.calls % 2 == 0 {

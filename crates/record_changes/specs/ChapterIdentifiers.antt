@@ -5,8 +5,8 @@ use Rattle.tree_format.specs.Node.{Node, Nodes, leaf, master, none, node, nodes_
 use Rattle.tree_format.specs.Children.{uint_leaf, set_in}
 use Rattle.record_changes.specs.Atoms.{editions_of, atoms_at, atoms_inside}
 
--- a child of an edition or atom with new identifiers. An atom gets the one at the index `k` in `uids`, the atoms inside it get the next ones. Others
--- are unchanged.
+-- a child of an edition or atom with new identifiers. An atom gets the one at the index `k`, from 0, in `uids`, the atoms inside it get the next
+-- ones. Others are unchanged. The contract of `numbered` promises it.
 abbrev mutual
   pub numbered : List ℕ → ℕ → Node → Node
   numbered uids k (leaf id at body) = leaf id at body
@@ -18,17 +18,19 @@ abbrev mutual
   numbered_among uids k none = []
   numbered_among uids k (node n ns) = numbered uids k n ∷ numbered_among uids (k + length (atoms_at n)) ns
 
--- `edition` with the EditionUID `uid`; its first atom gets the identifier at the index `k` in `uids`
+-- `edition` with the EditionUID `uid`; its first atom gets the identifier at the index `k` in `uids`, from 0. The contract of the function with this
+-- name promises it.
 abbrev pub numbered_edition : ℕ → List ℕ → ℕ → Node → Node
 numbered_edition uid uids k edition = set_in (uint_leaf EDITION_UID uid) (with_children edition (numbered_among uids k (nodes_of (children edition))))
 
 -- the editions in the list with new identifiers. The first edition gets the one at the index `j` in `editions`, and its first atom the one at `k` in
--- `uids`.
+-- `uids`. `with_identifiers` begins at 0.
 abbrev pub numbered_editions : List ℕ → List ℕ → ℕ → ℕ → List Node → List Node
 numbered_editions editions uids j k [] = []
 numbered_editions editions uids j k (e ∷ es) =
     numbered_edition (slice_index editions j) uids k e ∷ numbered_editions editions uids (j + 1) (k + length (atoms_inside e)) es
 
--- `chapters` with the EditionUIDs `editions` and the ChapterUIDs `uids`, in reading order; children other than editions are left out
+-- `chapters` with the EditionUIDs `editions` and the ChapterUIDs `uids`, in reading order; children other than editions are left out. The output of a
+-- merge has them.
 abbrev pub with_identifiers : List ℕ → List ℕ → Node → Node
 with_identifiers editions uids chapters = with_children chapters (numbered_editions editions uids 0 0 (editions_of chapters))

@@ -14,45 +14,48 @@ use Rattle.record_changes.specs.Before.{is_before}
 -- ---- times
 
 -- A chapter from `start` to `end` nanoseconds is in the period `s`: it starts in it, or starts before it and ends after its start. A chapter without
--- an end never ends.
+-- an end never ends. `cut_at` keeps only such atoms.
 abbrev pub takes : Stretch → ℕ → Option ℕ → Bool
 takes s start end = if nat_lt start s.from then is_before end s.from else is_before s.to start
 
--- the time `time`, at most `limit` if there is one
+-- the time `time`, at most `limit` if there is one, both in nanoseconds. `within` uses it.
 abbrev pub up_to : Option ℕ → ℕ → ℕ
 up_to None time = time
 up_to (Some limit) time = min time limit
 
--- the time `time`, in nanoseconds, limited to the period `s` and relative to its start
+-- the time `time`, in nanoseconds, limited to the period `s` and relative to its start, as a part of a split has it. `times_within` uses it.
 abbrev pub within : Stretch → ℕ → ℕ
 within s time = up_to s.to (max time s.from) - s.from
 
 -- ---- one atom
 
--- the start of `atom` in nanoseconds, or 0 if it has none
+-- the start of `atom`, a ChapterAtom, in nanoseconds, or 0 if it has none. Parts and split points use it.
 abbrev pub start_of : Node → ℕ
 start_of atom = value_in CHAPTER_TIME_START atom
 
--- the start of the first atom in `ns`, in nanoseconds, if there is one
+-- the start of the first atom in `ns`, the siblings after an atom, in nanoseconds, or None. An atom without an end ends there. Used by `end_of` and
+-- `cut_child`.
 abbrev pub next_start : List Node → Option ℕ
 next_start ns = option_map start_of (find (λ n. id_of n == CHAPTER_ATOM) ns)
 
--- the end of `atom` in nanoseconds: its ChapterTimeEnd, or `next`, the start of the next atom, if there is one
+-- the end of `atom` in nanoseconds: its ChapterTimeEnd, or `next`, the start of the next atom, or None. `cut_at` uses it.
 abbrev pub end_of : Node → Option ℕ → Option ℕ
 end_of atom next = option_or (integer_in CHAPTER_TIME_END atom) next
 
--- a ChapterTimeEnd of `end` nanoseconds, limited to the period `s`; none without `end`
+-- a ChapterTimeEnd of `end` nanoseconds, limited to the period `s`, as a list; empty without `end`. The contract of `set_end` promises it.
 abbrev pub end_within : Stretch → Option ℕ → List Node
 end_within s end = given (λ time. uint_leaf CHAPTER_TIME_END (within s time)) end
 
--- the start of `atom`, and its end if present, as new children limited to the period `s`
+-- the start of `atom`, and its end if present, as new children limited to the period `s`, which replace the old ones in a part. `cut_at` sets them.
+-- Used by `mutual`.
 abbrev pub times_within : Stretch → Node → List Node
 times_within s atom = uint_leaf CHAPTER_TIME_START (within s (start_of atom)) ∷ end_within s (integer_in CHAPTER_TIME_END atom)
 
 -- ---- all atoms
 
--- a child of an edition or atom, cut to the period `s`, as a list; `next` is the start of the next atom beside it. An atom outside the period is left
--- out. An atom in it keeps the atoms inside that are in the period, and other children are unchanged.
+-- a child of an edition or atom, cut to the period `s`, as a list; `next` is the start of the next atom beside it, in nanoseconds. An atom outside
+-- the period is left out. An atom in it keeps the atoms inside that are in the period, and other children are unchanged. The contract of `cut_child`
+-- promises it.
 abbrev mutual
   pub cut_at : Stretch → Node → Option ℕ → List Node
   cut_at s (leaf id at body) next = leaf id at body ∷ []
@@ -68,23 +71,24 @@ abbrev mutual
   cut_among s none = []
   cut_among s (node n ns) = cut_at s n (next_start (list_of ns)) ++ cut_among s ns
 
--- `n`, an edition or atom, with its children cut to the period `s`
+-- `n`, an edition or atom, with its children cut to the period `s`. The contract of the function with this name promises it. Used by
+-- `edition_within`.
 abbrev pub cut_inside : Stretch → Node → Node
 cut_inside s n = with_children n (cut_among s (nodes_of (children n)))
 
--- The edition `edition` has an atom directly in it.
+-- The edition `edition` has an atom directly in it. An edition of a part without one is left out.
 abbrev pub has_atom : Node → Bool
 has_atom edition = list_any (λ n. id_of n == CHAPTER_ATOM) (children edition)
 
--- `n`, a child of Chapters, cut to the period `s`, if it is an edition with an atom in the period
+-- `n`, a child of Chapters, cut to the period `s`, as a list; empty unless it is an edition with an atom in the period. `cut` joins them.
 abbrev pub edition_within : Stretch → Node → List Node
 edition_within s n = if id_of n == EDITION_ENTRY && has_atom (cut_inside s n) then cut_inside s n ∷ [] else []
 
--- the master `tree` with the children in the list, or none if the list is empty
+-- the master `tree` with the children in the list, or None if the list is empty. `cut` ends with it.
 abbrev pub unless_empty : Node → List Node → Option Node
 unless_empty tree [] = None
 unless_empty tree (n ∷ ns) = Some (with_children tree (n ∷ ns))
 
--- the Chapters `chapters` cut to the period `s`: its editions with an atom in it. There is none without such editions.
+-- the Chapters `chapters` cut to the period `s`: its editions with an atom in it. It is None without such editions. The parts of a split have it.
 abbrev pub cut : Stretch → Node → Option Node
 cut s chapters = unless_empty chapters (flat_map (edition_within s) (children chapters))

@@ -4,7 +4,8 @@ use Rattle.indexmap.specs.IndexMap.{get}
 use Rattle.mkv_schema.specs.declared.ids.TheConstants.{TAG_TRACK_UID, TAG_EDITION_UID, TAG_CHAPTER_UID, TAG_ATTACHMENT_UID}
 use Rattle.record_changes.specs.declared.uid_map.UidMap.{UidMap}
 
--- the output's number in `map` for the identifier `uid` in a target with the ID `id`, if the output has the item
+-- the output's number in `map` for the identifier `uid` in a target with the ID `id`, or None if the output lacks the item or the ID is another one.
+-- Contracts of the functions that write Tags use it.
 abbrev pub numbers_in : UidMap → ℕ → ℕ → Option ℕ
 numbers_in map id uid =
     if id == TAG_TRACK_UID then get nat_eq map.tracks uid else

@@ -20,7 +20,8 @@ use mkv_schema::ids::{
 };
 use std::alloc::{AllocError, Global};
 
-// Returns the ChapterTimeStart of `atom`, a ChapterAtom, in nanoseconds, or 0 if it is absent.
+// Returns the ChapterTimeStart of `atom`, a ChapterAtom, in nanoseconds, or 0 if it is absent. Used to cut chapters and
+// to find the chapters that a merge is split at.
 pub(crate) fn start_of(atom: &Tree) -> u64
     requires { IsRead ids.CHAPTER_ATOM atom.now }
     ensures { result ≡ start_of atom.now }
@@ -28,7 +29,8 @@ pub(crate) fn start_of(atom: &Tree) -> u64
     value_in(atom, CHAPTER_TIME_START)
 }
 
-// Returns the ChapterTimeEnd of `atom`, a ChapterAtom, in nanoseconds, if it is present.
+// Returns the ChapterTimeEnd of `atom`, a ChapterAtom, in nanoseconds, or None if it is absent. `cut_child` and
+// `end_of` call it.
 fn own_end(atom: &Tree) -> Option<u64>
     requires { IsRead ids.CHAPTER_ATOM atom.now }
     ensures { result ≡ integer_in ids.CHAPTER_TIME_END atom.now }
@@ -37,14 +39,15 @@ fn own_end(atom: &Tree) -> Option<u64>
     Some(end.uint())
 }
 
-// Returns the first ChapterAtom among `trees`.
+// Returns the first ChapterAtom among `trees`, the siblings after an atom, or None if there is none, for `next_start`.
 fn first_atom(trees: &[Tree]) -> Option<&Tree>
     ensures { option_copied result ≡ find (λ n. id_of n == ids.CHAPTER_ATOM) trees.now }
 {
     trees.iter().find(|tree| tree.id() == CHAPTER_ATOM)
 }
 
-// Returns the start in nanoseconds of the first atom in `behind`, the siblings after an atom.
+// Returns the start in nanoseconds of the first atom in `behind`, the siblings after an atom, or None if there is none.
+// An atom without an end ends there. Used by `end_of`.
 fn next_start(behind: &[Tree]) -> Option<u64>
     requires { All (IsReadIf ids.CHAPTER_ATOM) behind.now }
     ensures { result ≡ next_start behind.now }
@@ -53,8 +56,8 @@ fn next_start(behind: &[Tree]) -> Option<u64>
     Some(start_of(atom))
 }
 
-// Returns the end of `atom` in nanoseconds: its ChapterTimeEnd, or the start of the next atom in `behind`, the siblings
-// after it. Returns None if it has neither.
+// Returns the end of `atom` in nanoseconds, for `cut_child`: its ChapterTimeEnd, or the start of the next atom in
+// `behind`, the siblings after it. Returns None if it has neither.
 fn end_of(atom: &Tree, behind: &[Tree]) -> Option<u64>
     requires atom { IsRead ids.CHAPTER_ATOM atom.now }
     requires behind { All (IsReadIf ids.CHAPTER_ATOM) behind.now }
@@ -66,7 +69,8 @@ fn end_of(atom: &Tree, behind: &[Tree]) -> Option<u64>
     }
 }
 
-// Sets the child `id` of `atom`, its start or end, to `time` nanoseconds.
+// Sets the child `id` of `atom`, its start or end, to `time` nanoseconds, after the atom was cut. `cut_child` and
+// `set_end` call it.
 fn set_time(alloc: Global, atom: &mut Tree, id: u32, time: u64) -> Result<(), AllocError>
     requires id { IsUintIn ids.CHAPTER_ATOM id }
     requires read { IsRead ids.CHAPTER_ATOM atom.old }
@@ -76,6 +80,7 @@ fn set_time(alloc: Global, atom: &mut Tree, id: u32, time: u64) -> Result<(), Al
 }
 
 // Sets the ChapterTimeEnd of `atom` to `end` nanoseconds, limited to the period `stretch`, if `end` is present.
+// `cut_child` ends with it.
 fn set_end(
     alloc: Global,
     atom: &mut Tree,
@@ -93,7 +98,7 @@ fn set_end(
 }
 
 // Returns `child`, a child of an edition or atom, cut to the period `stretch`, or None if it is outside. `behind` has
-// the siblings after it. A child that isn't an atom is copied.
+// the siblings after it. A child that isn't an atom is copied. `cut_inside` does this for each child.
 #[cycle(cutting)]
 fn cut_child(
     alloc: Global,
@@ -120,9 +125,9 @@ fn cut_child(
     Ok(Some(atom))
 }
 
-// Returns `parent`, an edition or atom, with its children cut to the period `stretch`, which is in nanoseconds: atoms
-// outside are left out, the times of the others are limited to it and relative to its start, and other children are
-// copied.
+// Returns `parent`, an edition or atom, with its children cut to the period `stretch`, which is in nanoseconds. Atoms
+// outside are left out, and the times of the others are limited to it and relative to its start. Other children are
+// copied. `cut_edition` begins with it.
 #[cycle(cutting)]
 fn cut_inside(alloc: Global, parent: &Tree, stretch: Stretch) -> Result<Tree, AllocError>
     requires holds { HoldsAtoms parent.now }
@@ -142,7 +147,8 @@ fn cut_inside(alloc: Global, parent: &Tree, stretch: Stretch) -> Result<Tree, Al
     Ok(written)
 }
 
-// Checks whether `edition` has a ChapterAtom, and isn't left out of a part.
+// Checks whether `edition`, cut to a period, has a ChapterAtom; without one it is left out of the part. `cut_edition`
+// calls it.
 fn has_atom(edition: &Tree) -> bool
     ensures { result ≡ has_atom edition.now }
 {
@@ -170,12 +176,13 @@ fn cut_edition(alloc: Global, child: &Tree, stretch: Stretch) -> Result<Option<T
     Ok(Some(edition))
 }
 
-/// Returns the chapters of one part of a split: those in the period from `from` to `to` nanoseconds, with times
-/// relative to `from`. Without `to` the period has no end. A chapter is kept if it starts in the period, or starts
-/// before it and ends after `from`. Its times are limited to the period.
+/// Returns the chapters of one part of a split, from the Chapters `chapters` of the whole merge. They are the ones in
+/// the period from `from` to `to` nanoseconds, with times relative to `from`. Without `to` the period has no end. A
+/// chapter is kept if it starts in the period, or starts before it and ends after `from`. Its times are limited to the
+/// period.
 ///
 /// A chapter without an end ends at the start of the next one beside it, or never. Editions without such chapters are
-/// left out; without editions the result is None.
+/// left out; without editions the result is None. A merge with `--split` calls it for each part.
 pub fn cut(
     alloc: Global,
     chapters: &Tree,

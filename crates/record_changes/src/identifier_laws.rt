@@ -3,17 +3,19 @@
 
 ghost use Rattle.record_changes.specs.Laws.{SmallestIsFree, NumbersSettle, NumbersFit};
 
-/// States that the smallest positive number that isn't in a list is at most one more than its length.
+/// States that the smallest positive number that isn't in a list is at most one more than its length. No code calls it.
 pub fn smallest_is_free()
     ensures { SmallestIsFree }
 {}
 
-/// States that output identifiers are positive and distinct, and that identifiers that already are stay unchanged.
+/// States that output identifiers are positive and distinct, and that identifiers that already are stay unchanged. No
+/// code calls it.
 pub fn numbers_settle()
     ensures { NumbersSettle }
 {}
 
-/// States that output identifiers are below a bound if the inputs' identifiers are, and if there are few enough.
+/// States that output identifiers are below a bound if the inputs' identifiers are, and if there are few enough. No
+/// code calls it.
 pub fn numbers_fit()
     ensures { NumbersFit }
 {}

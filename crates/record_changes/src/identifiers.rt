@@ -10,15 +10,16 @@ use indexmap::IndexSet;
 use mkv_io::List;
 use std::alloc::{AllocError, Global};
 
-// Checks whether `number` can't be given to an item, since it is an identifier in the inputs (`source`) or was given to
-// another item (`given`).
+// Checks whether `number` can't be given to an item of the output, for `free_from`. It is an identifier in the inputs
+// (`source`) or was given to another item (`given`).
 fn is_taken(source: &IndexSet<u64>, given: &IndexSet<u64>, number: u64) -> bool
     ensures { result ≡ is_taken source.now given.now number }
 {
     source.contains(&number) || given.contains(&number)
 }
 
-// Returns the smallest positive number that isn't taken. All positive numbers below `least` must be taken.
+// Returns the smallest positive number that isn't taken by `source` or `given`, for `number_for`. All positive numbers
+// below `least` must be taken.
 fn free_from(source: &IndexSet<u64>, given: &IndexSet<u64>, least: u64) -> u64
     requires next { IsNext (is_taken source.now given.now) least }
     requires room { HasRoom source.now given.now }
@@ -32,8 +33,9 @@ fn free_from(source: &IndexSet<u64>, given: &IndexSet<u64>, least: u64) -> u64
     number
 }
 
-// Returns the output's number for the identifier `uid` of an input. A positive one that isn't given yet stays, and
-// others get the smallest number that isn't taken. All positive numbers below `least` must be taken; it is advanced.
+// Returns the output's number for the identifier `uid` of an input, for `numbers_of`. A positive one that isn't given
+// yet stays, and others get the smallest number that isn't taken. All positive numbers below `least` must be taken; it
+// is advanced.
 fn number_for(source: &IndexSet<u64>, given: &IndexSet<u64>, uid: u64, least: &mut u64) -> u64
     requires next { IsNext (is_taken source.now given.now) least.old }
     requires room { HasRoom source.now given.now }
@@ -47,8 +49,8 @@ fn number_for(source: &IndexSet<u64>, given: &IndexSet<u64>, uid: u64, least: &m
     *least
 }
 
-// Returns the output's numbers for `uids`, the identifiers in the inputs, in their order. `source` has the same
-// identifiers as a set.
+// Returns the output's numbers for `uids`, the identifiers in the inputs, in their order, for `renumber`. `source` has
+// the same identifiers as a set.
 fn numbers_of(
     alloc: Global,
     source: &IndexSet<u64>,
@@ -67,10 +69,10 @@ fn numbers_of(
 }
 
 /// Returns the output's numbers for `uids`, the identifiers of one kind in all inputs, in the order of writing; 0 means
-/// an absent identifier.
+/// an absent identifier. A merge does this for TrackUIDs, EditionUIDs, ChapterUIDs and FileUIDs.
 ///
 /// The first use of a positive identifier keeps it. Any other gets the smallest positive number that isn't in `uids`
-/// and wasn't used before.
+/// and wasn't used before. Used by `uids_of` of `merge_plan` and others.
 pub fn renumber(alloc: Global, uids: &[u64]) -> Result<List<u64>, AllocError>
     ensures { IfOk result (λ numbers. numbers ≡ renumbered uids.now) }
 {

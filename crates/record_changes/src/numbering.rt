@@ -12,8 +12,8 @@ use ebml_tree::{Tree, empty, uint_leaf};
 use mkv_schema::ids::{CHAPTER_ATOM, CHAPTER_UID, CHAPTERS, EDITION_ENTRY, EDITION_UID};
 use std::alloc::{AllocError, Global};
 
-// Returns `child`, a child of an edition or atom, with new identifiers. If it is an atom, it gets the one at the index
-// `next` in `uids`, and the atoms inside it get the following ones. `next` is advanced.
+// Returns `child`, a child of an edition or atom, with new identifiers, for `numbered_edition`. If it is an atom, it
+// gets the one at the index `next` in `uids`, and the atoms inside it get the following ones. `next` is advanced.
 fn numbered(alloc: Global, child: &Tree, uids: &[u64], next: &mut usize) -> Result<Tree, AllocError>
     requires atom { IsReadIf ids.CHAPTER_ATOM child.now }
     requires enough { next.old + length (atoms_at child.now) ≤ length uids.now }
@@ -34,8 +34,8 @@ fn numbered(alloc: Global, child: &Tree, uids: &[u64], next: &mut usize) -> Resu
     Ok(atom)
 }
 
-// Returns `edition` with the EditionUID `uid`. Its atoms get the identifiers in `uids` from the index `next` on, which
-// is advanced.
+// Returns `edition` with the EditionUID `uid`, for `with_identifiers`. Its atoms get the identifiers in `uids` from the
+// index `next` on, which is advanced.
 fn numbered_edition(
     alloc: Global,
     edition: &Tree,
@@ -57,8 +57,8 @@ fn numbered_edition(
     Ok(written)
 }
 
-/// Returns `tree`, a Chapters, with the EditionUIDs `editions` and the ChapterUIDs `chapters`, given in reading order.
-/// Children other than editions are left out.
+/// Returns `tree`, the joined Chapters of a merge, with the EditionUIDs `editions` and the ChapterUIDs `chapters`,
+/// given in reading order. Children other than editions are left out. Used by `merge_records` of `output_records`.
 pub fn with_identifiers(
     alloc: Global,
     tree: &Tree,

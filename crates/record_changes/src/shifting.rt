@@ -14,14 +14,14 @@ use mkv_schema::ids::{
 };
 use std::alloc::{AllocError, Global};
 
-// Checks whether `id` is the ID of the start or the end of an atom.
+// Checks whether `id` is the ID of the start or the end of an atom. `shifted_part` makes such a time later.
 fn is_time(id: u32) -> bool
     ensures { result ≡ is_time id }
 {
     id == CHAPTER_TIME_START || id == CHAPTER_TIME_END
 }
 
-// Checks whether `atom` has a ChapterTimeStart.
+// Checks whether `atom` has a ChapterTimeStart. `shifted_atom` adds one if not.
 fn has_start(atom: &Tree) -> bool
     ensures { result ≡ has_start (children atom.now) }
 {
@@ -30,7 +30,7 @@ fn has_start(atom: &Tree) -> bool
         .any(|child| child.id() == CHAPTER_TIME_START)
 }
 
-// Returns `atom` with all its times later by `by` nanoseconds; without a start it gets one.
+// Returns `atom` with all its times later by `by` nanoseconds, for `shift`; without a start it gets one.
 #[cycle(shifting)]
 fn shifted_atom(alloc: Global, atom: &Tree, by: u64) -> Result<Tree, AllocError>
     requires { IsRead ids.CHAPTER_ATOM atom.now }
@@ -49,6 +49,7 @@ fn shifted_atom(alloc: Global, atom: &Tree, by: u64) -> Result<Tree, AllocError>
 }
 
 // Returns `part`, a child of an atom: later by `by` nanoseconds if it is a time or an atom, and otherwise unchanged.
+// `shifted_atom` does this for each child.
 #[cycle(shifting)]
 fn shifted_part(alloc: Global, part: &Tree, by: u64) -> Result<Tree, AllocError>
     requires { StandsIn ids.CHAPTER_ATOM part.now }
@@ -66,6 +67,7 @@ fn shifted_part(alloc: Global, part: &Tree, by: u64) -> Result<Tree, AllocError>
 }
 
 // Returns `child`, a child of an edition: later by `by` nanoseconds if it is an atom, and otherwise unchanged.
+// `shifted_edition` does this for each child.
 fn shifted_in_edition(alloc: Global, child: &Tree, by: u64) -> Result<Tree, AllocError>
     requires { IsReadIf ids.CHAPTER_ATOM child.now }
     ensures exact { IfOk result (λ tree. tree ≡ shifted_in_edition by child.now) }
@@ -78,7 +80,8 @@ fn shifted_in_edition(alloc: Global, child: &Tree, by: u64) -> Result<Tree, Allo
     }
 }
 
-// Returns `child`, a child of Chapters: later by `by` nanoseconds if it is an edition, and otherwise unchanged.
+// Returns `child`, a child of Chapters: later by `by` nanoseconds if it is an edition, and otherwise unchanged. `shift`
+// does this for each child.
 fn shifted_edition(alloc: Global, child: &Tree, by: u64) -> Result<Tree, AllocError>
     requires { IsReadIf ids.EDITION_ENTRY child.now }
     ensures exact { IfOk result (λ tree. tree ≡ shifted_edition by child.now) }
@@ -95,7 +98,8 @@ fn shifted_edition(alloc: Global, child: &Tree, by: u64) -> Result<Tree, AllocEr
 }
 
 /// Adds `by` nanoseconds, the append offset of an input, to each start and end of `chapters`, up to the greatest 64-bit
-/// time. A chapter without a start gets `by` as its start. If it fails, the chapters are unchanged.
+/// time. A merge does this before it joins the chapters of its inputs. A chapter without a start gets `by` as its
+/// start. If it fails, the chapters are unchanged.
 pub fn shift(alloc: Global, chapters: &mut Tree, by: u64) -> Result<(), AllocError>
     requires { IsRead ids.CHAPTERS chapters.old }
     ensures ok { OnOk result (chapters.new ≡ shifted by chapters.old) }

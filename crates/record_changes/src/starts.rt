@@ -12,7 +12,8 @@ use mkv_io::List;
 use mkv_schema::ids::{CHAPTER_ATOM, EDITION_ENTRY};
 use std::alloc::{AllocError, Global};
 
-// Appends the start of `child`, a child of an edition, in nanoseconds, if it is an atom.
+// Appends the start of `child`, a child of an edition, in nanoseconds, to `starts`, if it is an atom, for
+// `push_starts`.
 fn push_start(child: &Tree, starts: &mut List<u64>) -> Result<(), AllocError>
     requires { IsReadIf ids.CHAPTER_ATOM child.now }
     ensures { OnOk result (starts.new ≡ starts.old ++ own_starts child.now) }
@@ -23,7 +24,7 @@ fn push_start(child: &Tree, starts: &mut List<u64>) -> Result<(), AllocError>
     starts.push(start_of(child))
 }
 
-// Appends the starts of the top atoms of `edition`, in nanoseconds.
+// Appends the starts of the top atoms of `edition`, in nanoseconds, to `starts`, for `top_starts`.
 fn push_starts(edition: &Tree, starts: &mut List<u64>) -> Result<(), AllocError>
     requires { IsRead ids.EDITION_ENTRY edition.now }
     ensures { OnOk result (starts.new ≡ starts.old ++ starts_inside edition.now) }
@@ -34,8 +35,8 @@ fn push_starts(edition: &Tree, starts: &mut List<u64>) -> Result<(), AllocError>
     Ok(())
 }
 
-/// Returns the starts, in nanoseconds, of the top chapters in the first edition of `chapters`, in their order. A
-/// chapter without a start starts at 0.
+/// Returns the starts, in nanoseconds, of the top chapters in the first edition of `chapters`, in their order, at which
+/// a merge may be split. A chapter without a start starts at 0. Used by `starts_in` of `merge_plan`.
 pub fn top_starts(alloc: Global, chapters: &Tree) -> Result<List<u64>, AllocError>
     requires { IsRead ids.CHAPTERS chapters.now }
     ensures { IfOk result (λ starts. starts ≡ top_starts chapters.now) }

@@ -27,7 +27,7 @@ const DATE: &[u8] = b"_STATISTICS_WRITING_DATE_UTC";
 /// Name that MakeMKV lists, although it isn't a statistic.
 const SOURCE: &[u8] = b"SOURCE_ID";
 
-/// Checks whether `bytes` are a hyphen and a language of three lower-case letters, as in `BPS-eng`.
+/// Checks whether `bytes` are a hyphen and a language of three lower-case letters, as in `BPS-eng`, for `stem`.
 fn is_language_suffix(bytes: &[u8]) -> bool
     ensures { result ≡ spec.is_language_suffix bytes.now }
 {
@@ -39,7 +39,8 @@ fn is_language_suffix(bytes: &[u8]) -> bool
     }
 }
 
-/// Returns the TagName `name` without a hyphen and a language at its end: `BPS` for `BPS-eng`.
+/// Returns the TagName `name` without a hyphen and a language at its end: `BPS` for `BPS-eng`. Names of statistics are
+/// compared so.
 fn stem(name: &[u8]) -> &[u8]
     ensures { result.now ≡ spec.stem name.now }
 {
@@ -51,7 +52,8 @@ fn stem(name: &[u8]) -> &[u8]
     }
 }
 
-/// Returns the text of the first child of `tree` with the ID `id`, up to its first zero byte, if there is one.
+/// Returns the text of the first child of the SimpleTag `tree` with the ID `id`, up to its first zero byte, or None. It
+/// is a TagName or a TagString.
 fn value_in(tree: &Tree, id: u32) -> Option<&[u8]>
     ensures { option_copied result ≡ spec.value_in id tree.now }
 {
@@ -61,7 +63,8 @@ fn value_in(tree: &Tree, id: u32) -> Option<&[u8]>
     }
 }
 
-/// Checks whether the SimpleTag `simple` lists the names of statistics in its TagString.
+/// Checks whether the SimpleTag `simple` lists the names of statistics in its TagString. `add_names` reads the list
+/// then.
 fn lists_names(simple: &Tree) -> bool
     ensures { result ≡ spec.lists_names simple.now }
 {
@@ -71,15 +74,15 @@ fn lists_names(simple: &Tree) -> bool
     }
 }
 
-/// Checks whether `part`, the text between two spaces of such a list, is the name of a statistic: it isn't empty, nor
-/// SOURCE_ID.
+/// Checks whether `part`, the text between two spaces of a list of names, is the name of a statistic: it isn't empty,
+/// nor SOURCE_ID. `add_list` asks for each.
 fn is_listed(part: &[u8]) -> bool
     ensures { result ≡ spec.is_listed part.now }
 {
     !part.is_empty() && stem(part) != SOURCE
 }
 
-/// Adds `name` to `names`, the names of the statistics in a Tag.
+/// Adds `name` to `names`, the names of the statistics in a Tag, for `statistics_names`.
 fn add_name<'a>(names: &mut IndexSet<&'a [u8]>, name: &'a [u8]) -> Result<(), AllocError>
     ensures { OnOk result (AddsNames names.old.keys names.new.keys (name.now ∷ [])) }
 {
@@ -87,7 +90,7 @@ fn add_name<'a>(names: &mut IndexSet<&'a [u8]>, name: &'a [u8]) -> Result<(), Al
     Ok(())
 }
 
-/// Adds to `names` the names of statistics that `list` has between spaces.
+/// Adds to `names` the names of statistics that `list`, a TagString, has between spaces, for `add_names`.
 fn add_list<'a>(names: &mut IndexSet<&'a [u8]>, list: &'a [u8]) -> Result<(), AllocError>
     ensures { OnOk result (AddsNames names.old.keys names.new.keys (spec.names_in list.now)) }
 {
@@ -100,6 +103,7 @@ fn add_list<'a>(names: &mut IndexSet<&'a [u8]>, list: &'a [u8]) -> Result<(), Al
 }
 
 /// Adds to `names` the names of statistics that `child`, a child of a Tag, lists; another child lists none.
+/// `statistics_names` does this for each child.
 fn add_names<'a>(names: &mut IndexSet<&'a [u8]>, child: &'a Tree) -> Result<(), AllocError>
     ensures { OnOk result (AddsNames names.old.keys names.new.keys (spec.names_listed child.now)) }
 {
@@ -112,7 +116,8 @@ fn add_names<'a>(names: &mut IndexSet<&'a [u8]>, child: &'a Tree) -> Result<(), 
     }
 }
 
-/// Returns the names of the statistics in `tag`: three that are always statistics, and the ones that it lists.
+/// Returns the names of the statistics in `tag`, for `bare_tag`: three that are always statistics, and the ones that it
+/// lists.
 fn statistics_names<'a>(alloc: Global, tag: &'a Tree) -> Result<IndexSet<&'a [u8]>, AllocError>
     ensures { IfOk result (λ names. HasSame (bytes_of names.keys) (spec.statistics_names tag.now)) }
 {
@@ -126,21 +131,22 @@ fn statistics_names<'a>(alloc: Global, tag: &'a Tree) -> Result<IndexSet<&'a [u8
     Ok(names)
 }
 
-/// Checks whether `name` is one of `names`.
+/// Checks whether `name` is one of `names`, the names of statistics, for `is_named`.
 fn is_one_of(names: &IndexSet<&[u8]>, name: &[u8]) -> bool
     ensures { result ≡ spec.is_one_of (bytes_of names.now.keys) name.now }
 {
     names.contains(&name)
 }
 
-/// Checks whether `name`, with or without its language, is one of `names`.
+/// Checks whether `name`, a TagName with or without its language, is one of `names`, for `is_statistic`.
 fn is_named(names: &IndexSet<&[u8]>, name: &[u8]) -> bool
     ensures { result ≡ spec.is_named (bytes_of names.now.keys) name.now }
 {
     is_one_of(names, name) || is_one_of(names, stem(name))
 }
 
-/// Checks whether `child`, a child of a Tag, is a statistic: a SimpleTag with one of `names`.
+/// Checks whether `child`, a child of a Tag, is a statistic: a SimpleTag with one of `names`. A statistic isn't copied.
+/// Used by `is_other`, `has_statistic` and others.
 fn is_statistic(names: &IndexSet<&[u8]>, child: &Tree) -> bool
     ensures { result ≡ spec.is_statistic (bytes_of names.now.keys) child.now }
 {
@@ -154,14 +160,14 @@ fn is_statistic(names: &IndexSet<&[u8]>, child: &Tree) -> bool
 }
 
 /// Checks whether `child`, a child of a Tag, is a SimpleTag that isn't a statistic. `names` has the names of
-/// statistics.
+/// statistics. `has_other` calls it.
 fn is_other(names: &IndexSet<&[u8]>, child: &Tree) -> bool
     ensures { result ≡ spec.is_other (bytes_of names.now.keys) child.now }
 {
     child.id() == SIMPLE_TAG && !is_statistic(names, child)
 }
 
-/// Checks whether `tag` has a statistic, by the names `names`.
+/// Checks whether `tag` has a statistic, by the names `names`, for `has_nothing_else`.
 fn has_statistic(names: &IndexSet<&[u8]>, tag: &Tree) -> bool
     ensures { result ≡ list_any (spec.is_statistic (bytes_of names.now.keys)) (children tag.now) }
 {
@@ -170,21 +176,21 @@ fn has_statistic(names: &IndexSet<&[u8]>, tag: &Tree) -> bool
         .any(|child| is_statistic(names, child))
 }
 
-/// Checks whether `tag` has a SimpleTag that isn't a statistic, by the names `names`.
+/// Checks whether `tag` has a SimpleTag that isn't a statistic, by the names `names`, for `has_nothing_else`.
 fn has_other(names: &IndexSet<&[u8]>, tag: &Tree) -> bool
     ensures { result ≡ list_any (spec.is_other (bytes_of names.now.keys)) (children tag.now) }
 {
     tag.children().iter().any(|child| is_other(names, child))
 }
 
-/// Checks whether `tag` has a statistic and no other SimpleTag, by the names `names`, and so is left out.
+/// Checks whether `tag` has a statistic and no other SimpleTag, by the names `names`. `bare_tag` leaves it out then.
 fn has_nothing_else(names: &IndexSet<&[u8]>, tag: &Tree) -> bool
     ensures { result ≡ spec.has_nothing_else (bytes_of names.now.keys) tag.now }
 {
     has_statistic(names, tag) && !has_other(names, tag)
 }
 
-/// Returns a copy of `child`, a child of a Tag, or None if it is a statistic, by its name in `names`.
+/// Returns a copy of `child`, a child of a Tag, for `bare`, or None if it is a statistic, by its name in `names`.
 fn bare_part(
     alloc: Global,
     names: &IndexSet<&[u8]>,
@@ -200,7 +206,7 @@ fn bare_part(
     Ok(Some(child.copy(alloc)?))
 }
 
-/// Returns a copy of `tag` without the SimpleTags that are statistics, by the names `names`.
+/// Returns a copy of `tag` without the SimpleTags that are statistics, by the names `names`, for `bare_tag`.
 fn bare(alloc: Global, names: &IndexSet<&[u8]>, tag: &Tree) -> Result<Tree, AllocError>
     requires { IsRead TAG_ID tag.now }
     ensures exact { IfOk result (λ bare. bare ≡ spec.bare (bytes_of names.now.keys) tag.now) }
@@ -216,7 +222,7 @@ fn bare(alloc: Global, names: &IndexSet<&[u8]>, tag: &Tree) -> Result<Tree, Allo
     Ok(bare)
 }
 
-/// Returns a copy of `tag` without its statistics, or None if it has nothing else.
+/// Returns a copy of `tag` without its statistics, or None if it has nothing else, for `bare_child`.
 fn bare_tag(alloc: Global, tag: &Tree) -> Result<Option<Tree>, AllocError>
     requires { IsRead TAG_ID tag.now }
     ensures exact { IfOk result (λ o. option_to_list o ≡ spec.bare_tag (spec.statistics_names tag.now) tag.now) }
@@ -230,6 +236,7 @@ fn bare_tag(alloc: Global, tag: &Tree) -> Result<Option<Tree>, AllocError>
 }
 
 /// Returns a copy of `child`, a child of Tags, without its statistics, or None if it is a Tag that has nothing else.
+/// `without_statistics` does this for each child.
 fn bare_child(alloc: Global, child: &Tree) -> Result<Option<Tree>, AllocError>
     requires { StandsIn TAGS_ID child.now }
     ensures exact { IfOk result (λ o. option_to_list o ≡ spec.without_its_statistics child.now) }
@@ -242,8 +249,9 @@ fn bare_child(alloc: Global, child: &Tree) -> Result<Option<Tree>, AllocError>
     }
 }
 
-/// Returns the Tags `tags` of an input without the statistics: the SimpleTags that their Tag lists as statistics. A Tag
-/// that has nothing else is left out. A merge drops them, since they are wrong for its output.
+/// Returns the Tags `tags` of an input without the statistics: the SimpleTags that their Tag lists as statistics, and
+/// the ones with three fixed names. A Tag that has nothing else is left out. A merge with `--no-statistics-tags` for
+/// this input calls it.
 pub fn without_statistics(alloc: Global, tags: &Tree) -> Result<Tree, AllocError>
     requires { IsRead TAGS_ID tags.now }
     ensures exact { IfOk result (λ tree. tree ≡ spec.without_statistics tags.now) }

@@ -14,7 +14,7 @@ impl Stretch {
     ghost use Rattle.record_changes.specs.Cut.{takes, within};
 
     /// Checks whether a chapter from `start` to `end` nanoseconds is in the period. It starts in it, or starts before
-    /// it and ends after its start.
+    /// it and ends after its start. Without `end` it never ends. `cut_child` leaves out any other.
     pub(crate) fn takes(self, start: u64, end: Option<u64>) -> bool
         ensures { result ≡ takes self start end }
     {
@@ -25,7 +25,8 @@ impl Stretch {
         }
     }
 
-    /// Returns `time`, in nanoseconds, limited to the period and relative to its start.
+    /// Returns `time`, in nanoseconds, limited to the period and relative to its start, as a part of a split has it.
+    /// `cut_child` calls it.
     pub(crate) fn within(self, time: u64) -> u64
         requires { IfSome self.to (λ to. self.from ≤ to) }
         ensures { result ≡ within self time }
@@ -38,7 +39,7 @@ impl Stretch {
     }
 }
 
-// Checks whether `time` is before `limit`; it is if there is no limit.
+// Checks whether `time` is before `limit`, both in nanoseconds; it is if there is no limit. `takes` calls it.
 fn is_before(time: u64, limit: Option<u64>) -> bool
     ensures { result ≡ is_before limit time }
 {

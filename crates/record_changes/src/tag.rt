@@ -14,8 +14,8 @@ use ebml_tree::{Tree, empty};
 use mkv_schema::ids::{TAG, TARGETS};
 use std::alloc::{AllocError, Global};
 
-// Returns `targets`, the Targets of a Tag, with the output's identifiers in `map`. Items that the output lacks are left
-// out.
+// Returns `targets`, the Targets of a Tag, with the output's identifiers in `map`, for `written_part`. Items that the
+// output lacks are left out.
 fn written_targets(alloc: Global, targets: &Tree, map: &UidMap) -> Result<Tree, AllocError>
     requires { IsRead TARGETS_ID targets.now }
     ensures exact { IfOk result (λ tree. tree ≡ written_part (numbers_in map.now) targets.now) }
@@ -31,7 +31,8 @@ fn written_targets(alloc: Global, targets: &Tree, map: &UidMap) -> Result<Tree, 
     Ok(written)
 }
 
-// Returns `part`, a child of a Tag: with the output's identifiers if it is a Targets, and otherwise unchanged.
+// Returns `part`, a child of a Tag: with the output's identifiers in `map` if it is a Targets, and otherwise unchanged.
+// `written_tag` does this for each child.
 fn written_part(alloc: Global, part: &Tree, map: &UidMap) -> Result<Tree, AllocError>
     requires { StandsIn TAG_ID part.now }
     ensures exact { IfOk result (λ tree. tree ≡ written_part (numbers_in map.now) part.now) }
@@ -44,7 +45,8 @@ fn written_part(alloc: Global, part: &Tree, map: &UidMap) -> Result<Tree, AllocE
     }
 }
 
-/// Returns `tag` with the output's identifiers in `map` in its Targets.
+/// Returns `tag` with the output's identifiers in `map` in its Targets. A merge does this for each Tag that it keeps.
+/// Used by `written_child`.
 pub(crate) fn written_tag(alloc: Global, tag: &Tree, map: &UidMap) -> Result<Tree, AllocError>
     requires { IsRead TAG_ID tag.now }
     ensures exact { IfOk result (λ tree. tree ≡ written_tag (numbers_in map.now) tag.now) }
@@ -57,7 +59,8 @@ pub(crate) fn written_tag(alloc: Global, tag: &Tree, map: &UidMap) -> Result<Tre
     Ok(written)
 }
 
-// Returns the summary of the targets in `part`, a child of a Tag; there are none unless it is a Targets.
+// Returns the summary of the targets in `part`, a child of a Tag, for `aims_in`; there are none unless it is a Targets.
+// `map` has the output's numbers.
 fn tag_targets_in_part(part: &Tree, map: &UidMap) -> TagTargets
     requires { StandsIn TAG_ID part.now }
     ensures { result ≡ tag_targets_of (numbers_in map.now) (targets_in part.now) }
@@ -71,7 +74,8 @@ fn tag_targets_in_part(part: &Tree, map: &UidMap) -> TagTargets
     aims
 }
 
-/// Returns the summary of all targets of `tag`, which decides whether the Tag is kept. `map` has the output's numbers.
+/// Returns the summary of all targets of `tag`, from which `are_kept` decides whether the Tag is kept. `map` has the
+/// output's numbers.
 pub(crate) fn aims_in(tag: &Tree, map: &UidMap) -> TagTargets
     requires { IsRead TAG_ID tag.now }
     ensures { result ≡ aims_in (numbers_in map.now) tag.now }

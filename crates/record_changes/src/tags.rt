@@ -15,8 +15,8 @@ use ebml_tree::{Tree, empty};
 use mkv_schema::ids::{TAG, TAGS};
 use std::alloc::{AllocError, Global};
 
-// Checks whether a Tag whose targets have the summary `aims` is kept. `keep` must ask for its kind, for a track or not.
-// If it has targets, the output must have one of them.
+// Checks whether a Tag whose targets have the summary `aims` is kept, for `written_child`. `keep` must ask for its
+// kind, for a track or not. If it has targets, the output must have one of them.
 fn are_kept(keep: TagKeep, aims: TagTargets) -> bool
     ensures { result ≡ are_kept keep aims }
 {
@@ -24,7 +24,8 @@ fn are_kept(keep: TagKeep, aims: TagTargets) -> bool
     wanted && (!aims.any || aims.written)
 }
 
-// Returns `child`, a child of Tags, as the output gets it, or None if it isn't a Tag or isn't kept.
+// Returns `child`, a child of Tags, as the output gets it, or None if it isn't a Tag or isn't kept. `map` has the
+// output's numbers, and `keep` the choice. `merge_tags` does this for each child.
 fn written_child(
     alloc: Global,
     child: &Tree,
@@ -44,9 +45,9 @@ fn written_child(
     Ok(Some(tag::written_tag(alloc, child, map)?))
 }
 
-/// Returns `tags`, the Tags of an input, as the output gets them. They are the Tags that `keep` chooses, with the
-/// output's identifiers in `map` in their targets. A target that isn't in the output is removed. A Tag that loses all
-/// its targets is left out. A target of 0, which names all of its kind, stays.
+/// Returns `tags`, the Tags of an input of a merge, as the output gets them. They are the Tags that `keep` chooses,
+/// with the output's identifiers in `map` in their targets. A target that isn't in the output is removed. A Tag that
+/// loses all its targets is left out. A target of 0, which names all of its kind, stays.
 pub fn merge_tags(
     alloc: Global,
     tags: &Tree,

@@ -16,6 +16,7 @@ use mkv_schema::ids::{TAG_ATTACHMENT_UID, TAG_CHAPTER_UID, TAG_EDITION_UID, TAG_
 use std::alloc::{AllocError, Global};
 
 // Checks whether `id` is the ID of a target: the UID of a track, edition, chapter or attached file in a Targets.
+// `is_target` calls it.
 fn is_target_id(id: u32) -> bool
     ensures { result ≡ is_target_id id }
 {
@@ -25,7 +26,8 @@ fn is_target_id(id: u32) -> bool
         || id == TAG_ATTACHMENT_UID
 }
 
-// Checks whether `child`, a child of Targets, names one item; 0 names all of its kind.
+// Checks whether `child`, a child of Targets, names one item; 0 names all of its kind. Only such a target gets the
+// output's number. Used by `written_target` and `tag_targets_of`.
 fn is_target(child: &Tree) -> bool
     requires { StandsIn TARGETS_ID child.now }
     ensures { result ≡ is_target child.now }
@@ -33,7 +35,8 @@ fn is_target(child: &Tree) -> bool
     is_target_id(child.id()) && child.uint() != 0
 }
 
-// Returns the output's number for the identifier `uid` in a target with the ID `id`, or None if the output lacks it.
+// Returns the output's number in `map` for the identifier `uid` in a target with the ID `id`, or None if the output
+// lacks it. `number_of` calls it.
 fn number_in(map: &UidMap, id: u32, uid: u64) -> Option<u64>
     ensures { result ≡ numbers_in map.now id uid }
 {
@@ -46,7 +49,8 @@ fn number_in(map: &UidMap, id: u32, uid: u64) -> Option<u64>
     }
 }
 
-// Returns the output's number for the item that `target` names, or None if the output lacks it.
+// Returns the output's number in `map` for the item that `target` names, or None if the output lacks it. Targets are
+// written and counted by it. Used by `written_target` and `tag_targets_of`.
 fn number_of(target: &Tree, map: &UidMap) -> Option<u64>
     requires stands { StandsIn TARGETS_ID target.now }
     requires target { is_target_id (id_of target.now) ≡ true }
@@ -56,7 +60,7 @@ fn number_of(target: &Tree, map: &UidMap) -> Option<u64>
 }
 
 /// Returns `child`, a child of Targets, as the output gets it: a target gets the output's number in `map`. Returns None
-/// if the output lacks its item.
+/// if the output lacks its item. `written_targets` does this for each child.
 pub(crate) fn written_target(
     alloc: Global,
     child: &Tree,
@@ -76,7 +80,7 @@ pub(crate) fn written_target(
 }
 
 /// Returns the summary of `child`, a child of Targets: no targets unless it names one item. `map` has the output's
-/// numbers.
+/// numbers. `tag_targets_in_part` joins the summaries.
 pub(crate) fn tag_targets_of(child: &Tree, map: &UidMap) -> TagTargets
     requires { StandsIn TARGETS_ID child.now }
     ensures { result ≡ tag_targets_of (numbers_in map.now) (filter is_target (child.now ∷ [])) }

@@ -20,7 +20,8 @@ impl TagTargets {
         written: false,
     };
 
-    /// Returns the summary of the targets of `self` and `other` together.
+    /// Returns the summary of the targets of `self` and `other` together. The targets of a Tag are summed up so. Used
+    /// by `tag_targets_in_part`, `aims_in` and others.
     pub fn or(self, other: TagTargets) -> TagTargets
         ensures { result ≡ both_aims self other }
     {

@@ -14,7 +14,8 @@ use mkv_io::List;
 use mkv_schema::ids::{CHAPTER_ATOM, CHAPTER_UID, EDITION_ENTRY, EDITION_UID};
 use std::alloc::AllocError;
 
-/// Returns the unsigned integer of the first child of `tree` with the ID `id`, or 0 if it is absent.
+/// Returns the unsigned integer of the first child of `tree`, a chapter or edition, with the ID `id`, or 0 if it is
+/// absent. Identifiers and starts are read with it.
 pub(crate) fn value_in(tree: &Tree, id: u32) -> u64
     requires sound { IsSound tree.now }
     requires uint { HasUint (id_of tree.now) id }
@@ -26,7 +27,7 @@ pub(crate) fn value_in(tree: &Tree, id: u32) -> u64
     }
 }
 
-// Appends the EditionUID of `child`, a child of Chapters, to `uids`, if it is an edition.
+// Appends the EditionUID of `child`, a child of Chapters, to `uids`, if it is an edition, for `push_edition_uids`.
 fn push_edition_uid(child: &Tree, uids: &mut List<u64>) -> Result<(), AllocError>
     requires { IsReadIf ids.EDITION_ENTRY child.now }
     ensures { OnOk result (uids.new ≡ uids.old ++ own_uids child.now) }
@@ -37,8 +38,8 @@ fn push_edition_uid(child: &Tree, uids: &mut List<u64>) -> Result<(), AllocError
     uids.push(value_in(child, EDITION_UID))
 }
 
-/// Appends the EditionUIDs of all editions of `chapters` to `uids`, in their order; an absent one is 0. If memory runs
-/// out, some may have been appended.
+/// Appends the EditionUIDs of all editions of `chapters` to `uids`, in their order; an absent one is 0. A merge
+/// collects the identifiers of its inputs so. If memory runs out, some may have been appended.
 pub fn push_edition_uids(chapters: &Tree, uids: &mut List<u64>) -> Result<(), AllocError>
     requires { IsRead ids.CHAPTERS chapters.now }
     ensures { OnOk result (uids.new ≡ uids.old ++ edition_uids chapters.now) }
@@ -49,8 +50,8 @@ pub fn push_edition_uids(chapters: &Tree, uids: &mut List<u64>) -> Result<(), Al
     Ok(())
 }
 
-// Appends the ChapterUIDs of `child`, a child of an edition or atom, and of the atoms inside it. A child that isn't an
-// atom has none.
+// Appends the ChapterUIDs of `child`, a child of an edition or atom, and of the atoms inside it, to `uids`. A child
+// that isn't an atom has none. `push_uids_inside` calls it.
 fn push_atom_uids(child: &Tree, uids: &mut List<u64>) -> Result<(), AllocError>
     requires { IsReadIf ids.CHAPTER_ATOM child.now }
     ensures { OnOk result (uids.new ≡ uids.old ++ map (value_in ids.CHAPTER_UID) (atoms_at child.now)) }
@@ -65,7 +66,8 @@ fn push_atom_uids(child: &Tree, uids: &mut List<u64>) -> Result<(), AllocError>
     Ok(())
 }
 
-// Appends the ChapterUIDs of the atoms in `child`, a child of Chapters, if it is an edition.
+// Appends the ChapterUIDs of the atoms in `child`, a child of Chapters, to `uids`, if it is an edition, for
+// `push_chapter_uids`.
 fn push_uids_inside(child: &Tree, uids: &mut List<u64>) -> Result<(), AllocError>
     requires { IsReadIf ids.EDITION_ENTRY child.now }
     ensures { OnOk result (uids.new ≡ uids.old ++ inner_uids child.now) }
@@ -80,7 +82,8 @@ fn push_uids_inside(child: &Tree, uids: &mut List<u64>) -> Result<(), AllocError
 }
 
 /// Appends the ChapterUIDs of all chapters of `chapters` to `uids`, edition by edition, each atom before the atoms
-/// inside it. An absent identifier is 0. If memory runs out, some may have been appended.
+/// inside it. A merge collects the identifiers of its inputs so. An absent identifier is 0. If memory runs out, some
+/// may have been appended.
 pub fn push_chapter_uids(chapters: &Tree, uids: &mut List<u64>) -> Result<(), AllocError>
     requires { IsRead ids.CHAPTERS chapters.now }
     ensures { OnOk result (uids.new ≡ uids.old ++ chapter_uids chapters.now) }

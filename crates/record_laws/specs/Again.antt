@@ -9,7 +9,7 @@ use Rattle.track_records.specs.declared.track_change.FlagChange.{FlagChange}
 use Rattle.track_records.specs.declared.track_change.TrackChange.{TrackChange}
 use Rattle.track_records.specs.Entry.{written_entry, IsWholeEntry}
 
--- a change of no flag
+-- a change of no flag of a track, as a merge without options has it. `plain` has it.
 abbrev pub flags_stay : FlagChange
 flags_stay = record {
   enabled = None;
@@ -20,7 +20,8 @@ flags_stay = record {
   commentary = None;
 }
 
--- a change that gives only a number and an identifier
+-- a change of a track that gives only the number `number` and the identifier `uid`, as a merge without options makes it. The law `entries_stay` uses
+-- it.
 abbrev pub plain : ℕ → ℕ → TrackChange
 plain number uid = record {
   number = number;
@@ -33,7 +34,8 @@ plain number uid = record {
   flags = flags_stay;
 }
 
--- An entry that was written with any change, and read at any place, is written as it was with the same number and identifier.
+-- An entry `entry` that was written with any change `c`, and read at any offset `place`, is written as it was. The second change gives only the same
+-- number and identifier. It is the law `entries_stay`.
 abbrev pub EntriesStay : Type 0
 EntriesStay =
     (c : TrackChange) (entry : Node) (place : ℕ) → IsMaster entry
@@ -41,30 +43,33 @@ EntriesStay =
 
 -- ---- all tracks
 
--- the written entries, each with its change
+-- the written entries of `entries`, each with its change. `TracksStay` compares them with the ones of a second merge.
 abbrev pub written_entries : List TrackChange → List Node → List Node
 written_entries [] entries = []
 written_entries (c ∷ cs) [] = []
 written_entries (c ∷ cs) (entry ∷ entries) = written_entry c entry ∷ written_entries cs entries
 
--- changes that number tracks from `n` on, and give them only the identifiers `uids`
+-- changes that number tracks from `n` on, and give them only the identifiers `uids`, as a merge without options makes them. Used by `AreNumbered` and
+-- `merged_again`.
 abbrev pub plain_changes : ℕ → List ℕ → List TrackChange
 plain_changes n [] = []
 plain_changes n (uid ∷ uids) = plain n uid ∷ plain_changes (n + 1) uids
 
--- The changes number tracks from `n` on, and give them the identifiers `uids`.
+-- The changes `changes` number tracks from `n` on, and give them the identifiers `uids`. The changes of a merge are so, as the law `tracks_stay`
+-- requires.
 abbrev pub AreNumbered : ℕ → List ℕ → List TrackChange → Type 0
 AreNumbered n uids changes = (map (λ c. c.uid) changes ≡ uids) × (map (λ c. c.number) changes ≡ map (λ c. c.number) (plain_changes n uids))
 
--- the Elements `ns` as they are read if they are written from `place` on
+-- the Elements `ns` as they are read if they are written from the offset `place` on. Laws of a second merge read an output so.
 abbrev pub read_of : ℕ → List Node → List Node
 read_of place ns = list_of (placed_all place (nodes_of ns))
 
--- the entries after a merge without options: numbers from 1 on, and the identifiers renumbered
+-- the entries `entries` after a merge without options: numbers from 1 on, and the identifiers renumbered. The law `tracks_stay` uses it.
 abbrev pub merged_again : List Node → List Node
 merged_again entries = written_entries (plain_changes 1 (renumbered (map uid_of entries))) entries
 
--- The tracks of an output are written as they were after they are read. They were numbered and renumbered, and given anything else.
+-- The tracks `entries` of an output are written as they were after they are read at the offset `place`. They were numbered and renumbered, and given
+-- anything else by `changes`. It is the law `tracks_stay`.
 abbrev pub TracksStay : Type 0
 TracksStay =
     (changes : List TrackChange) (entries : List Node) (place : ℕ) → All IsWholeEntry entries → All (λ c. c.uid < 2 ^ 64) changes

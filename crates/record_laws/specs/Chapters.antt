@@ -8,26 +8,28 @@ use Rattle.record_changes.specs.Identifiers.{renumbered}
 use Rattle.record_changes.specs.Atoms.{chapter_uids, edition_uids, editions_of}
 use Rattle.record_changes.specs.ChapterIdentifiers.{with_identifiers}
 
--- the EditionUIDs that a merge gives to the editions of Chapters
+-- the EditionUIDs that a merge gives to the editions of the Chapters `chapters`. Used by `settled`, `AreChapters` and others.
 abbrev pub edition_numbers : Node → List ℕ
 edition_numbers chapters = renumbered (edition_uids chapters)
 
--- the ChapterUIDs that a merge gives to the atoms of Chapters
+-- the ChapterUIDs that a merge gives to the atoms of the Chapters `chapters`. Used by `settled`, `AreChapters` and others.
 abbrev pub chapter_numbers : Node → List ℕ
 chapter_numbers chapters = renumbered (chapter_uids chapters)
 
--- the chapters with the identifiers of a merge
+-- the Chapters `chapters` with the identifiers of a merge, as the output of the first merge has them. The law `chapters_stay` uses it.
 abbrev pub settled : Node → Node
 settled chapters = with_identifiers (edition_numbers chapters) (chapter_numbers chapters) chapters
 
--- The chapters and their editions are masters, and the identifiers have 64 bits.
+-- The chapters and their editions are masters, and the identifiers that a merge gives them have 64 bits. It is the condition of the law
+-- `chapters_stay`.
 pub record AreChapters (chapters : Node) : Type 0 where
   pub master : IsMaster chapters
   pub editions : All IsMaster (editions_of chapters)
   pub edition_numbers : All (λ n. n < 2 ^ 64) (edition_numbers chapters)
   pub chapter_numbers : All (λ n. n < 2 ^ 64) (chapter_numbers chapters)
 
--- Chapters with the identifiers of a merge have them when they are written and read at a place, and a merge writes them as they were.
+-- Chapters with the identifiers of a merge have them when they are written and read at an offset `place`. A merge writes them as they were. It is the
+-- law `chapters_stay`.
 pub record ChaptersStay : Type 0 where
   pub editions : (chapters : Node) (place : ℕ) → AreChapters chapters → edition_uids (placed place (settled chapters)) ≡ edition_numbers chapters
   pub chapters : (chapters : Node) (place : ℕ) → AreChapters chapters → chapter_uids (placed place (settled chapters)) ≡ chapter_numbers chapters

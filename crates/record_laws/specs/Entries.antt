@@ -8,11 +8,12 @@ use Rattle.track_records.specs.declared.fields.TheConstants.{FIELDS}
 use Rattle.track_records.specs.Entry.{IsWholeEntry}
 use Rattle.track_records.specs.Difference.{octets_at, first_difference}
 
--- The entries of a Tracks Element that was read are valid, and each valid entry may be in one.
+-- The entries of a Tracks Element `tracks` that was read are valid, and each valid entry may be in one. It is the law `read_entries_are_whole`.
 pub record ReadEntriesAreWhole : Type 0 where
   pub read : (tracks : Node) → IsSoundOf TRACKS tracks → depth_all (nodes_of (children tracks)) < deepest → All IsWholeEntry (entries_of tracks)
   pub stands : (entry : Node) → IsWholeEntry entry → StandsIn TRACKS entry
 
--- Two entries have no first difference if and only if they have the same bytes in every field.
+-- Two TrackEntries `a` and `b` have no first difference exactly if they have the same bytes in every field that appended tracks must share. It is the
+-- law `differences_are_told`.
 abbrev pub DifferencesAreTold : Type 0
 DifferencesAreTold = (a b : Node) → (first_difference a b ≡ None) ↔ All (λ f. octets_at f a ≡ octets_at f b) FIELDS

@@ -6,16 +6,16 @@ use Rattle.mkv_schema.specs.declared.ids.TheConstants.{TAG, SIMPLE_TAG, TAG_NAME
 use Rattle.tree_format.specs.Node.{Node, id_of, children}
 use Rattle.record_changes.specs.Statistics.{is_one_of, stem, usual_names, value_in, without_statistics}
 
--- The child of a Tag is a SimpleTag with a usual name of statistics, with or without a language.
+-- The child `n` of a Tag is a SimpleTag with one of the three fixed names of statistics, with or without a language. `HasNoUsualName` excludes it.
 abbrev pub has_usual_name : Node → Bool
 has_usual_name n = id_of n == SIMPLE_TAG && option_map_or (λ name. is_one_of usual_names (stem name)) (value_in TAG_NAME n) false
 
--- If the child of Tags is a Tag, no SimpleTag in it has a usual name of statistics.
+-- If the child `n` of Tags is a Tag, no SimpleTag in it has one of the three fixed names of statistics. `StatisticsAreLeftOut` promises it.
 abbrev pub HasNoUsualName : Node → Type 0
 HasNoUsualName n = (id_of n == TAG) ≡ true → list_any has_usual_name (children n) ≡ false
 
--- What is left of Tags has no usual name of statistics. Tags without such a name are unchanged, so leaving out statistics twice is as doing so
--- once.
+-- What is left of Tags has none of the three fixed names of statistics. Tags without such a name are unchanged, so leaving out statistics twice is as
+-- doing so once. It is the law `statistics_are_left_out`.
 pub record StatisticsAreLeftOut : Type 0 where
   pub none : (tags : Node) → All HasNoUsualName (children (without_statistics tags))
   pub others : (tags : Node) → All HasNoUsualName (children tags) → without_statistics tags ≡ tags

@@ -4,22 +4,24 @@
 ghost use Rattle.record_laws.specs.Again.{EntriesStay, TracksStay};
 ghost use Rattle.record_laws.specs.Entries.{ReadEntriesAreWhole, DifferencesAreTold};
 
-/// A TrackEntry that was written and read is written as it was.
+/// Law: a TrackEntry that was written and read is written as it was. A promise to users; no code calls it.
 pub fn entries_stay()
     ensures { EntriesStay }
 {}
 
-/// The tracks of an output, merged again, are written as they were.
+/// Law: the tracks of an output, merged again, are written as they were. The proofs about a repeated merge use it.
 pub fn tracks_stay()
     ensures { TracksStay }
 {}
 
-/// The entries of a Tracks Element that was read are valid, and each valid entry may be in one.
+/// Law: the entries of a Tracks Element that was read are valid, and each valid entry may be in one. A promise to
+/// users; no code calls it.
 pub fn read_entries_are_whole()
     ensures { ReadEntriesAreWhole }
 {}
 
-/// Two entries have no first difference if and only if all fields that must be alike are alike.
+/// Law: two TrackEntries have no first difference if and only if all fields that must be alike for appending are alike.
+/// A promise to users; no code calls it.
 pub fn differences_are_told()
     ensures { DifferencesAreTold }
 {}

@@ -3,12 +3,12 @@
 ghost use Rattle.record_laws.specs.SimpleChapters.{ChaptersAreReadBack};
 ghost use Rattle.record_laws.specs.SubRip.{EntriesAreReadBack};
 
-/// Entries that `put_srt` writes are read back.
+/// Law: SubRip entries that `put_srt` writes are read back, if each is plain. A promise to users; no code calls it.
 pub fn entries_are_read_back()
     ensures { EntriesAreReadBack }
 {}
 
-/// Chapters that `put_pair` writes are read back.
+/// Law: simple chapters that `put_pair` writes are read back, if each is plain. A promise to users; no code calls it.
 pub fn chapters_are_read_back()
     ensures { ChaptersAreReadBack }
 {}

@@ -19,26 +19,29 @@ use Rattle.mkv_schema.specs.declared.track_type.TheConstants.{VIDEO_TRACK, SUBTI
 
 -- ---- the blocks that get a point
 
--- The child `n` of Tracks is the TrackEntry of a video or subtitle track, whose keyframes get cue points.
+-- The child `n` of Tracks is the TrackEntry of a video or subtitle track, whose keyframes get cue points from `reindex`.
 abbrev pub is_indexed_track : Node → Bool
 is_indexed_track n = id_of n == TRACK_ENTRY && (type_of n == VIDEO_TRACK || type_of n == SUBTITLE_TRACK)
 
--- the TrackNumbers of the video and subtitle tracks in `tracks`, the children of Tracks
+-- the TrackNumbers of the video and subtitle tracks in `tracks`, the children of Tracks, whose keyframes get cue points from `reindex`
 abbrev pub indexed_tracks : List Node → List ℕ
 indexed_tracks tracks = map number_of (filter is_indexed_track tracks)
 
--- Block `b` gets a cue point. It is a keyframe of a track with one of the TrackNumbers `numbers`, and isn't before the start of the file.
+-- The block `b` gets a cue point from `reindex`. It is a keyframe of a track with one of the TrackNumbers `numbers`, and isn't before the start of
+-- the file.
 abbrev pub is_indexed : List ℕ → Block → Bool
 is_indexed numbers b = b.key && is_some (since_start b.time) && list_any (λ n. n == b.track) numbers
 
 -- ---- their places
 
--- the last Cluster of the list that begins before the offset `at`, if any
+-- the last Cluster of the list, the headers at level 1, that begins before the offset `at` of a block, or None; the block is in it. Used by
+-- `points_to`.
 abbrev pub cluster_before : ℕ → List Header → Option Header
 cluster_before at [] = None
 cluster_before at (h ∷ hs) = option_or (cluster_before at hs) (if h.id == CLUSTER && nat_lt h.offset at then Some h else None)
 
--- The cue point of block `b` in the Cluster with header `h`. A tick has `scale` nanoseconds, and the Segment's data begins at the offset `base`.
+-- The cue point that `reindex` makes for the block `b` in the Cluster with header `h`. A tick has `scale` nanoseconds, and the Segment's data begins
+-- at the offset `base`.
 abbrev pub point_in : ℕ → ℕ → Block → Header → CuePoint
 point_in scale base b h = record {
   tick = unwrap_or (since_start b.time) 0 / scale;
@@ -47,20 +50,20 @@ point_in scale base b h = record {
   relative = b.offset - h.body;
 }
 
--- the cue point of block `b`, if it is in one of the Clusters of `list`, as a list. A tick has `scale` nanoseconds, and the Segment's data begins at
--- the offset `base`.
+-- the cue point of the block `b`, if it is in one of the Clusters of `list`, as a list of one, or an empty list. A tick has `scale` nanoseconds, and
+-- the Segment's data begins at the offset `base`. Used by `points_among` and `points_for`.
 abbrev pub points_to : ℕ → ℕ → List Header → Block → List CuePoint
 points_to scale base list b = option_map_or (λ h. point_in scale base b h ∷ []) (cluster_before b.offset list) []
 
 -- ---- the points of a file
 
--- the cue points of the blocks in `blocks` that get one, in their order. `scale` is the number of nanoseconds per tick, and `base` the offset of the
--- Segment's data. `list` has all headers at level 1, and `numbers` the TrackNumbers of the indexed tracks.
+-- the cue points of the blocks in `blocks` that get one from `reindex`, in their order. `scale` is the number of nanoseconds per tick, and `base` the
+-- offset of the Segment's data. `list` has all headers at level 1, and `numbers` the TrackNumbers of the indexed tracks.
 abbrev pub points_among : ℕ → ℕ → List Header → List ℕ → List Block → List CuePoint
 points_among scale base list numbers blocks = flat_map (points_to scale base list) (filter (is_indexed numbers) blocks)
 
--- The cue points of a file with the content `bytes` and the Segment `segment`, in the order of its blocks, at most MAX_CUES. `tracks` has the
--- children of its Tracks.
+-- The cue points that `reindex` gives a file with the content `bytes` and the Segment `segment`, in the order of its blocks, at most MAX_CUES.
+-- `tracks` has the children of its Tracks.
 abbrev pub index_points : List ℕ → Header → List Node → List CuePoint
 index_points bytes segment tracks = take MAX_CUES
     (points_among (file_scale bytes segment) segment.body (segment_run bytes segment).list (indexed_tracks tracks)

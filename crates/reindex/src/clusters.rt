@@ -24,7 +24,8 @@ pub struct Clusters {
 }
 
 impl Clusters {
-    /// Returns a walk that begins at the first Element of `file` at level 1; `outline` is the file's.
+    /// Returns a walk that begins at the first Element of `file` at level 1; `outline` is the file's. `read_points` has
+    /// it beside its walk over the blocks.
     pub fn start(outline: &Outline, file: FileId) -> Clusters
         ensures place { result.level ≡ first_place outline.now.segment outline.now.total file }
         ensures reached { result.reached ≡ 0 }
@@ -39,7 +40,7 @@ impl Clusters {
     }
 
     // Returns the header of the next Element at level 1 without passing it, or None at the end. After `Failed` the next
-    // call reads the same Element.
+    // call reads the same Element. Used by `go_to`.
     fn look<R: Reads>(&mut self, src: &mut R) -> Result<Option<Header>, Failed>
         requires { IsReady (live_files R.Reads src.old) self.old }
         ensures exact { IfOk result (LooksAtIn R.Reads src.old self.old self.new) }
@@ -57,7 +58,7 @@ impl Clusters {
     }
 
     // Passes the Element with the header `header`, which `look` returned, and keeps it as the last Cluster if it is
-    // one.
+    // one. Used by `go_to`.
     fn pass(&mut self, header: Header)
         ensures { self.new ≡ passed header self.old }
     {
@@ -67,8 +68,9 @@ impl Clusters {
         }
     }
 
-    /// Advances the walk to the offset `at` of a block, so that `last` is the last Cluster that begins before it. It
-    /// never goes back. After `Failed` the walk may continue.
+    /// Advances the walk to the offset `at` of a block in the file, so that `last` is the last Cluster that begins
+    /// before it. It never goes back. After `Failed` the walk may continue. `add_point` calls it for each block that
+    /// gets a cue point.
     pub fn go_to<R: Reads>(&mut self, src: &mut R, at: u64) -> Result<(), Failed>
         requires { IsReady (live_files R.Reads src.old) self.old }
         ensures exact { OnOk result (HasReachedIn R.Reads src.old self.old self.new) }

@@ -17,8 +17,8 @@ use mkv_schema::ids::{
 };
 use std::alloc::{AllocError, Global};
 
-// Appends the Element with the ID `id` and the body `body` to `out`, in its fewest bytes. A body that is too long for a
-// file fails as out of memory.
+// Appends the Element of a new Cues with the ID `id` and the body `body` to `out`, in its fewest bytes. A body that is
+// too long for a file fails as out of memory. Used by `put_uint_element`, `point_body` and others.
 fn put_element(out: &mut Bytes, id: u32, body: &[u8]) -> Result<(), AllocError>
     requires { IsTrue (is_id id) }
     ensures { OnOk result (out.new ≡ out.old ++ octets_of (element id body.now)) }
@@ -33,7 +33,8 @@ fn put_element(out: &mut Bytes, id: u32, body: &[u8]) -> Result<(), AllocError>
     Ok(())
 }
 
-// Appends the Element with the ID `id` and the unsigned integer `value` to `out`, in its fewest bytes.
+// Appends the Element of a new Cues with the ID `id` and the unsigned integer `value` to `out`, in its fewest bytes.
+// Used by `positions_body` and `point_body`.
 fn put_uint_element(out: &mut Bytes, id: u32, value: u64) -> Result<(), AllocError>
     requires { IsTrue (is_id id) }
     ensures { OnOk result (out.new ≡ out.old ++ octets_of (uint_element id value)) }
@@ -41,7 +42,7 @@ fn put_uint_element(out: &mut Bytes, id: u32, value: u64) -> Result<(), AllocErr
     put_element(out, id, put_uint(value).as_slice())
 }
 
-// Returns the body of the CueTrackPositions for `point`: track number and both positions.
+// Returns the body of the CueTrackPositions for `point`: track number and both positions. Used by `point_body`.
 #[tactic(auto, unfolding(ebml_numbers::specs::Number::is_id))]
 fn positions_body(alloc: Global, point: &Point) -> Result<Bytes, AllocError>
     ensures { IfOk result (λ body. body ≡ (positions_element (cue_of point.now)).body) }
@@ -53,7 +54,7 @@ fn positions_body(alloc: Global, point: &Point) -> Result<Bytes, AllocError>
     Ok(body)
 }
 
-// Returns the body of the CuePoint for `point`: its time and its CueTrackPositions.
+// Returns the body of the CuePoint for `point`: its time in ticks and its CueTrackPositions. Used by `put_point`.
 #[tactic(auto, unfolding(ebml_numbers::specs::Number::is_id))]
 fn point_body(alloc: Global, point: &Point) -> Result<Bytes, AllocError>
     ensures { IfOk result (λ body. body ≡ (point_element (cue_of point.now)).body) }
@@ -65,7 +66,7 @@ fn point_body(alloc: Global, point: &Point) -> Result<Bytes, AllocError>
     Ok(body)
 }
 
-// Appends the CuePoint for `point` to `out`.
+// Appends the CuePoint for `point` to `out`. Used by `points_body`.
 #[tactic(auto, unfolding(ebml_numbers::specs::Number::is_id))]
 fn put_point(alloc: Global, out: &mut Bytes, point: &Point) -> Result<(), AllocError>
     ensures { OnOk result (out.new ≡ out.old ++ octets_of (point_element (cue_of point.now))) }
@@ -74,7 +75,7 @@ fn put_point(alloc: Global, out: &mut Bytes, point: &Point) -> Result<(), AllocE
     put_element(out, CUE_POINT, body.as_slice())
 }
 
-// Returns the CuePoints for `points`, in this order: the body of the Cues.
+// Returns the CuePoints for `points`, in this order: the body of the Cues. Used by `cues_body`.
 fn points_body(alloc: Global, points: &[Point]) -> Result<Bytes, AllocError>
     ensures { IfOk result (λ body. body ≡ joined (map point_element (cues_of points.now))) }
 {
@@ -85,8 +86,8 @@ fn points_body(alloc: Global, points: &[Point]) -> Result<Bytes, AllocError>
     Ok(body)
 }
 
-/// Returns the body of a new Cues with a CuePoint for each of `points`, or None without points. A body that is too long
-/// for a file fails as out of memory.
+/// Returns the body of the new Cues of `reindex` with a CuePoint for each of `points`, or None without points. A body
+/// that is too long for a file fails as out of memory. Used by `cues_parts`.
 pub fn cues_body(alloc: Global, points: &[Point]) -> Result<Option<Bytes>, AllocError>
     ensures exact { IfOk result (λ body. option_map (element CUES_ID) body ≡ new_cues (cues_of points.now)) }
     ensures short { IfOk result (λ body. IfSome body (λ octets. length octets ≤ 2 ^ 48)) }

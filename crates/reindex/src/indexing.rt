@@ -23,14 +23,15 @@ pub struct Indexing {
     pub base: u64,
 }
 
-// Returns the time `time` in nanoseconds, or 0 if it is before the start of the file.
+// Returns the time `time` in nanoseconds, or 0 if it is before the start of the file. Used by `point`.
 fn since_start(time: i64) -> u64
     ensures { result ≡ unwrap_or (since_start time) 0 }
 {
     if time < 0 { 0 } else { time as u64 }
 }
 
-// Checks whether the time `time`, in nanoseconds, is before the start of the file; such a block gets no cue point.
+// Checks whether the time `time`, in nanoseconds, is before the start of the file; such a block gets no cue point. Used
+// by `is_indexed`.
 fn is_before_start(time: i64) -> bool
     ensures { result ≡ not (is_some (since_start time)) }
 {
@@ -38,7 +39,7 @@ fn is_before_start(time: i64) -> bool
 }
 
 impl Indexing {
-    // Checks whether keyframes of the track with TrackNumber `number` get cue points.
+    // Checks whether keyframes of the track with TrackNumber `number` get cue points. Used by `is_indexed`.
     fn has(&self, number: u64) -> bool
         ensures { result ≡ list_any (λ n. n == number) self.now.tracks }
     {
@@ -46,7 +47,7 @@ impl Indexing {
     }
 
     /// Checks whether the current block of `cursor` gets a cue point: a keyframe of an indexed track that isn't before
-    /// the start.
+    /// the start. Used by `add_point`.
     pub fn is_indexed(&self, cursor: &Cursor) -> bool
         ensures { result ≡ spec.is_indexed self.now.tracks (block_of cursor.now.block) }
     {
@@ -54,7 +55,8 @@ impl Indexing {
         head.key && !is_before_start(head.time) && self.has(head.track)
     }
 
-    /// Makes the cue point of the current block of `cursor`, which is in the Cluster with the header `cluster`.
+    /// Returns the cue point of the current block of `cursor`, which is in the Cluster with the header `cluster`. Used
+    /// by `add_point`.
     pub fn point(&self, cursor: &Cursor, cluster: &Header) -> Point
         requires { 1 ≤ self.now.scale }
         ensures { cue_of result ≡ spec.point_in self.now.scale self.now.base (block_of cursor.now.block) cluster.now }

@@ -16,8 +16,9 @@ use mkv_io::Bytes;
 use mkv_schema::ids::CUES;
 use std::alloc::{AllocError, Global};
 
-// Makes the part that writes a Cues with the body `body`, or removes the old Cues if there is no body. The old Cues is
-// at the offset `place` and has `room` bytes with the Voids after it; both are 0 if there is none.
+// Returns the part that writes a Cues with the body `body`, or removes the old Cues if there is no body. The old Cues
+// is at the offset `place` in the file and has `room` bytes with the Voids after it; both are 0 if there is none. Used
+// by `cues_parts`.
 #[tactic(auto, unfolding(ebml_numbers::specs::Number::is_id))]
 fn cues_part(place: u64, room: u64, body: Option<Bytes>) -> Part
     requires short { IfSome body (λ octets. length octets ≤ 2 ^ 48) }
@@ -33,8 +34,9 @@ fn cues_part(place: u64, room: u64, body: Option<Bytes>) -> Part
     }
 }
 
-/// Returns the part that writes a Cues with `points` over the old Cues in `outline`, or appends it if there is none.
-/// Without points the old Cues is removed. The list is empty if there is neither an old nor a new Cues.
+/// Returns the part of an edit that writes a Cues with `points` over the old Cues in `outline`, or appends it if there
+/// is none. Without points the old Cues is removed. The list is empty if there is neither an old nor a new Cues. The
+/// plan of `reindex` begins with it.
 pub fn cues_parts(
     alloc: Global,
     outline: &Outline,

@@ -31,6 +31,7 @@ use std::alloc::Global;
 const INDEXED: [u32; 6] = [INFO, TRACKS, ATTACHMENTS, CUES, CHAPTERS, TAGS];
 
 // Returns the error of the plan for a file that couldn't be read: `end` as a refusal, a failed read, or out of memory.
+// Used by `plan_index`.
 fn plan_end(end: OutlineEnd) -> PlanEnd
     ensures exact { result ≡ ends_as end }
     ensures cause { is_plan_fault result ≡ is_outline_fault end }
@@ -42,7 +43,8 @@ fn plan_end(end: OutlineEnd) -> PlanEnd
     }
 }
 
-// Reads the outline of `file`, checks its records, and finds the cue points of its blocks. Any damage is refused.
+// Reads the outline of `file`, checks its records, and finds the cue points of its blocks. Any damage is refused. Used
+// by `plan_index`.
 fn find<R: Reads>(alloc: Global, src: &mut R, file: FileId) -> Result<IndexableFile, OutlineEnd>
     requires { IsLive R.Reads src.old file }
     ensures exact { IfTold R.Reads src.old file (λ bytes. IsFound bytes result) }
@@ -57,8 +59,8 @@ fn find<R: Reads>(alloc: Global, src: &mut R, file: FileId) -> Result<IndexableF
     Ok(IndexableFile { outline, points })
 }
 
-// Returns the writes of the new Cues and SeekHead for the file `found`, sorted by offset, or their refusal. A second
-// Cues is refused.
+// Returns the writes of the new Cues and SeekHead for the file `found`, which is open as `file`, sorted by offset, or
+// their refusal. A second Cues is refused. Used by `plan_index`.
 fn writes_of<R: Reads>(
     alloc: Global,
     found: &IndexableFile,
@@ -84,7 +86,8 @@ fn writes_of<R: Reads>(
     parts_writes(alloc, &rewriting, outline, parts.as_slice(), src, file)
 }
 
-// Returns the journal's record of `writes` over the file on `disk`.
+// Returns the journal's record of `writes` over the file on `disk`, with the file's length and first 64 bytes. Used by
+// `plan_index`.
 fn plan_of<D: Disk>(alloc: Global, disk: &mut D, writes: &[Write]) -> Result<Plan, PlanEnd>
     requires { IsLive D.Reads disk.old MEDIA }
     ensures exact { OfReads D.Disk.own disk.old (λ M S. Gives (Ok (spec.recorded M (map written writes.now))) result) }

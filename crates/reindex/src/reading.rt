@@ -22,8 +22,8 @@ use mkv_io::{FileId, List, ReadEnd, Reads};
 use output_model::MAX_CUES;
 use std::alloc::Global;
 
-// Appends the cue point of the current block of `cursor` to `points`, if it gets one and there are fewer than
-// 1,048,576. `clusters` is advanced to the block, and has its Cluster. Both read the same file.
+// Appends the cue point of the current block of `cursor` to `points`, if it gets one by `by` and there are fewer than
+// 1,048,576. `clusters` is advanced to the block, and has its Cluster. Both read the same file. Used by `collect`.
 fn add_point<R: Reads>(
     points: &mut List<Point>,
     by: &Indexing,
@@ -52,8 +52,8 @@ fn add_point<R: Reads>(
     Ok(())
 }
 
-// Returns the cue points of the remaining blocks of `cursor`, or fails with the first damage. `clusters` follows the
-// cursor in the same file.
+// Returns the cue points of the remaining blocks of `cursor` by the properties `by` of the file, or fails with the
+// first damage. `clusters` follows the cursor in the same file. Used by `read_points`.
 fn collect<R: Reads>(
     alloc: Global,
     by: &Indexing,
@@ -83,7 +83,8 @@ fn collect<R: Reads>(
 }
 
 /// Reads the cue points of `file`, which has this `outline` and the records `trees`, in the order of its blocks. It
-/// fails with the first damage. After 1,048,576 points it only checks for damage. Frames aren't read.
+/// fails with the first damage. After 1,048,576 points it only checks for damage. Frames aren't read. Used by `find`,
+/// when `reindex` plans.
 pub fn read_points<R: Reads>(
     alloc: Global,
     outline: &Outline,

@@ -9,6 +9,7 @@ use ebml_tree::Tree;
 use meta_records::{DEFAULT_SCALE, read_info};
 
 /// Returns the nanoseconds per tick of a file with the first Info `info`, which was checked; 1,000,000 without an Info.
+/// Used by `read_points`.
 pub fn scale_of(info: &Option<Tree>) -> u64
     requires { IfSome info.now (IsRead INFO) }
     ensures value { good_info info.now ≡ Ok info.now → result ≡ scale_of_info info.now }

@@ -15,7 +15,7 @@ use mkv_schema::ids::{TRACK_ENTRY, TRACK_NUMBER, TRACK_TYPE};
 use mkv_schema::track_type::{SUBTITLE_TRACK, VIDEO_TRACK};
 use std::alloc::{AllocError, Global};
 
-// Returns the TrackType of `track`, a TrackEntry.
+// Returns the TrackType of `track`, a TrackEntry. Used by `is_indexed_track`.
 #[tactic(auto, using(track_records::proofs::EntryLemmas::known))]
 fn type_of(track: &Tree) -> u64
     requires { IsEntry track.now }
@@ -24,7 +24,7 @@ fn type_of(track: &Tree) -> u64
     uint_in(track, TRACK_TYPE)
 }
 
-// Returns the TrackNumber of `track`, a TrackEntry.
+// Returns the TrackNumber of `track`, a TrackEntry. Used by `indexed_number`.
 #[tactic(auto, using(track_records::proofs::EntryLemmas::known))]
 fn number_of(track: &Tree) -> u64
     requires { IsEntry track.now }
@@ -34,7 +34,7 @@ fn number_of(track: &Tree) -> u64
 }
 
 // Checks whether `tree`, a child of Tracks, is the TrackEntry of a video or subtitle track. Their keyframes get cue
-// points.
+// points. Used by `indexed_number`.
 #[tactic(auto, using(edit_changes::proofs::SelectLemmas::entries))]
 fn is_indexed_track(tree: &Tree) -> bool
     requires { StandsIn TRACKS_ID tree.now }
@@ -48,6 +48,7 @@ fn is_indexed_track(tree: &Tree) -> bool
 }
 
 // Returns the TrackNumber of `tree`, a child of Tracks, if it is a video or subtitle track; None for any other child.
+// Used by `indexed_tracks`.
 #[tactic(auto, using(edit_changes::proofs::SelectLemmas::entries))]
 fn indexed_number(tree: &Tree) -> Option<u64>
     requires { StandsIn TRACKS_ID tree.now }
@@ -61,6 +62,7 @@ fn indexed_number(tree: &Tree) -> Option<u64>
 }
 
 /// Returns the TrackNumbers of the video and subtitle tracks in `tracks`, the children of Tracks, in their order.
+/// Keyframes of other tracks get no cue point. Used by `read_points`.
 pub fn indexed_tracks(alloc: Global, tracks: &[Tree]) -> Result<List<u64>, AllocError>
     requires { All (StandsIn TRACKS_ID) tracks.now }
     ensures { IfOk result (λ numbers. numbers ≡ spec.indexed_tracks tracks.now) }

@@ -12,7 +12,7 @@ use Rattle.remerge_laws.specs.Alike.{MayBeAlike}
 use Rattle.remerge_laws.specs.Placed.{MayStandAs}
 
 -- The input `again` has the tracks, editions, chapters and attached files with the identifiers that a merge of the inputs `reads` gave. It isn't
--- appended and keeps all Tags.
+-- appended and keeps all Tags. A condition of the law on Tags that are merged again.
 pub record HasIdentifiersOf (reads : List InputRead) (again : InputRead) : Type 0 where
   pub tracks : map (λ (t : TakenTrack). t.track.uid) again.taken ≡ (identifiers_of reads).tracks
   pub editions : uids_in edition_uids again.chapters ≡ (identifiers_of reads).editions
@@ -21,7 +21,8 @@ pub record HasIdentifiersOf (reads : List InputRead) (again : InputRead) : Type 
   pub alone : again.shift ≡ None
   pub keep : again.keep ≡ keep_all
 
--- An input `again` that has the Tags and identifiers that a merge of `reads` wrote gets these Tags again if it is merged by itself.
+-- An input `again` that has the Tags and identifiers that a merge of the inputs `reads` wrote has these Tags again after it is merged by itself. The
+-- identifiers must have 64 bits. A step of the law that an output, merged by itself, is written as it was. The law `tags_are_alike_again` states it.
 abbrev pub TagsAreAlikeAgain : Type 0
 TagsAreAlikeAgain =
     (reads : List InputRead) (again : InputRead) → Have64Bits (identifiers_of reads) → HasIdentifiersOf reads again → MayStandAs (tags_of reads) again.tags

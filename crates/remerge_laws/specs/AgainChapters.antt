@@ -10,15 +10,16 @@ use Rattle.merge_plan.specs.Records.{chapters_of}
 use Rattle.remerge_laws.specs.Alike.{MayBeAlike}
 use Rattle.remerge_laws.specs.Placed.{MayStandAs}
 
--- The input `again`, which isn't appended, has the Chapters that a merge of `reads` wrote, if any. They can be read, and the identifiers have 64
--- bits.
+-- The input `again`, which isn't appended, has the Chapters that a merge of the inputs `reads` wrote, if any. They can be read, and the identifiers
+-- have 64 bits. A condition of `ChaptersAreAlikeAgain`.
 pub record HasChaptersOf (reads : List InputRead) (again : InputRead) : Type 0 where
   pub short : Have64Bits (identifiers_of reads)
   pub records : IfSome (chapters_of reads) (IsRecord CHAPTERS)
   pub stand : MayStandAs (chapters_of reads) again.chapters
   pub alone : again.shift ≡ None
 
--- An input `again` with the Chapters that a merge of `reads` wrote has their identifiers. It gets the same Chapters if it is merged by itself.
+-- An input `again` with the Chapters that a merge of the inputs `reads` wrote has their identifiers. It has the same Chapters after it is merged by
+-- itself. The law `chapters_are_alike_again` states it.
 pub record ChaptersAreAlikeAgain : Type 0 where
   pub editions : (reads : List InputRead) (again : InputRead) → HasChaptersOf reads again → uids_in edition_uids again.chapters ≡ (identifiers_of reads).editions
   pub chapters : (reads : List InputRead) (again : InputRead) → HasChaptersOf reads again → uids_in chapter_uids again.chapters ≡ (identifiers_of reads).chapters

@@ -12,13 +12,13 @@ use Rattle.remerge_laws.specs.Alike.{AreAlike}
 use Rattle.remerge_laws.specs.Files.{IsFileOf}
 use Rattle.remerge_laws.specs.OwnFiles.{IsNumbered}
 
--- The attached files of `sources` can be written, with FileUIDs of 64 bits.
+-- The attached files of `sources` can be written, with FileUIDs of 64 bits. A condition of `AttachedFilesStay`.
 pub record HaveFiles (sources : List Source) : Type 0 where
   pub filled : All IsFilled (attachments_of sources)
   pub small : All (λ n. n < 2 ^ 64) (file_uids (reads_of sources))
 
--- Each attached file of a merge of `sources` has one FileUID, which a further merge keeps. Files that `again` has read from the output are written as
--- they were if it is merged by itself.
+-- Each attached file of a merge of `sources` has one FileUID, which a further merge keeps. Files that `again`, a source, has read from the output are
+-- written as they were if it is merged by itself. The law `attached_files_stay` states it.
 pub record AttachedFilesStay : Type 0 where
   pub numbered : (sources : List Source) → HaveFiles sources → All IsNumbered (attachments_of sources)
   pub uids : (sources : List Source) → HaveFiles sources → map (uint_in FILE_UID) (attachments_of sources) ≡ file_uids (reads_of sources)

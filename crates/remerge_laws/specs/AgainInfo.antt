@@ -9,8 +9,9 @@ use Rattle.merge_plan.specs.Records.{info_of, title_of}
 use Rattle.remerge_laws.specs.Placed.{MayStandAs}
 use Rattle.remerge_laws.specs.Plain.{plain_merge}
 
--- An input `again` with the title of the Info that a merge of `reads` wrote gets this Info if it is merged by itself. The title has no zero byte, and
--- both merges have the default scale.
+-- An input `again` with the title of the Info that a merge `words` of the inputs `reads` wrote has this Info again after it is merged by itself.
+-- `info` is the Info as it is read, `name` the file, and `out` the new output. The title has no zero byte, and both merges have the default scale.
+-- The law `info_is_written_again` states it.
 abbrev pub InfoIsWrittenAgain : Type 0
 InfoIsWrittenAgain =
     (words : MergeWords) (reads : List InputRead) (out name : List ℕ) (info : Option Node) (again : InputRead) → words.scale ≡ 1000000

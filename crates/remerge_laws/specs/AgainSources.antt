@@ -19,14 +19,16 @@ use Rattle.remerge_laws.specs.Plain.{plain_merge}
 use Rattle.remerge_laws.specs.Repeat.{source_again}
 
 -- A merge `words` of one file with the content `bytes` isn't refused before it reads the file; `world` has the content of each name. The output has
--- another name than the files that are read, the file exists, and its journal has no pending edit.
+-- another name than the files that are read, and the file exists. Neither the file nor the output's name has a pending edit. A condition of the law
+-- that an output, merged by itself, is written as it was.
 pub record CanBegin (world : List ℕ → Option (List ℕ)) (words : MergeWords) (bytes : List ℕ) : Type 0 where
   pub apart : first_written words ≡ None
   pub there : map world (file_names words.files) ≡ Some bytes ∷ []
   pub settled : pending_of world words ≡ None
 
 -- A merge of the file `name`, an output with the document `d`, without options and to `out`, has it as its one source. `r` are the records that are
--- read from it. The merge must not be refused before reading or by its plan, and its tracks must be usable.
+-- read from it, and `world` has the content of each name. The merge must not be refused before reading or by its plan, and its tracks must be usable.
+-- The law `outputs_are_sources` states it.
 abbrev pub OutputsAreSources : Type 0
 OutputsAreSources =
     (world : List ℕ → Option (List ℕ)) (out name : List ℕ) (d : Document) (r : FileRecords) → CanBegin world (plain_merge out name) (layout d)
@@ -34,7 +36,8 @@ OutputsAreSources =
     → first_unusable (taken_from (plain_file name) 0 r.tracks) ≡ None → plan_refusal (plain_merge out name) (reads_of (source_again name d r ∷ [])) ≡ None
     → sources_of world (plain_merge out name) ≡ Ok (source_again name d r ∷ [])
 
--- A merge without options of one source without damage ends with the status Done.
+-- A merge of the file `name` to `out`, without options, of one source without damage ends with the status Done. `world` has the content of each name.
+-- The law `merge_is_done` states it.
 abbrev pub MergeIsDone : Type 0
 MergeIsDone =
     (world : List ℕ → Option (List ℕ)) (out name : List ℕ) (source : Source) → sources_of world (plain_merge out name) ≡ Ok (source ∷ [])

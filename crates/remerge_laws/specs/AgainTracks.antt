@@ -18,14 +18,14 @@ use Rattle.requests.specs.Plain.{plain_file}
 use Rattle.remerge_laws.specs.Records.{AreTracksOf}
 
 -- The entries of the Tracks Element `tracks` are plain. Their TrackNumbers count from 1, a merge can select their types, and none has
--- ContentEncodings.
+-- ContentEncodings. A condition of the laws on tracks that are merged again.
 pub record ArePlainTracks (tracks : Node) : Type 0 where
   pub numbers : CountFrom 1 (map number_of (entries_of tracks))
   pub types : All (λ (entry : Node). is_taken_type (type_of entry) ≡ true) (entries_of tracks)
   pub plain : All (λ (entry : Node). first_child CONTENT_ENCODINGS entry ≡ None) (entries_of tracks)
 
 -- The selected tracks `taken` belong to the entries of the Tracks Element `tracks`, one to each, in order. They are plain, with the numbers and
--- identifiers of the entries, and their types decide on cue points.
+-- identifiers of the entries, and their types decide on cue points. It is the result of `TracksAreTakenAgain`.
 pub record AreTakenOf (tracks : Node) (taken : List TakenTrack) : Type 0 where
   pub many : length taken ≡ length (entries_of tracks)
   pub numbers : CountFrom 1 (map (λ (t : TakenTrack). t.track.number) taken)
@@ -33,14 +33,15 @@ pub record AreTakenOf (tracks : Node) (taken : List TakenTrack) : Type 0 where
   pub plain : All IsTakenPlain taken
   pub rules : map rule_of taken ≡ map (λ (entry : Node). default_rule (type_of entry)) (entries_of tracks)
 
--- All tracks `read` from a plain Tracks Element `tracks` are selected by a merge without options.
+-- All tracks `read` from a plain Tracks Element `tracks` are selected by a merge of the file `name` without options. The law `tracks_are_taken_again`
+-- states it.
 abbrev pub TracksAreTakenAgain : Type 0
 TracksAreTakenAgain =
     (name : List ℕ) (tracks : Node) (read : List Track) → ArePlainTracks tracks → AreTracksOf tracks read
     → AreTakenOf tracks (taken_from (plain_file name) 0 read)
 
--- A merge of the selected tracks `taken` wrote TrackEntries. If they have identifiers of 64 bits, they are written as they were when they are merged
--- again.
+-- A merge of the selected tracks `taken` wrote TrackEntries, which are read from the file `name` as `read`. If they are plain and have identifiers of
+-- 64 bits, a merge of `name` without options writes them as they were. The law `entries_are_written_again` states it.
 abbrev pub EntriesAreWrittenAgain : Type 0
 EntriesAreWrittenAgain =
     (name : List ℕ) (taken : List TakenTrack) (read : List Track) → All IsTaken taken → All (λ n. n < 2 ^ 64) (uids_of taken)

@@ -5,20 +5,23 @@ use Rattle.tree_format.specs.Node.{Node, id_of}
 use Rattle.tree_format.specs.NormalForm.{is_filler, octets}
 use Rattle.output_model.specs.Document.{Document, layout}
 
--- The masters or leaves `m` and `n` have the same ID, and the same bytes when written. They are written at all, unlike a Void.
+-- The masters or leaves `m` and `n` have the same ID, and the same bytes when written. They are written at all, unlike a Void. Used to compare the
+-- records of a merge with the ones of the second merge. Used by `AttachedFilesStay`, `MayBeAlike` and others.
 pub record AreAlike (m n : Node) : Type 0 where
   pub id : id_of m ≡ id_of n
   pub some : is_filler (id_of m) ≡ false
   pub same : octets m ≡ octets n
 
--- Both records are absent, or both exist and are written alike.
+-- Both records are absent, or both exist and are written alike. Used for Chapters and Tags, which an output may lack. Used by `TagsAreAlikeAgain`,
+-- `ChaptersAreAlikeAgain` and others.
 abbrev pub MayBeAlike : Option Node → Option Node → Type 0
 MayBeAlike None None = ⊤
 MayBeAlike None (Some n) = ⊥
 MayBeAlike (Some m) None = ⊥
 MayBeAlike (Some m) (Some n) = AreAlike m n
 
--- The documents `d` and `e` have no Duration, records with the same bytes, and the same Clusters and cue points.
+-- The documents `d` and `e` of one DocType have no Duration, records with the same bytes, and the same Clusters and cue points. A condition of
+-- `AlikeDocumentsAreOne`.
 pub record AreAlikeDocuments (d e : Document) : Type 0 where
   pub webm : d.front.webm ≡ e.front.webm
   pub lasting : d.front.lasting ≡ None
@@ -31,6 +34,7 @@ pub record AreAlikeDocuments (d e : Document) : Type 0 where
   pub chapters : MayBeAlike d.chapters e.chapters
   pub tags : MayBeAlike d.tags e.tags
 
--- Documents whose records are written alike, with the same Clusters and cue points, have the same bytes.
+-- Documents `d` and `e` whose records are written alike, with the same Clusters and cue points, have the same bytes. The law
+-- `alike_documents_are_one` states it.
 abbrev pub AlikeDocumentsAreOne : Type 0
 AlikeDocumentsAreOne = (d e : Document) → AreAlikeDocuments d e → layout d ≡ layout e

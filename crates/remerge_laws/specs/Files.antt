@@ -18,27 +18,30 @@ use Rattle.output_laws.specs.Reading.{header_of_segment, level_1_of}
 use Rattle.meta_records.specs.Attached.{AttachedFile, first_attached}
 use Rattle.meta_records.specs.Attachments.{ScannedElement, at_child, attached_in, children_of, limit_passed, met_in, too_many_files}
 
--- the first limit that the Elements of an Attachments pass, after `octets` bytes and `nodes` Elements were counted; damaged ones are left out
+-- the first limit that the Elements of an Attachments pass, after `octets` bytes and `nodes` Elements were counted, or None; damaged ones are left
+-- out. The third argument is the list of Elements, each scanned or damaged. A condition on Attachments uses it.
 abbrev pub passed_from : ℕ → ℕ → List (Result ScannedElement Damage) → Option Damage
 passed_from octets nodes [] = None
 passed_from octets nodes (Err d ∷ rest) = passed_from octets nodes rest
 passed_from octets nodes (Ok m ∷ rest) =
     first_refusal (limit_passed (octets + m.counted) nodes m.header) (passed_from (octets + m.counted) (nodes + 1) rest)
 
--- The Attachments Element with the header `h` in the content `bytes` keeps a reader's limits on its length, its Elements and its files.
+-- The Attachments Element with the header `h` in the content `bytes` keeps a reader's limits on its length, its number of Elements and its number of
+-- files. A condition of the laws on an output that a reader with limits reads.
 pub record AttachmentsKeepLimits (bytes : List ℕ) (h : Header) : Type 0 where
   pub counted : passed_from 0 1 (met_in (at_child bytes) (children_of bytes h)) ≡ None
   pub files : too_many_files (attached_in bytes h) ≡ None
 
 -- The attached file `a`, read from the content `bytes`, is the AttachedFile `n` that was written. It has its ID and its FileUID. With its data and
--- any FileUID, it is written as `n` with that FileUID.
+-- any FileUID, it is written as `n` with that FileUID. Used for the attached files that a merge reads from an output.
 pub record IsFileOf (bytes : List ℕ) (n : Node) (a : AttachedFile) : Type 0 where
   pub id : id_of a.entry ≡ ATTACHED_FILE
   pub uid : a.uid ≡ uint_in FILE_UID n
   pub same : (uid : ℕ)
       → octets (with_data (octets_from bytes a.at a.len) (set_in (uint_leaf FILE_UID uid) a.entry)) ≡ octets (set_in (uint_leaf FILE_UID uid) n)
 
--- A reader with limits finds the attached files of an output with the document `d` whose Attachments keeps the limits: each of them, in order.
+-- A reader with limits finds the attached files of an output with the document `d` whose Attachments keeps the limits: each of them, in order. The
+-- law `files_are_read` states it.
 abbrev pub FilesAreRead : Type 0
 FilesAreRead =
     (d : Document) → IsSoundDocument d → IfSome (first_of ATTACHMENTS (level_1_of d)) (AttachmentsKeepLimits (layout d))

@@ -7,7 +7,7 @@ use Rattle.tree_format.specs.Standing.{placed}
 use Rattle.record_changes.specs.Tags.{written_tag, written_tags}
 use Rattle.record_laws.specs.Tags.{AreSmall, KeepsTarget, keep_all, targets_of}
 
--- The Tag `n` was written by a merge from a Tag of an input, with some identifiers of 64 bits in its Targets.
+-- The Tag `n` was written by a merge from a Tag of an input, with some identifiers of 64 bits in its Targets. A condition of `JoinedTagsStay`.
 pub record IsWrittenTag (n : Node) : Type 0 where
   pub numbers : ℕ → ℕ → Option ℕ
   pub small : AreSmall numbers
@@ -15,7 +15,8 @@ pub record IsWrittenTag (n : Node) : Type 0 where
   pub is : id_of tag ≡ TAG
   pub written : n ≡ written_tag numbers tag
 
--- A Tags Element of Tags that a merge wrote is written as it was after reading, if its Targets keep their identifiers by `again`.
+-- A Tags Element of `tags`, which a merge wrote, is read at the offset `place` and written as it was by the next merge. `again` gives the new
+-- identifier for a child of Targets, by its ID and identifier; it must keep the identifier of each. The law `joined_tags_stay` states it.
 abbrev pub JoinedTagsStay : Type 0
 JoinedTagsStay =
     (again : ℕ → ℕ → Option ℕ) (tags : List Node) (place : ℕ) → All IsWrittenTag tags

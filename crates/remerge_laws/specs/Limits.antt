@@ -17,8 +17,8 @@ use Rattle.remerge_laws.specs.Files.{AttachmentsKeepLimits}
 use Rattle.remerge_laws.specs.Outline.{KeepsReaderLimits}
 use Rattle.remerge_laws.specs.Records.{OutputKeepsLimits}
 
--- A file with the content `bytes` keeps a reader's limits on its length, its first Info and its first Attachments. Its blocks are the same with and
--- without limits.
+-- A file with the content `bytes` keeps a reader's limits: at most LONGEST_FILE (2^48) bytes, a first Info of at most 16 MiB, and the limits of its
+-- first Attachments. Its blocks are the same with and without limits. A condition of the law that an output, merged by itself, is written as it was.
 pub record IsWithinLimits (bytes : List ℕ) : Type 0 where
   pub short : length bytes ≤ LONGEST_FILE
   pub info : (o : Outlined) → outline_without_limits bytes ≡ Ok o → IfSome (first_of INFO o.list) (λ (h : Header). known h.size ≤ MAX_MASTER_LEN)
@@ -26,7 +26,7 @@ pub record IsWithinLimits (bytes : List ℕ) : Type 0 where
   pub blocks : (o : Outlined) → outline_without_limits bytes ≡ Ok o → file_events true bytes o.segment ≡ file_events false bytes o.segment
 
 -- The records of the document `d` are small: its Info has no Duration and at most 65,536 Elements, and its Tracks, Chapters and Tags keep a reader's
--- limits.
+-- limits. A condition of `OctetsKeepLimits`.
 pub record RecordsAreSmall (d : Document) : Type 0 where
   pub lasting : d.front.lasting ≡ None
   pub info : kept d.front.info ≤ MAX_NODES
@@ -34,6 +34,7 @@ pub record RecordsAreSmall (d : Document) : Type 0 where
   pub chapters : IfSome d.chapters KeepsReaderLimits
   pub tags : IfSome d.tags KeepsReaderLimits
 
--- An output whose records are small keeps a reader's limits if its bytes do.
+-- The output with the document `d` keeps a reader's limits if `d` is valid, its records are small, and its bytes keep the limits. The law
+-- `octets_keep_limits` states it.
 abbrev pub OctetsKeepLimits : Type 0
 OctetsKeepLimits = (d : Document) → IsSoundDocument d → RecordsAreSmall d → IsWithinLimits (layout d) → OutputKeepsLimits d

@@ -22,7 +22,7 @@ use Rattle.remerge_laws.specs.Plain.{plain_merge}
 use Rattle.remerge_laws.specs.Repeat.{IsDefault}
 
 -- The content `bytes` is the output of a merge. A command line with default options asked for the merge, and the contents of all files were bytes.
--- Nothing refused it, the records of its sources can be read again, and it had this one output.
+-- Nothing refused it, the records of its sources can be read again, and it had this one output. A condition of `OutputsAreWrittenAgain`.
 pub record IsMergeOutput (bytes : List ℕ) : Type 0 where
   pub world : List ℕ → Option (List ℕ)
   pub octets : HoldsOctets world
@@ -37,7 +37,7 @@ pub record IsMergeOutput (bytes : List ℕ) : Type 0 where
   pub written : map (λ (o : PlannedOutput). layout o.document) (outputs_of words sources) ≡ bytes ∷ []
 
 -- A merge of the file `name`, which has the content `bytes`, by itself, without options and to `out`, isn't refused and has no warning. Its one
--- output has the same content. `world` has the content of each name.
+-- output has the same content. `world` has the content of each name. It is the result of `OutputsAreWrittenAgain`.
 pub record IsWrittenAgain (world : List ℕ → Option (List ℕ)) (out name bytes : List ℕ) : Type 0 where
   pub sources : List Source
   pub taken : sources_of world (plain_merge out name) ≡ Ok sources
@@ -45,14 +45,15 @@ pub record IsWrittenAgain (world : List ℕ → Option (List ℕ)) (out name byt
   pub done : (merge_verdict world (plain_merge out name)).status ≡ Done
 
 -- The content `bytes` is the output of a merge with default options and keeps a reader's limits. A merge of the file `name` that has this content,
--- without options and to `out`, writes it again byte for byte. Nothing may refuse this merge before it reads the file.
+-- without options and to `out`, writes it again byte for byte. `world` has the content of each name. Nothing may refuse this merge before it reads
+-- the file. The law `outputs_are_written_again` states it.
 abbrev pub OutputsAreWrittenAgain : Type 0
 OutputsAreWrittenAgain =
     (world : List ℕ → Option (List ℕ)) (out name bytes : List ℕ) → CanBegin world (plain_merge out name) bytes → IsMergeOutput bytes → IsWithinLimits bytes
     → IsWrittenAgain world out name bytes
 
--- The content that a merge with default options left under its output's name is the output of a merge. `world` has the contents before it, `after`
--- the contents after it, and `line` is the command line that asks for `words`.
+-- The content `bytes` that a merge with default options left under its output's name is the output of a merge. `world` has the contents before it,
+-- `after` the contents after it, and `line` is the command line that asks for `words`. The law `merged_files_are_outputs` states it.
 abbrev pub MergedFilesAreOutputs : Type 0
 MergedFilesAreOutputs =
     (world after : List ℕ → Option (List ℕ)) (line : List (List ℕ)) (words : MergeWords) (bytes : List ℕ)
@@ -62,14 +63,15 @@ MergedFilesAreOutputs =
 -- ---- a run
 
 -- The statement `Stands` holds for a run of the command line `line` that merges the output of a merge by itself and without options. This file keeps
--- a reader's limits, and nothing refuses the merge before reading. The names `old` are visible to the proof, and all contents are bytes.
+-- a reader's limits, and nothing refuses the merge before reading. The names `old` are visible to the proof, and all contents are bytes. `Stands`
+-- gets the contents by name, the output's name and the file's content. `MergesAgain` uses it.
 abbrev pub WhereMergedAgain : Names → List (List ℕ) → ((List ℕ → Option (List ℕ)) → List ℕ → List ℕ → Type 0) → Type 0
 WhereMergedAgain old line Stands =
     IfVisible old (λ world. HoldsOctets world → (out name bytes : List ℕ) → command line ≡ Ok (Merge (plain_merge out name)) → CanBegin world (plain_merge out name) bytes
     → IsMergeOutput bytes → IsWithinLimits bytes → Stands world out bytes)
 
 -- A run of the command line `line` that merges the output of a merge by itself isn't refused and has no warning. If it ends by itself, its output has
--- the content of the file, byte for byte. No other name has changed from `old` to `new`.
+-- the content of the file, byte for byte. No other name has changed from `old` to `new`. Used by the contract of `run`.
 abbrev pub MergesAgain : Names → List (List ℕ) → Names → Status → Type 0
 MergesAgain old line new Done = WhereMergedAgain old line (λ world out bytes. new ≡ with_content (Some world) out bytes)
 MergesAgain old line new Warned = WhereMergedAgain old line (λ world out bytes. ⊥)

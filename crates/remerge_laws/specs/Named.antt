@@ -11,7 +11,8 @@ use Rattle.merge_plan.specs.Identifiers.{Have64Bits, Identifiers, identifiers_of
 use Rattle.merge_plan.specs.Records.{records_of}
 use Rattle.remerge_laws.specs.Joined.{IsWrittenTag}
 
--- the identifiers in `ids` of the kind that a child of Targets with the ID `id` names: tracks, editions, chapters or attached files
+-- the identifiers in `ids`, an output's, of the kind that a child of Targets with the ID `id` names: tracks, editions, chapters or attached files. It
+-- is empty for another ID. `NamesOneOf` uses it.
 abbrev pub named_by : Identifiers → ℕ → List ℕ
 named_by ids id =
     if id == TAG_TRACK_UID then ids.tracks else
@@ -19,16 +20,17 @@ named_by ids id =
     (if id == TAG_CHAPTER_UID then ids.chapters else
     (if id == TAG_ATTACHMENT_UID then ids.files else [])))
 
--- The child `target` of a Targets names one of the identifiers `ids`.
+-- `target`, a child of a Targets, names one of the identifiers `ids` of an output. Used by the law on the Targets of joined Tags.
 abbrev pub NamesOneOf : Identifiers → Node → Type 0
 NamesOneOf ids target = Contains (named_by ids (id_of target)) (integer_of target)
 
--- the Tags that a merge of the inputs `reads` writes, in one Tags Element
+-- the Tags that a merge of the inputs `reads` writes, in one Tags Element. Used by the law on the Targets of joined Tags.
 abbrev pub tags_joined : List InputRead → Node
 tags_joined reads = joined_tags (numbers_of (records_of reads)) (records_of reads)
 
--- Each Tag that a merge of `reads` writes was written from an input. Its Targets name tracks, editions, chapters and attached files that the output
--- has, also after it is read.
+-- Each Tag that a merge of the inputs `reads` writes was written from an input's Tag. Its Targets name tracks, editions, chapters and attached files
+-- that the output has, also after it is read at the offset `place`. The output's identifiers must have 64 bits. The law `joined_tags_name_the_output`
+-- states it.
 pub record JoinedTagsNameTheOutput : Type 0 where
   pub written : (reads : List InputRead) → Have64Bits (identifiers_of reads) → All IsWrittenTag (tags_from (numbers_of (records_of reads)) (records_of reads))
   pub named : (reads : List InputRead) (place : ℕ) → Have64Bits (identifiers_of reads)

@@ -11,12 +11,14 @@ use Rattle.output_model.specs.Document.{Document, layout}
 use Rattle.output_model.specs.Sound.{IsSoundDocument}
 use Rattle.output_laws.specs.Reading.{outline_of_document}
 
--- A reader with limits can read the record `n`: it has at most 16 MiB and 65,536 Elements.
+-- A reader with limits can read the record `n`: it has at most 16 MiB of content and 65,536 Elements. A condition on Info, Tracks, Chapters and Tags
+-- of an output. Used by `OutputBlocksAreRead`, `RecordsAreSmall` and others.
 pub record KeepsReaderLimits (n : Node) : Type 0 where
   pub short : length (content n) ≤ MAX_MASTER_LEN
   pub few : kept n ≤ MAX_NODES
 
--- The document `d` has no Duration. A reader with limits can read its Info, Tracks, Chapters and Tags.
+-- The document `d` has no Duration. A reader with limits can read its Info, Tracks, Chapters and Tags. A condition of the laws on an output that is
+-- read. Used by `OutlinesAreRead`, `TreesAreRead` and others.
 pub record RecordsKeepLimits (d : Document) : Type 0 where
   pub lasting : d.front.lasting ≡ None
   pub info : KeepsReaderLimits d.front.info
@@ -24,7 +26,8 @@ pub record RecordsKeepLimits (d : Document) : Type 0 where
   pub chapters : IfSome d.chapters KeepsReaderLimits
   pub tags : IfSome d.tags KeepsReaderLimits
 
--- A reader with limits finds the outline of an output whose records keep the limits, by its document `d`.
+-- A reader with limits finds the outline of the output with the valid document `d`, as the document gives it, if its Info, Tracks, Chapters and Tags
+-- keep the limits. The law `outlines_are_read` states it.
 abbrev pub OutlinesAreRead : Type 0
 OutlinesAreRead =
     (d : Document) → IsSoundDocument d → RecordsKeepLimits d → outline_of 0 (layout d) ≡ Ok (outline_of_document d (length (layout d)))

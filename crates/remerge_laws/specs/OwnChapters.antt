@@ -7,7 +7,8 @@ use Rattle.record_changes.specs.Atoms.{chapter_uids, edition_uids}
 use Rattle.record_laws.specs.Chapters.{AreChapters, chapter_numbers, edition_numbers, settled}
 use Rattle.remerge_laws.specs.Placed.{StandsAs}
 
--- Chapters that a merge gave identifiers have them after they are written and `read`, and a merge writes their children as they were.
+-- `chapters` are Chapters before a merge gave them identifiers, and `read` is what was then written, as it is read. `read` has these identifiers, and
+-- a merge writes its children as they were. A step of the law on Chapters that are merged again. The law `own_chapters_stay` states it.
 pub record OwnChaptersStay : Type 0 where
   pub editions : (chapters read : Node) → AreChapters chapters → StandsAs (settled chapters) read → edition_uids read ≡ edition_numbers chapters
   pub chapters : (chapters read : Node) → AreChapters chapters → StandsAs (settled chapters) read → chapter_uids read ≡ chapter_numbers chapters

@@ -13,22 +13,23 @@ use Rattle.record_changes.specs.Identifiers.{AreSettled, renumbered}
 use Rattle.meta_records.specs.Attached.{AttachedFile}
 use Rattle.remerge_laws.specs.Files.{IsFileOf}
 
--- The AttachedFile `n` has exactly one FileUID, of 64 bits, as a merge writes it.
+-- The AttachedFile `n` has exactly one FileUID, of 64 bits, as a merge writes it. A condition of `OwnFilesStay`.
 pub record IsNumbered (n : Node) : Type 0 where
   pub master : IsMaster n
   pub uid : ℕ
   pub small : uid < 2 ^ 64
   pub one : part FILE_UID (children n) ≡ uint_leaf FILE_UID uid ∷ []
 
--- the AttachedFiles that are written for the attached files `files` of the content `bytes`, with the FileUIDs in the second list, each with its data
+-- the AttachedFiles that a merge writes for attached files of the content `bytes`, each with its data; the second list has their FileUIDs and the
+-- third the files. `OwnFilesStay` compares them with the ones of the first merge.
 abbrev pub written_files : List ℕ → List ℕ → List AttachedFile → List Node
 written_files bytes [] files = []
 written_files bytes (uid ∷ uids) [] = []
 written_files bytes (uid ∷ uids) (a ∷ files) =
     with_data (octets_from bytes a.at a.len) (set_in (uint_leaf FILE_UID uid) a.entry) ∷ written_files bytes uids files
 
--- The AttachedFiles `ns`, which a merge has numbered, are read from the content `bytes` as `files`. They keep their FileUIDs and are written as they
--- were.
+-- The AttachedFiles `ns`, which a merge has numbered, are read from the content `bytes` as `files`. If their FileUIDs are positive and distinct, a
+-- merge by itself keeps them and writes the AttachedFiles as they were. The law `own_files_stay` states it.
 abbrev pub OwnFilesStay : Type 0
 OwnFilesStay =
     (bytes : List ℕ) (ns : List Node) (files : List AttachedFile) → AllZip (IsFileOf bytes) ns files → All IsNumbered ns

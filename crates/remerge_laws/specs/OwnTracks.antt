@@ -11,7 +11,8 @@ use Rattle.track_records.specs.Entry.{IsWholeEntry}
 use Rattle.record_laws.specs.Again.{AreNumbered, merged_again, written_entries}
 use Rattle.remerge_laws.specs.Records.{AreTracksOf}
 
--- The tracks `read` from the TrackEntries that a merge wrote are written as they were. The entries are `entries` with `changes`, which numbered them.
+-- The tracks `read` from the TrackEntries that a merge wrote are written as they were by a merge without options. The entries are `entries` with
+-- `changes`, which numbered them from 1 and gave them TrackUIDs of 64 bits. The law `own_tracks_stay` states it.
 abbrev pub OwnTracksStay : Type 0
 OwnTracksStay =
     (changes : List TrackChange) (entries : List Node) (read : List Track) → All IsWholeEntry entries → All (λ c. c.uid < 2 ^ 64) changes

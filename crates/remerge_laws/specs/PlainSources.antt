@@ -10,7 +10,8 @@ use Rattle.mkv_merge.specs.Merge.{sources_of}
 use Rattle.merge_laws.specs.Sources.{HoldsOctets}
 use Rattle.remerge_laws.specs.Repeat.{ArePlainSources, IsDefault}
 
--- The sources that are read for a command line `line` with default options are plain, if the contents of files are bytes.
+-- The sources that a merge reads for a command line `line` with default options are plain, if the contents of files in `world` are bytes. `world` has
+-- the content of each name, and `words` is the command line as it is understood. The law `sources_are_plain` states it.
 abbrev pub SourcesArePlain : Type 0
 SourcesArePlain =
     (world : List ℕ → Option (List ℕ)) (line : List (List ℕ)) (words : MergeWords) (sources : List Source) → HoldsOctets world → All IsUtf8 line

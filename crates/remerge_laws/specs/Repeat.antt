@@ -26,7 +26,8 @@ use Rattle.remerge_laws.specs.Limits.{IsWithinLimits}
 use Rattle.remerge_laws.specs.Plain.{plain_merge}
 use Rattle.remerge_laws.specs.Whole.{whole_document}
 
--- The command line `words` asks for no WebM, cue points, parts, identifiers or Duration, and for the default ticks and Clusters.
+-- The command line `words` asks for no WebM, cue points, parts, identifiers or Duration, and has the default ticks (1,000,000 ns) and Cluster limits
+-- (65,535 blocks, 5 s). A condition on the first merge in the law that an output, merged by itself, is written as it was.
 pub record IsDefault (words : MergeWords) : Type 0 where
   pub webm : words.webm ≡ false
   pub scale : words.scale ≡ 1000000
@@ -37,17 +38,20 @@ pub record IsDefault (words : MergeWords) : Type 0 where
   pub duration : words.duration ≡ false
   pub cues : All (λ (f : FileWords). f.cues ≡ []) words.files
 
--- The sources `sources` of the merge `words` are plain. Only the types of their tracks decide on cue points, and the title has no zero byte.
+-- The sources `sources` of the merge `words` are plain. Only the types of their tracks decide on cue points, and the title of the output has no zero
+-- byte. A condition of `OutputsAreRepeated`.
 pub record ArePlainSources (words : MergeWords) (sources : List Source) : Type 0 where
   pub cues : All (λ (t : TakenTrack). t.cues ≡ None) (tracks_taken (reads_of sources))
   pub title : HasNoZero (title_of words (reads_of sources))
 
--- the output with the document `d` and the name `name`, as the source of a merge without options. `r` are the records that were read from it.
+-- the output with the document `d` and the name `name`, as the source of a merge without options. `r` are the records that were read from it. Used by
+-- the laws on an output that is merged by itself.
 abbrev pub source_again : List ℕ → Document → FileRecords → Source
 source_again name d r = (layout d, input_with (plain_file name) false (outline_of_document d (length (layout d))) r)
 
--- The output with the document `d` is repeated by a merge of the file `name`, without options and to `out`. Its outline and its records `r` are read,
--- and each track can be used. The plan isn't refused. It has one output, which is as it was, byte for byte, and no damage is met.
+-- A merge of the file `name`, which is the output with the document `d`, without options and to `out`, repeats it. Its outline and its records `r`
+-- are read, and each track can be used. The plan isn't refused. It has one output, which is as it was, byte for byte, and no damage is met. Used by
+-- `OutputsAreRepeated`.
 pub record IsRepeated (out name : List ℕ) (d : Document) (r : FileRecords) : Type 0 where
   pub outline : outline_of 0 (layout d) ≡ Ok (outline_of_document d (length (layout d)))
   pub read : file_records (layout d) (header_of_segment d) ≡ Ok r
@@ -56,7 +60,8 @@ pub record IsRepeated (out name : List ℕ) (d : Document) (r : FileRecords) : T
   pub outputs : map laid_out (outputs_of (plain_merge out name) (source_again name d r ∷ [])) ≡ record { name = out; content = layout d } ∷ []
   pub undamaged : has_damage (plain_merge out name) (source_again name d r ∷ []) ≡ false
 
--- The output of a merge `words` with default options and plain sources is repeated, if it keeps a reader's limits.
+-- The output of a merge `words` of `sources`, with default options and plain sources, is repeated by a merge of the file `name` to `out`. It must
+-- keep a reader's limits, and the sources and their records must be valid. The law `outputs_are_repeated` states it.
 abbrev pub OutputsAreRepeated : Type 0
 OutputsAreRepeated =
     (words : MergeWords) (sources : List Source) (out name : List ℕ) → IsDefault words → IsSoundMerge words → AreTexts words → AreSources words sources

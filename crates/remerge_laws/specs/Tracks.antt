@@ -9,7 +9,8 @@ use Rattle.track_records.specs.declared.track.Track.{Track}
 use Rattle.track_records.specs.Track.{track_of, tracks_of}
 use Rattle.remerge_laws.specs.Placed.{StandsAs}
 
--- The track `t` has the values of the TrackEntry `entry` that was written, and has this entry as it is read.
+-- The track `t` has the values of the TrackEntry `entry` that was written, and has this entry as it is read. Used for the tracks that a merge reads
+-- from an output.
 pub record IsTrackOf (entry : Node) (t : Track) : Type 0 where
   pub number : t.number ≡ number_of entry
   pub uid : t.uid ≡ uid_of entry
@@ -19,7 +20,8 @@ pub record IsTrackOf (entry : Node) (t : Track) : Type 0 where
   pub duration : t.default_duration ≡ default_duration_of entry
   pub stands : StandsAs entry t.entry
 
--- A Tracks Element that isn't refused isn't refused after it was written and read, and its tracks belong to its entries.
+-- A Tracks Element `tracks` that isn't refused isn't refused after it was written and read at the offset `place`, and its tracks belong to its
+-- entries. The law `tracks_are_read` states it.
 pub record TracksAreRead : Type 0 where
   pub good : (tracks : Node) (place : ℕ) → refusal_of tracks ≡ None
       → tracks_of (placed place tracks) ≡ Ok (map track_of (entries_of (placed place tracks)))

@@ -7,12 +7,14 @@ use Rattle.tree_format.specs.Order.{tree_without_limits}
 use Rattle.tree_format.specs.Standing.{kept}
 use Rattle.output_model.specs.Sound.{IsRecord}
 
--- A master that is read without limits is the same with limits, if it has at most `nodes` Elements and isn't too deep.
+-- A master `n` that is read without limits is the same with limits, if it has at most `nodes` Elements and isn't too deep. It has the ID `id`, its
+-- header is at `offset`, and its content `body` at `base`. The law `small_trees_are_read` states it.
 abbrev pub SmallTreesAreRead : Type 0
 SmallTreesAreRead =
     (id offset : ℕ) (body : List ℕ) (base nodes : ℕ) (n : Node) → tree_without_limits id offset body base ≡ Ok n
     → count n ≤ nodes → depth n ≤ deepest → tree_of id offset body base nodes ≡ Ok n
 
--- Two records with the ID `own` whose contents are written alike have equally many Elements that are written: Void and CRC-32 don't count.
+-- Two records `m` and `n` with the ID `own` whose contents are written alike have equally many Elements that are written: Void and CRC-32 don't
+-- count. The law `alike_records_count_alike` states it.
 abbrev pub AlikeRecordsCountAlike : Type 0
 AlikeRecordsCountAlike = (own : ℕ) (m n : Node) → IsRecord own m → IsRecord own n → content m ≡ content n → kept m ≡ kept n

@@ -11,19 +11,21 @@ use Rattle.mkv_merge.specs.Merge.{blocks_of, outputs_of}
 use Rattle.remerge_laws.specs.Limits.{RecordsAreSmall}
 
 -- the document of the merge `words` of `sources` that isn't split and whose output gets no identifier. It has all blocks, with the unchanged Elements
--- around them.
+-- around them. Used by the laws on an output that is merged by itself.
 abbrev pub whole_document : MergeWords → List Source → Document
 whole_document words sources =
     document_of (limits_of words) (rules_given (reads_of sources)) (front_of words sources) (chapters_of (reads_of sources)) (tags_of (reads_of sources))
     (blocks_of words sources)
 
--- A merge that isn't split, and whose output gets no identifier, has one output, with all blocks and the document `whole_document`.
+-- A merge `words` of `sources` without `--split` and `--segment-uid` has one output, with all blocks and the document `whole_document`. The law
+-- `whole_merges_have_one_document` states it.
 abbrev pub WholeMergesHaveOneDocument : Type 0
 WholeMergesHaveOneDocument =
     (words : MergeWords) (sources : List Source) → words.split ≡ None → words.uuids ≡ []
     → outputs_of words sources ≡ record { name = words.output; blocks = blocks_of words sources; document = whole_document words sources } ∷ []
 
--- If a merge without a Duration isn't refused, its records keep the limits that a plan must keep.
+-- If the merge `words` of `sources` has no Duration and its plan isn't refused, the records of `whole_document` keep a reader's limits. The law
+-- `whole_merges_have_small_records` states it.
 abbrev pub WholeMergesHaveSmallRecords : Type 0
 WholeMergesHaveSmallRecords =
     (words : MergeWords) (sources : List Source) → words.duration ≡ false → plan_refusal words (reads_of sources) ≡ None → RecordsAreSmall (whole_document words sources)

@@ -2,7 +2,7 @@
 
 //! Laws on the output of a merge that is merged again by itself: it is written as it was, byte for byte. See RFC 9559,
 //! section 5.1 (Segment Element). The functions do nothing; their contracts are the laws. `run` cites
-//! `outputs_are_written_again`, and the others lead to it.
+//! `outputs_are_written_again`, and most of the others lead to it.
 
 mod merges;
 mod outputs;

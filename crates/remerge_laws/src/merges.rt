@@ -18,70 +18,79 @@ use output_laws::lanes_are_read_again;
 use record_laws::{chapters_stay, tags_stay, tracks_stay};
 use word_laws::titles_are_texts;
 
-/// States that a merge that isn't split, and whose output gets no identifier, has one output with one document.
+/// States that a merge without `--split` and `--segment-uid` has one output with one document.
+/// `merged_files_are_outputs` cites this law, and the proof of `outputs_are_repeated` uses it.
 pub fn whole_merges_have_one_document()
     ensures { WholeMergesHaveOneDocument }
 {}
 
-/// States that the records of that document keep a reader's limits if the merge wasn't refused.
+/// States that the Info, Tracks, Chapters and Tags of a merge's output keep a reader's limits. The merge must have no
+/// `--split`, `--segment-uid` or `--duration`, and its plan must not be refused. It is a step of the proof of
+/// `outputs_are_repeated`.
 pub fn whole_merges_have_small_records()
     ensures { WholeMergesHaveSmallRecords }
 {}
 
-/// States that the Targets in the Tags of a merge's output name tracks, editions, chapters and attached files that the
-/// output has.
+/// States that the Targets in the Tags of a merge's output name only tracks, editions, chapters and attached files that
+/// the output has. Its identifiers must have 64 bits. It is a step of the proof of `tags_are_alike_again`.
 pub fn joined_tags_name_the_output()
     ensures { JoinedTagsNameTheOutput }
 {}
 
-/// States that an output with the identifiers of its merge gets the same Tags if it is merged by itself.
+/// States that an output with the identifiers that its merge gave has the same Tags after it is merged by itself. It is
+/// a step of the proof of `outputs_are_repeated`.
 pub fn tags_are_alike_again()
     ensures { TagsAreAlikeAgain }
 {
     tags_stay();
 }
 
-/// States that an output gets its own attached files if it is merged by itself.
+/// States that an output keeps its attached files, with their FileUIDs, if it is merged by itself. It is a step of the
+/// proof of `outputs_are_repeated`.
 pub fn attached_files_stay()
     ensures { AttachedFilesStay }
 {}
 
 /// States that an output that is merged by itself gives the same blocks on each output track, and that no damage is met
-/// in it.
+/// in it. It is a step of the proofs of `outputs_are_repeated` and of the laws of `generate`.
 pub fn lanes_are_merged_again()
     ensures { LanesAreMergedAgain }
 {
     lanes_are_read_again();
 }
 
-/// States that all tracks of an output that is merged by itself are selected, and that their options change nothing.
+/// States that a merge without options selects all tracks of an output, and that their options change nothing. It is a
+/// step of the proof of `outputs_are_repeated`.
 pub fn tracks_are_taken_again()
     ensures { TracksAreTakenAgain }
 {}
 
 /// States that the TrackEntries of an output are written byte for byte as they were if it is merged by itself and
 /// without options. They must be numbered from 1, of types that a merge selects, and without ContentEncodings, and
-/// their TrackUIDs must have 64 bits.
+/// their TrackUIDs must have 64 bits. It is a step of the proof of `outputs_are_repeated`.
 pub fn entries_are_written_again()
     ensures { EntriesAreWrittenAgain }
 {
     tracks_stay();
 }
 
-/// States that an output gets its own Chapters if it is merged by itself.
+/// States that an output keeps its Chapters, with their identifiers, if it is merged by itself. It is a step of the
+/// proof of `outputs_are_repeated`.
 pub fn chapters_are_alike_again()
     ensures { ChaptersAreAlikeAgain }
 {
     chapters_stay();
 }
 
-/// States that an output gets its own Info if it is merged by itself.
+/// States that an output keeps its Info if it is merged by itself. Both merges must have the default scale, and the
+/// title no zero byte. It is a step of the proof of `outputs_are_repeated`.
 pub fn info_is_written_again()
     ensures { InfoIsWrittenAgain }
 {}
 
 /// States that the sources of a merge with default options are plain, if the contents of files are bytes. Plain means
 /// that only the types of their tracks decide on cue points, and that the title has no zero byte.
+/// `outputs_are_written_again` cites this law.
 pub fn sources_are_plain()
     ensures { SourcesArePlain }
 {
@@ -90,7 +99,7 @@ pub fn sources_are_plain()
 }
 
 /// States that an output of plain sources that keeps a reader's limits is written as it was, byte for byte. It is
-/// merged by itself and without options, and the plan isn't refused.
+/// merged by itself and without options, and the plan isn't refused. `outputs_are_written_again` cites this law.
 pub fn outputs_are_repeated()
     ensures { OutputsAreRepeated }
 {
@@ -103,18 +112,20 @@ pub fn outputs_are_repeated()
 }
 
 /// States that an output that is merged by itself and without options is the one source of that merge, if nothing
-/// refuses it.
+/// refuses it. `outputs_are_written_again` cites this law.
 pub fn outputs_are_sources()
     ensures { OutputsAreSources }
 {}
 
-/// States that a merge without options of one source without damage ends without a warning.
+/// States that a merge without options of one source without damage ends without a warning, with the status Done.
+/// `outputs_are_written_again` cites this law.
 pub fn merge_is_done()
     ensures { MergeIsDone }
 {}
 
-/// States that the content that a run of a merge with default options left under its output's name is the output of a
-/// merge.
+/// States that a merge with default options leaves, under its output's name, a file to which
+/// `outputs_are_written_again` applies. The contents of all files must have been bytes before. It is a law for readers
+/// of the proof; no function cites it.
 pub fn merged_files_are_outputs()
     ensures { MergedFilesAreOutputs }
 {

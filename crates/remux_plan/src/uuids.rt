@@ -11,7 +11,8 @@ pub struct PartUuids {
     pub next: Option<u128>,
 }
 
-// Returns the SegmentUUID of the output with the number `number`, counted from 1, if `uuids` has one for it.
+// Returns the SegmentUUID of the output with the number `number`, counted from 1, if `uuids` has one for it, or None.
+// `uuids_at` calls it for the output and its neighbours.
 fn uuid_at(uuids: &[u128], number: usize) -> Option<u128>
     ensures { result ≡ uuid_at uuids.now number }
 {
@@ -19,8 +20,9 @@ fn uuid_at(uuids: &[u128], number: usize) -> Option<u128>
     uuids.get(k).copied()
 }
 
-/// Returns the identifiers in the Info of the output with the number `number`, counted from 1. `uuids` are the given
-/// SegmentUUIDs. With `link` they include the ones of the previous and the next output.
+/// Returns the identifiers in the Info of the output with the number `number`, counted from 1, for `merge` before it
+/// writes the output. `uuids` are the given SegmentUUIDs. With `link` they include the ones of the previous and the
+/// next output.
 pub fn uuids_at(uuids: &[u128], link: bool, number: usize) -> PartUuids
     ensures { result ≡ uuids_at uuids.now link number }
 {

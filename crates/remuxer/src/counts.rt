@@ -13,8 +13,8 @@ pub struct Counts {
 }
 
 impl Counts {
-    /// Counts one more block of an output. `begins` is true if it begins a Cluster, and `cued` if it gets a cue point;
-    /// cue points above the limit aren't kept.
+    /// Counts one more block of an output, after `merge` has put it into its Cluster. `begins` is true if it begins a
+    /// Cluster, and `cued` if it gets a cue point; cue points above the limit aren't kept.
     pub(crate) fn add(&mut self, begins: bool, cued: bool)
         ensures { self.new ≡ counted_with begins cued self.old }
     {

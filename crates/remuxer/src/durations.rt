@@ -12,7 +12,8 @@ use mkv_schema::ids::{DEFAULT_DURATION, TRACK_ENTRY};
 use output_model::{Durations, Front};
 use std::alloc::{AllocError, Global};
 
-// Returns the DefaultDuration of each TrackEntry of `tracks` in nanoseconds, if it has one.
+// Returns the DefaultDuration of each TrackEntry of the Tracks `tracks` in nanoseconds, or None if it has none. Fails
+// if memory runs out. For `durations_for`, while `merge` writes an output.
 fn default_durations(alloc: Global, tracks: &Tree) -> Result<List<Option<u64>>, AllocError>
     requires { IsSoundOf TRACKS tracks.now }
     ensures { IfOk result (λ durations. durations ≡ map default_duration_of (entries_of tracks.now)) }
@@ -27,7 +28,8 @@ fn default_durations(alloc: Global, tracks: &Tree) -> Result<List<Option<u64>>, 
 }
 
 /// Returns the durations of frames on the output tracks of `front`, with `scale` nanoseconds per tick. Without a
-/// Duration in the Info of the output they aren't needed, and there are none.
+/// Duration in the Info of the output they aren't needed, and there are none. `write_output` gets them before it begins
+/// the file, to compute the Duration from them.
 pub(crate) fn durations_for(
     alloc: Global,
     scale: u64,

@@ -13,7 +13,7 @@ use mkv_schema::ids::{INFO, NEXT_UUID, PREV_UUID, SEGMENT_UUID};
 use remux_plan::PartUuids;
 use std::alloc::{AllocError, Global};
 
-// Appends copies of the Elements `children` to the Info `info`.
+// Appends copies of the Elements `children` to the Info `info`. Fails if memory runs out. For `info_with`.
 fn add_copies(alloc: Global, info: &mut Tree, children: &[Tree]) -> Result<(), AllocError>
     requires master { IsMaster info.old }
     requires room { depth_all (nodes_of children.now) < deepest }
@@ -26,7 +26,7 @@ fn add_copies(alloc: Global, info: &mut Tree, children: &[Tree]) -> Result<(), A
 }
 
 // Appends the Element `id` with the identifier `uuid`, highest byte first, to the Info `info`, if the identifier is
-// given.
+// given. Fails if memory runs out. For `add_uuids`.
 fn add_uuid(alloc: Global, info: &mut Tree, id: u32, uuid: Option<u128>) -> Result<(), AllocError>
     requires master { IsMaster info.old }
     requires id { IsTrue (is_id id) }
@@ -39,7 +39,8 @@ fn add_uuid(alloc: Global, info: &mut Tree, id: u32, uuid: Option<u128>) -> Resu
     info.push(Tree::leaf(alloc, id, &uuid.to_be_bytes())?)
 }
 
-// Appends the identifiers `uuids` of an output to its Info: SegmentUUID, PrevUUID and NextUUID, each if present.
+// Appends the identifiers `uuids` of an output to its Info `info`: SegmentUUID, PrevUUID and NextUUID, each if present.
+// Fails if memory runs out. For `info_with`.
 fn add_uuids(alloc: Global, info: &mut Tree, uuids: PartUuids) -> Result<(), AllocError>
     requires { IsMaster info.old }
     ensures added { OnOk result (info.new ≡ with_more info.old (uuid_elements uuids)) }
@@ -50,7 +51,8 @@ fn add_uuids(alloc: Global, info: &mut Tree, uuids: PartUuids) -> Result<(), All
     add_uuid(alloc, info, NEXT_UUID, uuids.next)
 }
 
-/// Returns the Info `info` with the identifiers `uuids` after its first child.
+/// Returns a copy of the Info `info` with the identifiers `uuids` after its first child. `write_own` makes the Info of
+/// each output of `merge` so. Fails if memory runs out.
 pub(crate) fn info_with(alloc: Global, info: &Tree, uuids: PartUuids) -> Result<Tree, AllocError>
     requires id { id_of info.now ≡ INFO_ID }
     requires master { IsMaster info.now }

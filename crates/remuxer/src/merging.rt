@@ -17,7 +17,8 @@ use splitter::SplitSpec;
 use std::alloc::Global;
 use time_merge::Merge;
 
-/// Checks whether an output is cut into parts, at times or by size.
+/// Checks whether the output of `merge` is cut into parts, at the times in `split` or by `size`, the size of a part in
+/// bytes. If it is, `remux` gives each part a name of its own.
 fn is_split(split: &SplitSpec, size: Option<u64>) -> bool
     ensures { result ≡ (is_timed split.now || is_some size) }
 {
@@ -27,8 +28,9 @@ fn is_split(split: &SplitSpec, size: Option<u64>) -> bool
     }
 }
 
-/// Writes the outputs of the plan `plan`, each from first to last byte, and returns a summary of them and of the
-/// inputs' damaged places. Blocks are written as they are read; at most one Cluster is in memory.
+/// Writes the outputs of the plan `plan` among `files`, each from first to last byte. Returns a summary of them and of
+/// the inputs' damaged places. Blocks are written as they are read; at most one Cluster is in memory. `merge` calls it
+/// when its plan is made.
 ///
 /// After an error the first outputs are complete, and the next one may be incomplete. Nothing else was changed.
 pub fn remux<F: Files>(alloc: Global, plan: MergePlan, files: &mut F) -> Result<Summary, RemuxEnd>

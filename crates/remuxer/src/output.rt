@@ -30,8 +30,9 @@ pub(crate) struct WrittenPart {
     pub(crate) counts: Counts,
 }
 
-// Returns the Chapters of a part from the tick `start` to the tick `end`, both of the whole output. Unless the output
-// is cut into parts it returns none.
+// Returns the Chapters of a part from the tick `start` to the tick `end`, both of the whole output; the last part has
+// no `end`. Returns none unless the output is cut into parts. `fill` calls it once the part's end is known. Fails if
+// memory runs out.
 fn cut_chapters(
     alloc: Global,
     spec: &OutputSpec,
@@ -59,15 +60,15 @@ fn cut_chapters(
 }
 
 // Returns the Chapters that are written to a part: `part`, the ones in its period, if the output is cut into parts,
-// otherwise all.
+// otherwise all. `write_output` writes them after the Clusters.
 fn chapters_in<'a>(spec: &'a OutputSpec, part: &'a Option<Tree>) -> &'a Option<Tree>
     ensures { result.now ≡ chapters_in spec.now part.now }
 {
     if spec.split { part } else { &spec.chapters }
 }
 
-// Appends all blocks of the current part to the output, and writes its last Cluster. Returns the part's Chapters if the
-// output is cut into parts.
+// Appends all blocks of the current part of `blocks` to the output in `writer`, and writes its last Cluster. Returns
+// the part's Chapters if the output is cut into parts. `write_output` calls it once the start of the file is written.
 fn fill<F: Files>(
     alloc: Global,
     files: &mut F,
@@ -89,8 +90,8 @@ fn fill<F: Files>(
     Ok(chapters)
 }
 
-/// Writes the output `name` with the blocks of the current part of `blocks`. No file of it stays open, also after an
-/// error.
+/// Writes the file `name` with the blocks of the current part of `blocks`, and returns its counts. `spec` describes the
+/// rest of the output. No file of it stays open, also after an error. `write_own` calls it for each output of `merge`.
 pub(crate) fn write_output<F: Files>(
     alloc: Global,
     files: &mut F,

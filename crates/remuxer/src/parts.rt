@@ -17,7 +17,8 @@ use splitter::part_name;
 use std::alloc::{AllocError, Global};
 use std::mem;
 
-// Returns the name of the output with the number `number`, counted from 1.
+// Returns the file name of the output with the number `number`, counted from 1. It is the name on the command line, or
+// one made from it if the output is cut into parts. For `write_own`, while `merge` writes an output.
 fn name_of(alloc: Global, spec: &OutputSpec, number: u64) -> Result<Text, AllocError>
     ensures { IfOk result (λ name. name ≡ name_of spec.now.split spec.now.name number) }
 {
@@ -28,8 +29,8 @@ fn name_of(alloc: Global, spec: &OutputSpec, number: u64) -> Result<Text, AllocE
     }
 }
 
-// Writes the current part as the output with the number `number`, counted from 1, with its own identifiers, and returns
-// its summary.
+// Writes the current part of `blocks` as the output with the number `number`, counted from 1, with its own identifiers
+// in its Info. Returns its summary. For `write_next`; after a success `spec` is unchanged.
 fn write_own<F: Files>(
     alloc: Global,
     files: &mut F,
@@ -59,8 +60,8 @@ fn write_own<F: Files>(
     })
 }
 
-// Writes the current part as the next output, and appends its summary to `written`. Begins the next part, which has no
-// attached files, and returns true if there is one.
+// Writes the current part of `blocks` as the next output, and appends its summary to `written`. Begins the next part,
+// which has no attached files, and returns true if there is one. A turn of the loop of `write_parts`.
 fn write_next<F: Files>(
     alloc: Global,
     files: &mut F,
@@ -83,8 +84,9 @@ fn write_next<F: Files>(
     Ok(begun)
 }
 
-/// Writes an output for each part of a merge in sequence, and returns their summaries. Only the first has the attached
-/// files. After an error the first outputs are complete, and the next one may be incomplete.
+/// Writes an output for each part of the merge `blocks` in sequence, by the description `spec`, and returns their
+/// summaries. Only the first has the attached files. After an error the first outputs are complete, and the next one
+/// may be incomplete. For `remux`.
 pub(crate) fn write_parts<F: Files>(
     alloc: Global,
     files: &mut F,

@@ -32,7 +32,8 @@ pub(crate) struct PlacedBlocks {
     pub(crate) start: u64,
 }
 
-// Returns the tick at the start of the part that a block with the place `place` begins, if it begins one.
+// Returns the tick at the start of the part that a block with the place `place` begins, or None if it begins no part.
+// For `next_part`, while `merge` writes an output.
 fn start_in(place: Place) -> Option<u64>
     ensures { result ≡ start_in place }
 {
@@ -42,8 +43,8 @@ fn start_in(place: Place) -> Option<u64>
     }
 }
 
-// Returns the number of bytes of the last block of `lane` that count towards the size of a part. They don't count if
-// parts aren't cut by size.
+// Returns the number of bytes of the last block of `lane`, as it is written, that count towards the size of a part.
+// They don't count unless `cuts` cuts parts by size. For `advance`, while `merge` writes an output.
 fn load_of(cuts: &PartCuts, lane: &Lane) -> u64
     requires { IsLent (lent lane.now) }
     ensures { result ≡ octets_counted cuts.now (lent_block (lent lane.now)) }
@@ -67,6 +68,7 @@ impl PlacedBlocks {
     ghost use Rattle.remuxer.specs.Output.{FindsBehind, FindsFirst};
 
     /// Returns the number of the output track of the block ahead, counted from 0, if this block is in the current part.
+    /// At the part's end it returns None. `add_part` writes blocks until then.
     pub(crate) fn lane_within(&self) -> Option<usize>
         ensures { result ≡ lane_within self.now.ahead }
     {
@@ -81,8 +83,8 @@ impl PlacedBlocks {
         }
     }
 
-    /// Returns the tick at the end of the current part: the tick of the block ahead, or the part's own start if that is
-    /// later.
+    /// Returns the end of the current part as a tick of the whole output, or None if no block is left. It is the tick
+    /// of the block ahead, or the part's own start if that is later. For the Chapters of the part.
     pub(crate) fn end_of_part(&self) -> Option<u64>
         requires { StandsAhead self.now }
         ensures { result ≡ option_map (max self.now.start) (first_tick (lent_ahead self.now)) }
@@ -93,7 +95,9 @@ impl PlacedBlocks {
         }
     }
 
-    /// Reads the next block of the merge and decides its place. It is the block ahead then, if there is one.
+    /// Reads the next block of the merge from `src` and decides its place. It is the block ahead then; at the end of
+    /// the merge there is none. It replaces the previous one, which is written or in no part. Used by the functions
+    /// that write or begin a part.
     pub(crate) fn advance<R: Reads>(&mut self, src: &mut R) -> Result<(), ReadEnd>
         requires { CanGive (live_files R.Reads src.old) self.old }
         ensures advances { OnOk result (Advances (live_files R.Reads src.old) (live_files R.Reads src.new) self.old self.new) }
@@ -113,7 +117,8 @@ impl PlacedBlocks {
         Ok(())
     }
 
-    /// Begins the next part, and returns true if there is one. Skips blocks that are in no part.
+    /// Begins the next part, and returns true if there is one. It calls `advance`, which reads from `src`. Skips blocks
+    /// that are in no part. Called for each output after the first, when the previous one is written.
     pub(crate) fn next_part<R: Reads>(&mut self, src: &mut R) -> Result<bool, ReadEnd>
         requires gives { CanGive (live_files R.Reads src.old) self.old }
         requires stands { StandsAhead self.old }
@@ -137,7 +142,7 @@ impl PlacedBlocks {
     }
 
     /// Begins the first part, and returns true if there is one. Without blocks, the part at the start of the output is
-    /// empty, if it is written.
+    /// empty, if it is written. Reads from `src`. `write_parts` calls it before the first output.
     pub(crate) fn first_part<R: Reads>(&mut self, src: &mut R) -> Result<bool, ReadEnd>
         requires gives { CanGive (live_files R.Reads src.old) self.old }
         requires fresh { IsFresh self.old }

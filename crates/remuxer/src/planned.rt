@@ -21,7 +21,8 @@ pub(crate) struct StartedLanes {
 impl StartedLanes {
     ghost use Rattle.remuxer.specs.Started.{AddsLane, AreStarted, CanStart};
 
-    /// Starts the planned output tracks for an output with `scale` nanoseconds per tick. Reads nothing.
+    /// Starts the planned output tracks for an output with `scale` nanoseconds per tick. Reads nothing. `remux` calls
+    /// it first. Fails if memory runs out.
     pub(crate) fn start(
         alloc: Global,
         planned: List<PlannedLane>,
@@ -43,7 +44,8 @@ impl StartedLanes {
         Ok(started)
     }
 
-    // Starts one more output track as `planned`, for an output with `scale` nanoseconds per tick.
+    // Starts one more output track as `planned`, for an output with `scale` nanoseconds per tick. For `start`. Fails if
+    // memory runs out.
     fn add(&mut self, alloc: Global, planned: PlannedLane, scale: u64) -> Result<(), AllocError>
         requires scale { 1 ≤ scale }
         requires lane { CanStart planned }

@@ -13,8 +13,9 @@ use cluster_writer::{BlockRef, ClusterBuf};
 use cues_seekhead::OutFile;
 use mkv_io::{Files, Reads, RemuxEnd as OutEnd};
 
-// Makes room in the buffer for `block`, whose Element has `len` bytes. If the block can't join the Cluster in the
-// buffer, that is written, and the buffer is empty afterwards.
+// Makes room in `buffer` for `block`, whose Element has `len` bytes. If the block can't join the Cluster in the buffer,
+// the Cluster is written to the output `out`, and the buffer is empty afterwards. For `add_block`, while `merge` writes
+// an output.
 fn make_room<F: Files>(
     files: &mut F,
     out: &mut OutFile,
@@ -39,8 +40,9 @@ fn make_room<F: Files>(
     Ok(())
 }
 
-/// Adds the next block to an output, with a cue point if `cued`. If it can't join the Cluster in the buffer, that
-/// Cluster is written first. Returns true if the block begins a Cluster.
+/// Adds the next block `block` of an output to the Cluster in `buffer`, with a cue point in `out` if `cued`. If it
+/// can't join the Cluster, the Cluster is written to `out` first. Returns true if the block begins a Cluster. `merge`
+/// and `generate` write each block so.
 pub fn add_block<F: Files>(
     files: &mut F,
     out: &mut OutFile,
@@ -69,7 +71,8 @@ pub fn add_block<F: Files>(
     Ok(begins)
 }
 
-/// Writes the Cluster in the buffer, if there is one, after all blocks were added.
+/// Writes the Cluster in `buffer`, if there is one, to the output `out`, after all blocks were added. `merge` and
+/// `generate` call it before the Elements after the Clusters.
 pub fn add_rest<F: Files>(
     files: &mut F,
     out: &mut OutFile,

@@ -14,8 +14,9 @@ use remux_plan::{InputDamage, MAX_INPUTS, MoreDamage, Summary, Written};
 use std::alloc::{AllocError, Global};
 use time_merge::Merge;
 
-// Returns the damaged places of the input number `input` that `lane` has reported. `inputs` has the input number of
-// each of its links.
+// Returns the damaged places of the input number `input` that the output track `lane` has reported, or None if it has
+// no link to it. `inputs` has the input number of each of its links. For `told_of`, after `merge` has written its
+// outputs.
 fn told_at<'a>(inputs: &[usize], lane: &'a Lane, input: usize) -> Option<&'a Damages>
     ensures { option_copied result ≡ told_at inputs.now lane.now.walk.told.items input }
 {
@@ -23,8 +24,9 @@ fn told_at<'a>(inputs: &[usize], lane: &'a Lane, input: usize) -> Option<&'a Dam
     lane.damages(link)
 }
 
-// Returns the damaged places of the input number `input` that a merge has reported. All links to an input have the same
-// ones, so the first counts. `inputs` has the input numbers of each output track's links.
+// Returns the damaged places of the input number `input` that the merge `merge` has reported, or None without a link to
+// it. All links to an input have the same ones, so the first counts. `inputs` has the input numbers of each output
+// track's links. For `summary_of`.
 fn told_of<'a>(inputs: &[List<usize>], merge: &'a Merge, input: usize) -> Option<&'a Damages>
     requires { length inputs.now ≡ length merge.now.queues }
     ensures { option_copied result ≡ told_of inputs.now (told_by merge.now) input }
@@ -38,7 +40,8 @@ fn told_of<'a>(inputs: &[List<usize>], merge: &'a Merge, input: usize) -> Option
     None
 }
 
-// Appends the damaged places `told` of the input number `input` to the summary.
+// Appends the damaged places `told` of the input number `input` to `summary`: the first of them one by one, and the
+// number of further ones. For `summary_of`. Fails if memory runs out.
 fn add_damages(summary: &mut Summary, input: usize, told: &Damages) -> Result<(), AllocError>
     ensures { OnOk result (AddsDamages input told.now summary.old summary.new) }
 {
@@ -55,8 +58,9 @@ fn add_damages(summary: &mut Summary, input: usize, told: &Damages) -> Result<()
     Ok(())
 }
 
-/// Returns the summary of the written outputs, with the damaged places that a merge has reported. `inputs` has the
-/// input numbers of each output track's links.
+/// Returns the summary of the written outputs `outputs`, with the damaged places of the inputs that `merge` has
+/// reported. `inputs` has the input numbers of each output track's links. `remux` returns it; the command prints its
+/// messages from it.
 pub(crate) fn summary_of(
     alloc: Global,
     outputs: List<Written>,

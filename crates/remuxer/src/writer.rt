@@ -23,7 +23,8 @@ use lanes::Lane;
 use mkv_io::{Files, Reads, RemuxEnd as OutEnd};
 use output_model::{CueRule, Durations};
 
-// Checks whether a block of the output track `k`, counted from 0, gets a cue point. Without a rule it gets none.
+// Checks whether a block of the output track `k`, counted from 0, gets a cue point by the track's rule in `rules`.
+// `key` is true for a keyframe. Without a rule it gets none. For `add_lent`, while `merge` writes an output.
 fn is_cued(rules: &[CueRule], k: usize, key: bool) -> bool
     ensures { result ≡ is_cue_by (unwrap_or (slice_get rules.now k) cue_rule.Never) key }
 {
@@ -34,7 +35,7 @@ fn is_cued(rules: &[CueRule], k: usize, key: bool) -> bool
 }
 
 // Returns the last block of `lane`, the output track `k`, counted from 0, as it is written to a part that starts at the
-// tick `start`. In the output, track numbers count from 1.
+// tick `start`. In the output, track numbers count from 1. Borrows the block for `add_lent`.
 fn lent_by(lane: &Lane, k: usize, start: u64) -> BlockRef<'_>
     requires lent { IsLent (lent lane.now) }
     requires number { k < MAX_LANES }
@@ -54,7 +55,8 @@ fn lent_by(lane: &Lane, k: usize, start: u64) -> BlockRef<'_>
     }
 }
 
-// Returns the end of the block in ticks.
+// Returns the end of `block` as a tick of its part, by its BlockDuration or the durations of frames in `durations`.
+// `add_lent` keeps the greatest one for the Duration.
 fn end_of(durations: &Durations, block: &BlockRef<'_>) -> u64
     requires block { CanBePut block.now }
     requires scale { 1 ≤ durations.now.scale }
@@ -85,8 +87,9 @@ impl BlockWriter {
     ghost use Rattle.remuxer.specs.Places.{IsPartBegun, lent_in};
     ghost use Rattle.remuxer.specs.Taking.{CanTake, EndsAfter, Goes, IsOver, StaysSmall, TakesLent, TakesMore, TakesPart, WritesInto};
 
-    // Adds the last block of `lane`, the output track `k`, counted from 0, to the output of a part that starts at the
-    // tick `start`. `rules` has each output track's rule for cue points.
+    // Adds to the output the last block of `lane`, the output track `k`, counted from 0. Its part starts at the tick
+    // `start`, and `rules` has each output track's rule for cue points. Updates the counts and the end of the output.
+    // For `add_part`, while `merge` writes an output.
     fn add_lent<F: Files>(
         &mut self,
         files: &mut F,
@@ -117,7 +120,8 @@ impl BlockWriter {
         Ok(())
     }
 
-    /// Adds all blocks that are left of the current part of `blocks` to the output.
+    /// Adds all blocks that are left of the current part of `blocks` to the output, reading the inputs in `files` as it
+    /// goes. `rules` has each output track's rule for cue points. For `fill`, while `merge` writes an output.
     pub(crate) fn add_part<F: Files>(
         &mut self,
         files: &mut F,

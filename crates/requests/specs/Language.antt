@@ -3,10 +3,11 @@ use Rattle.std.specs.Prelude.{ℕ, Bool, ◌&&◌, ◌||◌, ◌==◌, nat_le, L
 use Rattle.std.specs.List.{list_all}
 use Rattle.std.specs.Char.{is_ascii_alphanumeric}
 
--- The byte `b` is an ASCII letter, a digit or a hyphen.
+-- The byte `b` is an ASCII letter, a digit or a hyphen. `is_language_tag` uses it.
 abbrev pub is_in_tag : ℕ → Bool
 is_in_tag b = is_ascii_alphanumeric b || b == 0x2D
 
--- `word` may be a language tag: it consists of 1 to 63 letters, digits and hyphens.
+-- `word` may be a language tag of an option or a property: it consists of 1 to 63 letters, digits and hyphens. Used by `value_of` of `edit_changes`
+-- and others.
 abbrev pub is_language_tag : List ℕ → Bool
 is_language_tag word = nat_le 1 (length word) && nat_le (length word) 63 && list_all is_in_tag word

@@ -6,7 +6,7 @@ use Rattle.requests.specs.declared.merge.FlagWords.{FlagWords}
 use Rattle.requests.specs.declared.merge.FileWords.{FileWords}
 use Rattle.requests.specs.declared.merge.MergeWords.{MergeWords}
 
--- the flags of an input whose options set none for any track
+-- the flags of an input whose options set none for any track. `plain_file` has them.
 abbrev pub no_flags : FlagWords
 no_flags = record {
   enabled = [];
@@ -17,7 +17,7 @@ no_flags = record {
   commentary = [];
 }
 
--- the options of the input `name` if nothing is left out or changed
+-- the options of the input `name` if nothing is left out or changed. The laws on a repeated merge use it.
 abbrev pub plain_file : List ℕ → FileWords
 plain_file name = record {
   name = name;
@@ -42,7 +42,7 @@ plain_file name = record {
   named = [];
 }
 
--- the request of `merge -o OUTPUT FILE ..`, or with the rule `split` for parts of `merge -o OUTPUT --split SPLIT FILE ..`
+-- the request of `merge -o OUTPUT FILE ..`, or with the rule `split` for parts of `merge -o OUTPUT --split SPLIT FILE ..`; `files` are its inputs
 abbrev pub plain_words : List ℕ → Option SplitWords → List FileWords → MergeWords
 plain_words output split files = record {
   output = output;

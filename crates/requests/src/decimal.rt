@@ -4,7 +4,8 @@ ghost use Rattle.std.specs.Prelude.{◌≡◌, ◌^◌, ◌<◌};
 ghost use Rattle.requests.specs.Decimal as spec;
 ghost use Rattle.requests.specs.Decimal.{below};
 
-/// Reads `word` as a decimal number of one or more digits, below 2^64; otherwise returns nothing.
+/// Reads `word` as a decimal number of one or more digits, below 2^64; otherwise returns None. `number` and the readers
+/// of option values use it.
 #[tactic(auto, unfolding(crate::specs::Decimal::whole))]
 pub fn whole(word: &[u8]) -> Option<u64>
     ensures { result ≡ below (2 ^ 64) (spec.whole word.now) }
@@ -23,7 +24,7 @@ pub fn whole(word: &[u8]) -> Option<u64>
     Some(value)
 }
 
-/// Reads `word` as a decimal number of 1 to 18 digits; otherwise returns nothing.
+/// Reads `word` as a decimal number of 1 to 18 digits; otherwise returns None. The readers of option values use it.
 #[tactic(auto, using(crate::proofs::DecimalLemmas::whole_short), unfolding(crate::specs::Decimal::number))]
 pub fn number(word: &[u8]) -> Option<u64>
     ensures { result ≡ spec.number word.now }

@@ -23,8 +23,8 @@ const CALLS: u64 = 200;
 /// Least number of calls whose failure must stop a run, so that a case doesn't pass without a test.
 const STOPS: u64 = 11;
 
-/// Returns a disk whose edited file and journal have the bytes of the parts `film` and `journal` of the case. Its call
-/// number `call`, from 0, fails, and all later ones if `stops`.
+/// Returns a disk in memory whose edited file and journal have the bytes of the parts `film` and `journal` of the case
+/// `reading`. Its call number `call`, from 0, fails, and all later ones if `stops`. Used by `ends`.
 fn failing_disk(alloc: Global, reading: &Reading, call: u64, stops: bool) -> Result<MemDisk, Fault>
     ensures { IfOk result (λ disk. IsSynced (pair_in (seen disk))) }
 {
@@ -41,7 +41,7 @@ fn failing_disk(alloc: Global, reading: &Reading, call: u64, stops: bool) -> Res
     Ok(disk)
 }
 
-/// Returns the command line `recover out.mkv`.
+/// Returns the command line `recover out.mkv`. Used by `check`.
 fn recover_words(alloc: Global) -> Result<Vec<String>, Fault> {
     let mut words = Vec::new(alloc);
     words.push("recover".to_string(alloc)?)?;
@@ -49,7 +49,7 @@ fn recover_words(alloc: Global) -> Result<Vec<String>, Fault> {
     Ok(words)
 }
 
-/// Returns the bytes of the edited file on `disk`, for the comparison with the expected ones.
+/// Returns the bytes of the edited file on `disk`, for the comparison with the expected ones. Used by `is_recovered`.
 fn film_on(alloc: Global, mut disk: MemDisk) -> Result<Vec<u8>, Fault> {
     if disk.open_pair("").is_err() {
         return Err(Fault::Memory);
@@ -72,7 +72,7 @@ struct Edit<'a> {
 
 impl Edit<'_> {
     /// Runs `recover` on `disk`, and checks whether it completes the edit: the file has the bytes of the part `edited`.
-    /// If not `ended`, the file may also have the bytes of the part `unedited`.
+    /// If not `ended`, the file may also have the bytes of the part `unedited`. Used by `are_recovered`.
     fn is_recovered(&self, mut disk: MemDisk, ended: bool) -> Result<bool, Fault>
         requires { IsSynced (pair_in (seen disk)) }
     {
@@ -84,7 +84,9 @@ impl Edit<'_> {
         Ok(status == Status::Done && (is_edited || may_stay))
     }
 
-    /// Checks whether `recover` repairs each image that a crash may leave of `disk`; `ended` as for `is_recovered`.
+    /// Checks whether `recover` repairs the images that a crash may leave of `disk`: one for each number below `PICKS`,
+    /// by which `crashed` chooses. If `ended`, the run ended as if no call failed, and each image must be the edited
+    /// one. Used by `ends`.
     fn are_recovered(&self, disk: &MemDisk, ended: bool) -> Result<bool, Fault> {
         for pick in 0..PICKS {
             if !self.is_recovered(disk.crashed(self.alloc, pick)?, ended)? {
@@ -95,7 +97,8 @@ impl Edit<'_> {
     }
 
     /// Runs the command while the call number `call`, from 0, fails, and all later ones if `stops`. Fails unless the
-    /// disk can be recovered. Returns whether it ended as if no call failed.
+    /// disk can be recovered. Returns true if it ended as if no call failed, and false if it was stopped. Used by
+    /// `check`.
     fn ends(&self, call: u64, stops: bool) -> Result<bool, Fault> {
         let mut files = MemFiles::new(self.alloc)?;
         let mut disk = failing_disk(self.alloc, self.reading, call, stops)?;
@@ -107,8 +110,8 @@ impl Edit<'_> {
     }
 }
 
-/// Runs `disk fails`, or `disk stops` if `stops`, for the case `reading`: makes each call fail in turn, and all later
-/// ones if `stops`. At least `STOPS` calls must stop the run.
+/// Runs `disk fails`, or `disk stops` if `stops`, for the case `reading`, a line of the test program's input: makes
+/// each call fail in turn, and all later ones if `stops`. At least `STOPS` calls must stop the run.
 pub fn check(alloc: Global, reading: &Reading, stops: bool) -> Result<String, Fault> {
     let recover = recover_words(alloc)?;
     let edit = Edit {

@@ -17,7 +17,8 @@ pub enum Fault {
 }
 
 impl Fault {
-    /// Fails with `Differs`, with `what` and `call`, unless `holds` is true.
+    /// Fails with `Differs`, with `what` and the number `call` of the failing call, from 0, unless `holds` is true.
+    /// Each check of a run ends so.
     pub fn unless(holds: bool, what: &'static str, call: u64) -> Result<(), Fault> {
         if holds {
             Ok(())
@@ -43,6 +44,7 @@ impl From<AllocError> for Fault {
 
     ghost from_gives = { λ _ fault. fault ≡ Memory };
 
+    /// Returns the reason of a case that fails when memory ran out.
     fn from(_: AllocError) -> Fault {
         Fault::Memory
     }
@@ -53,6 +55,7 @@ impl<T: Drop> From<AllocFailed<T>> for Fault {
 
     ghost from_gives = { λ _ fault. fault ≡ Memory };
 
+    /// Returns the reason of a case that fails when memory ran out for a value.
     fn from(_: AllocFailed<T>) -> Fault {
         Fault::Memory
     }

@@ -13,7 +13,8 @@ const CALLS: u64 = 80;
 /// Number of bytes that a failing append still writes.
 const KEPT: u64 = 1;
 
-/// Returns the files that exist before the run of the case `reading`: each part whose name has a dot.
+/// Returns the files in memory that exist before the run of the case `reading`: each part whose name has a dot. Used by
+/// `left_by`.
 fn files_before(alloc: Global, reading: &Reading) -> Result<MemFiles, Fault> {
     let mut files = MemFiles::new(alloc)?;
     for part in &reading.parts {
@@ -27,7 +28,8 @@ fn files_before(alloc: Global, reading: &Reading) -> Result<MemFiles, Fault> {
     Ok(files)
 }
 
-/// Checks whether a stopped run of the case `reading` may leave the bytes `left` in `out.mkv`, or no such file.
+/// Checks whether a stopped run of the case `reading` may leave the bytes `left` in `out.mkv`, or no such file (None).
+/// Used by `left_by`.
 fn is_left(reading: &Reading, left: Option<&[u8]>) -> bool {
     match left {
         Some(octets) => {
@@ -39,8 +41,8 @@ fn is_left(reading: &Reading, left: Option<&[u8]>) -> bool {
     }
 }
 
-/// Runs the command of the case `reading` over `files`, whose call number `call`, from 0, fails. Returns whether it
-/// ended as if no call failed.
+/// Runs the command of the case `reading` over `files`, whose call number `call`, from 0, fails. Returns true if it
+/// ended as if no call failed, and false if it was stopped. Used by `left_by`.
 fn ends_over(
     alloc: Global,
     reading: &Reading,
@@ -53,7 +55,7 @@ fn ends_over(
 }
 
 /// Runs the command of the case `reading` while the call number `call`, from 0, fails, and checks its output. Returns
-/// the length of the output if the run was stopped, and None if not.
+/// the length of the output in bytes if the run was stopped, and None if not. Used by `lengths_left`.
 fn left_by(alloc: Global, reading: &Reading, call: u64) -> Result<Option<usize>, Fault> {
     let mut files = files_before(alloc, reading)?;
     files.fail_at(call, KEPT)?;
@@ -67,8 +69,8 @@ fn left_by(alloc: Global, reading: &Reading, call: u64) -> Result<Option<usize>,
     Ok(Some(left.unwrap_or(&[]).len()))
 }
 
-/// Runs `calls fail`: makes each call fail in turn. Returns the lengths of the output after the stopped runs, without
-/// repetitions.
+/// Runs `calls fail`, a line of the test program's input, for the case `reading`: makes each call fail in turn. Returns
+/// the lengths of the output in bytes after the stopped runs, without repetitions.
 ///
 /// A call for a journal that doesn't exist doesn't fail, so a run may end well before the last one that is stopped.
 pub fn lengths_left(alloc: Global, reading: &Reading) -> Result<Vec<usize>, Fault> {

@@ -15,7 +15,7 @@ use std::alloc::Global;
 use std::fmt::Write;
 use std::io;
 
-/// Returns the numbers in `lengths` as text, each after a space.
+/// Returns the numbers in `lengths` as text, each after a space. Used by `answer`.
 fn listed(alloc: Global, lengths: &[usize]) -> Result<String, Fault> {
     let mut text = String::new(alloc);
     for length in lengths {
@@ -24,8 +24,8 @@ fn listed(alloc: Global, lengths: &[usize]) -> Result<String, Fault> {
     Ok(text)
 }
 
-/// Runs what `line` asks for, and returns the text of the result. A line that starts no run is read into `reading`, and
-/// the text is empty.
+/// Runs what the line `line` of the input asks for, and returns the text of the result. A line that starts no run is
+/// read into `reading`, and the text is empty. Used by `take_line`.
 fn answer(alloc: Global, line: &str, reading: &mut Reading) -> Result<String, Fault> {
     match line {
         "calls fail" => listed(alloc, file_runs::lengths_left(alloc, reading)?.as_slice()),
@@ -35,7 +35,8 @@ fn answer(alloc: Global, line: &str, reading: &mut Reading) -> Result<String, Fa
     }
 }
 
-/// Prints the result of `line`, if it starts a run, for the case that `reading` has read up to it.
+/// Prints the result of the line `line` of the input, if it starts a run, for the case that `reading` has read up to
+/// it. Used by `main`.
 fn take_line(rt: &(impl Print + AllocGlobal), line: &str, reading: &mut Reading) -> io::Result<()> {
     match answer(rt.alloc(), line, reading) {
         Ok(text) if text.is_empty() => Ok(()),
@@ -44,6 +45,7 @@ fn take_line(rt: &(impl Print + AllocGlobal), line: &str, reading: &mut Reading)
     }
 }
 
+// Takes all lines of the input in turn; the test program ends after the last one.
 fn main(rt: HostRuntime) -> io::Result<()> {
     let mut reading = Reading::new(rt.alloc());
     for line in rt.lines(rt.alloc()) {

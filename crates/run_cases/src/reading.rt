@@ -38,7 +38,7 @@ pub struct Reading {
 }
 
 impl Reading {
-    /// Returns the state before the first line.
+    /// Returns the state before the first line of the input. Used by `failing_disk`, `recover_words` and others.
     pub fn new(alloc: Global) -> Reading {
         Reading {
             alloc,
@@ -48,7 +48,8 @@ impl Reading {
         }
     }
 
-    /// Returns the bytes of the part `name`, if there is one.
+    /// Returns the bytes of the part `name`, which a line of the input gave last, or None if there is no such part.
+    /// Used by `is_left`, `left_by` and others.
     pub fn part(&self, name: &str) -> Option<&[u8]> {
         for part in self.parts.iter().rev() {
             if part.name.as_str() == name {
@@ -58,13 +59,14 @@ impl Reading {
         None
     }
 
-    /// Returns the bytes of the part `name`, or no bytes if there is no such part.
+    /// Returns the bytes of the part `name`, which a line of the input gave last, or no bytes if there is no such part.
+    /// Used by `failing_disk`, `film_on` and others.
     pub fn octets(&self, name: &str) -> &[u8] {
         self.part(name).unwrap_or(&[])
     }
 
     /// Reads `line`, which starts no run: a comment, a command line, an expected line, or a part. Returns an empty
-    /// text.
+    /// text. Used by `answer`.
     pub fn line(&mut self, line: &str) -> Result<String, Fault> {
         match line.split_once(' ') {
             None | Some(("#", _)) => {}
@@ -75,7 +77,7 @@ impl Reading {
         Ok(String::new(self.alloc))
     }
 
-    /// Reads `line`, the command line of the next runs, whose words have spaces between them.
+    /// Reads `line`, the command line of the next runs, whose words have spaces between them. Used by `line`.
     fn read_words(&mut self, line: &str) -> Result<(), Fault> {
         self.words = Vec::new(self.alloc);
         for word in line.split_whitespace() {
@@ -84,7 +86,7 @@ impl Reading {
         Ok(())
     }
 
-    /// Adds the part `name` with the bytes that `spelled` gives: a `=`, and words of `add_word`.
+    /// Adds the part `name` with the bytes that `spelled` gives: a `=`, and words of `add_word`. Used by `line`.
     fn read_part(&mut self, name: &str, spelled: &str) -> Result<(), Fault> {
         let mut octets = Vec::new(self.alloc);
         for word in spelled.split_whitespace().skip(1) {
@@ -96,7 +98,7 @@ impl Reading {
     }
 
     /// Appends to `octets` the bytes that `word` spells: hexadecimal digits or the name of a part, with `*N` after it
-    /// for N copies.
+    /// for N copies. Used by `read_part`.
     fn add_word(&self, word: &str, octets: &mut Vec<u8>) -> Result<(), Fault> {
         let (once, times) = word.split_once('*').unwrap_or((word, "1"));
         let times = times.parse::<u32>().or(Err(Fault::Unread))?;
@@ -110,7 +112,7 @@ impl Reading {
     }
 }
 
-/// Appends `times` copies of `once` to `octets`.
+/// Appends `times` copies of `once` to `octets`. Used by `add_word`.
 fn add_times(once: &[u8], times: u32, octets: &mut Vec<u8>) -> Result<(), Fault> {
     for _ in 0..times {
         octets.extend_from_slice(once)?;

@@ -10,7 +10,8 @@ use mkv_memory::{MemDisk, MemFiles, MemReport};
 use mkv_run::run_command_line;
 use std::alloc::Global;
 
-/// Runs the command line `words` over `files` and `disk`. Returns its status, and the report with its lines.
+/// Runs the command line `words` over `files` and `disk`, which are in memory. Returns its status, and the report with
+/// its lines. Each case runs its command so. Used by `is_recovered`, `ends` and others.
 pub fn run_over(
     alloc: Global,
     words: &Vec<String>,
@@ -24,14 +25,14 @@ pub fn run_over(
     Ok((status, report))
 }
 
-/// Checks whether `said` is the only line of `report`.
+/// Checks whether `said` is the only line of `report`. Used by `has_ended`.
 fn has_said(report: &MemReport, said: &str) -> bool {
     report.line(0) == Some(said) && report.line(1).is_none()
 }
 
 /// Checks the end of a run that returned `status` and printed `report`. It ended as if no call failed, with the line
-/// `said`, or was stopped by the call number `call`, with the line `fault`. Returns whether it ended; anything else is
-/// a `Fault`.
+/// `said`, or was stopped by the call number `call`, from 0, with the line `fault`. Returns true if it ended, and false
+/// if it was stopped; anything else is a `Fault`. Used by `ends` and `ends_over`.
 pub fn has_ended(
     status: Status,
     report: &MemReport,

@@ -14,8 +14,8 @@ use mkv_io::Failed;
 /// Greatest number of bytes that are copied at once.
 const PIECE: u64 = 4096;
 
-/// Copies bytes of the journal from the offset `from` on to the place `place` of the file. They are safe only after the
-/// next sync.
+/// Copies bytes of the journal on `disk` from the offset `from` on to the place `place` of the file. They are safe only
+/// after the next sync. Used by `redo_writes`.
 pub fn copy<D: Disk>(disk: &mut D, from: u64, place: Place) -> Result<(), Failed>
     requires live { IsLive D.Reads disk.old MEDIA × IsLive D.Reads disk.old SIDECAR }
     requires range { from + place.len ≤ file_size D.Reads disk.old SIDECAR }
@@ -38,8 +38,8 @@ pub fn copy<D: Disk>(disk: &mut D, from: u64, place: Place) -> Result<(), Failed
     Ok(())
 }
 
-/// Copies bytes from the offset `from` of the journal to the offset `at` of the file, through `part`, whose length is
-/// their number.
+/// Copies bytes from the offset `from` of the journal on `disk` to the offset `at` of the file, through `part`, whose
+/// length is their number. Used by `copy`.
 fn copy_piece<D: Disk>(disk: &mut D, from: u64, at: u64, part: &mut [u8]) -> Result<(), Failed>
     requires live { IsLive D.Reads disk.old MEDIA × IsLive D.Reads disk.old SIDECAR }
     requires range { from + length part.old ≤ file_size D.Reads disk.old SIDECAR }

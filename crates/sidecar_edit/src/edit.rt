@@ -17,7 +17,8 @@ use crate::plan::Plan;
 use mkv_disk::{Disk, MEDIA, SIDECAR};
 use mkv_io::Failed;
 
-/// Writes the record of `plan` to the journal after its closed gate, and syncs it. The edit isn't pending yet.
+/// Writes the record of `plan` to the journal on `disk` after its closed gate, and syncs it. The edit isn't pending
+/// yet. Used by `commit`.
 fn write_record<D: Disk>(plan: &Plan, disk: &mut D) -> Result<(), Failed>
     requires live { IsLive D.Reads disk.old SIDECAR }
     requires settled { IsTrue D.told → D.pair disk.old ≡ both (D.pair disk.old).media.reads (0 ∷ []) }
@@ -31,7 +32,8 @@ fn write_record<D: Disk>(plan: &Plan, disk: &mut D) -> Result<(), Failed>
     disk.sync(SIDECAR)
 }
 
-/// Makes the writes of `plan` in the file, and syncs them. The journal's gate is open meanwhile.
+/// Makes the writes of `plan` in the file on `disk`, and syncs them. The journal's gate is open meanwhile. Used by
+/// `commit`.
 fn write_media<D: Disk>(plan: &Plan, disk: &mut D) -> Result<(), Failed>
     requires live { IsLive D.Reads disk.old MEDIA }
     requires at_rest { AtRest D.Disk.own disk.old }
@@ -50,9 +52,9 @@ fn write_media<D: Disk>(plan: &Plan, disk: &mut D) -> Result<(), Failed>
     disk.sync(MEDIA)
 }
 
-/// Makes the edit of `plan` in the file of `disk`, whose journal has no pending edit. A crash at any moment leaves a
-/// file and a journal that recover to the file before or after the edit. If the journal has a pending edit then, it is
-/// exactly the plan's.
+/// Makes the edit of `plan` in the file of `disk`, whose journal has no pending edit; `propedit` and `reindex` end with
+/// it. A crash at any moment leaves a file and a journal that recover to the file before or after the edit. If the
+/// journal has a pending edit then, it is exactly the plan's.
 pub fn commit<D: Disk>(plan: &Plan, disk: &mut D) -> Result<(), DiskFault>
     requires live { (IsLive D.Reads disk.old MEDIA) × (IsLive D.Reads disk.old SIDECAR) }
     requires settled { IsTrue D.told → D.pair disk.old ≡ both (D.pair disk.old).media.reads (0 ∷ []) }
@@ -77,6 +79,7 @@ pub struct DiskFault;
 impl From<Failed> for DiskFault {
     ghost from_gives = { λ _ _. Unit {0} };
 
+    /// Returns the failure of an edit when a call on the disk failed.
     fn from(_failed: Failed) -> DiskFault {
         DiskFault
     }

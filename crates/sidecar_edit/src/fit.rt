@@ -8,7 +8,7 @@ use crate::head::{number_at, place_in};
 use crate::outcome::{Mark, RecoverEnd};
 use crate::place::{HEAD, HEAD_1, KEPT, MAX_WRITES, Place};
 
-/// Checks whether a write at `place` changes the byte at the offset `k`.
+/// Checks whether a write at `place` changes the byte at the offset `k` of the file. Used by `is_touched`.
 fn touches(place: Place, k: u64) -> bool
     ensures { result ≡ (nat_le place.at k && nat_lt k (place.at + place.len)) }
 {
@@ -16,7 +16,7 @@ fn touches(place: Place, k: u64) -> bool
 }
 
 /// Checks whether a write of the record in `head`, the journal's first bytes, changes the byte at the offset `k` of the
-/// file.
+/// file. Used by `differs`.
 fn is_touched(head: &[u8], k: u64) -> bool
     requires long { HEAD_1 ≤ length head.now }
     requires few { count_in head.now ≤ MAX_WRITES }
@@ -31,7 +31,8 @@ fn is_touched(head: &[u8], k: u64) -> bool
     false
 }
 
-/// Returns the byte at the offset `k` in `media`, the file's first bytes, or 0 after their end.
+/// Returns the byte at the offset `k` in `media`, the file's first bytes, or 0 after their end, to compare it with the
+/// record. Used by `differs` and `octet_mark`.
 fn octet_at(media: &[u8], k: usize) -> u8
     ensures { result ≡ slice_index media.now k }
 {
@@ -39,7 +40,7 @@ fn octet_at(media: &[u8], k: usize) -> u8
 }
 
 /// Checks whether the byte at the offset `k` of the file, in its first bytes `media`, differs from the record in
-/// `head`. A byte that the edit changes doesn't.
+/// `head`, the journal's first bytes. A byte that the edit changes doesn't. Used by `octet_mark`.
 fn differs(head: &[u8], media: &[u8], k: usize) -> bool
     requires head { length head.now ≡ HEAD }
     requires few { count_in head.now ≤ MAX_WRITES }
@@ -51,8 +52,8 @@ fn differs(head: &[u8], media: &[u8], k: usize) -> bool
         && octet_at(media, k) != head[168 + k]
 }
 
-/// Returns the refusal for the first byte of the file that differs from the record, if any. `head` has the journal's
-/// fields, and `media` the first bytes of the file.
+/// Returns the refusal for the first byte of the file that differs from the record, or None. `head` has the journal's
+/// fields, and `media` the first bytes of the file. Used by `foreign_of`.
 fn octet_mark(head: &[u8], media: &[u8]) -> Option<RecoverEnd>
     requires head { length head.now ≡ HEAD }
     requires few { count_in head.now ≤ MAX_WRITES }
@@ -70,7 +71,8 @@ fn octet_mark(head: &[u8], media: &[u8]) -> Option<RecoverEnd>
     None
 }
 
-/// Checks whether `size` is a length that the file can't have before, during or after the edit of the record in `head`.
+/// Checks whether `size` is a length in bytes that the file can't have before, during or after the edit of the record
+/// in `head`, the journal's first bytes. Used by `foreign_of`.
 fn has_other_length(head: &[u8], size: u64) -> bool
     requires { HEAD_1 + 8 ≤ length head.now }
     ensures { result ≡ (nat_lt size (old_len_in head.now) || nat_lt (new_len_in head.now) size) }
@@ -79,7 +81,7 @@ fn has_other_length(head: &[u8], size: u64) -> bool
 }
 
 /// Returns the refusal if a file of `size` bytes with the first bytes `media` isn't the file of the record of version 2
-/// in `head`.
+/// in `head`, the journal's first bytes, or None. Used by `unfit`.
 fn foreign_of(head: &[u8], size: u64, media: &[u8]) -> Option<RecoverEnd>
     requires head { length head.now ≡ HEAD }
     requires few { count_in head.now ≤ MAX_WRITES }
@@ -95,15 +97,15 @@ fn foreign_of(head: &[u8], size: u64, media: &[u8]) -> Option<RecoverEnd>
     octet_mark(head, media)
 }
 
-/// Checks whether the write at `place` begins at the offset `end` or before.
+/// Checks whether the write at `place` begins at the offset `end` of the file or before. Used by `gap_of`.
 fn begins_within(place: Place, end: u128) -> bool
     ensures { result ≡ nat_le place.at end }
 {
     u128::from(place.at) <= end
 }
 
-/// Returns the refusal if a write begins after the end of a file of `size` bytes and the earlier writes. `head` has the
-/// record, of version 1.
+/// Returns the refusal if a write begins after the end of a file of `size` bytes and the earlier writes, or None.
+/// `head` has the record, of version 1. Used by `unfit`.
 fn gap_of(head: &[u8], size: u64) -> Option<RecoverEnd>
     requires long { HEAD_1 ≤ length head.now }
     requires few { count_in head.now ≤ MAX_WRITES }
@@ -122,8 +124,8 @@ fn gap_of(head: &[u8], size: u64) -> Option<RecoverEnd>
     None
 }
 
-/// Returns the refusal if the writes of the pending record in `head` don't fit a file of `size` bytes with the first
-/// bytes `media`.
+/// Returns the refusal if the writes of the pending record in `head`, the journal's first bytes, don't fit a file of
+/// `size` bytes with the first bytes `media`, or None. Used by `unfit_medium`, for `recover`.
 pub fn unfit(head: &[u8], size: u64, media: &[u8]) -> Option<RecoverEnd>
     requires long { HEAD_1 ≤ length head.now }
     requires few { count_in head.now ≤ MAX_WRITES }

@@ -13,7 +13,9 @@ ghost use Rattle.sidecar_edit.specs.Leaves.{IsGated};
 use mkv_disk::{Disk, SIDECAR};
 use mkv_io::Failed;
 
-/// Writes `gate` to byte 0 of the journal, and syncs the journal. That one byte decides whether an edit is pending.
+/// Writes `gate` to byte 0 of the journal on `disk`, and syncs the journal. That one byte decides whether an edit is
+/// pending. An edit opens the gate before it writes to the file, and closes it afterwards. Used by `commit`, `close`
+/// and others.
 pub fn set_gate<D: Disk>(disk: &mut D, gate: u8) -> Result<(), Failed>
     requires live { IsLive D.Reads disk.old SIDECAR }
     requires at_rest { AtRest D.Disk.own disk.old }
@@ -26,7 +28,8 @@ pub fn set_gate<D: Disk>(disk: &mut D, gate: u8) -> Result<(), Failed>
     disk.sync(SIDECAR)
 }
 
-/// Truncates the journal of `disk`, whose gate is closed, to its first byte, and syncs it.
+/// Truncates the journal of `disk`, whose gate is closed, to its first byte, and syncs it. Used by `close` and
+/// `settle`.
 pub fn cut_down<D: Disk>(disk: &mut D) -> Result<(), Failed>
     requires live { IsLive D.Reads disk.old SIDECAR }
     requires at_rest { AtRest D.Disk.own disk.old }
@@ -40,7 +43,8 @@ pub fn cut_down<D: Disk>(disk: &mut D) -> Result<(), Failed>
     disk.sync(SIDECAR)
 }
 
-/// Closes the gate of the journal of `disk`, and truncates the journal to it: no edit is pending any more.
+/// Closes the gate of the journal of `disk`, and truncates the journal to it: no edit is pending any more. The last
+/// step of an edit and of `recover`.
 pub fn close<D: Disk>(disk: &mut D) -> Result<(), Failed>
     requires live { IsLive D.Reads disk.old SIDECAR }
     requires at_rest { AtRest D.Disk.own disk.old }
@@ -53,8 +57,8 @@ pub fn close<D: Disk>(disk: &mut D) -> Result<(), Failed>
     cut_down(disk)
 }
 
-/// Turns a journal of `disk` without a pending edit into one byte, a closed gate, before an edit is written to it. A
-/// longer journal is truncated first: after a torn write of the gate, an older record would count.
+/// Turns a journal of `disk` without a pending edit into one byte, a closed gate. `propedit` and `reindex` do this
+/// before `commit`. A longer journal is truncated first: after a torn write of the gate, an older record would count.
 pub fn settle<D: Disk>(disk: &mut D) -> Result<(), Failed>
     requires live { IsLive D.Reads disk.old SIDECAR }
     requires at_rest { AtRest D.Disk.own disk.old }

@@ -8,7 +8,8 @@ use crate::held::Gate;
 use crate::place::{HEAD, HEAD_1, KEPT, MAX_OCTETS, MAX_WRITES, OPEN, Place};
 use byteorder::{BigEndian, ByteOrder};
 
-/// Returns the big-endian number in the eight bytes of `head` from the offset `at` on.
+/// Returns the big-endian number in the eight bytes of `head`, the journal's first bytes, from the offset `at` on. Used
+/// for the numbers of all fields.
 #[tactic(auto, unfolding(crate::specs::Fields::number_at))]
 pub fn number_at(head: &[u8], at: usize) -> u64
     requires { at + 8 ≤ length head.now }
@@ -17,7 +18,8 @@ pub fn number_at(head: &[u8], at: usize) -> u64
     BigEndian::read_u64(&head[at..])
 }
 
-/// Returns the place of the write with the index `k`, counted from 0, in the record `head`.
+/// Returns the place of the write with the index `k`, counted from 0, in the record `head`, the journal's first bytes.
+/// The checks of a record and `recover` go through the places.
 pub fn place_in(head: &[u8], k: usize) -> Place
     requires { 48 + 16 * k ≤ length head.now }
     ensures { result ≡ place_in head.now k }
@@ -28,7 +30,7 @@ pub fn place_in(head: &[u8], k: usize) -> Place
     }
 }
 
-/// Returns the number of writes of the record `head`.
+/// Returns the number of writes of the record `head`, the journal's first bytes. Used by `redo_writes`.
 pub fn count_in(head: &[u8]) -> usize
     requires { HEAD_1 ≤ length head.now }
     ensures { result ≡ count_in head.now }
@@ -36,7 +38,8 @@ pub fn count_in(head: &[u8]) -> usize
     usize::from(head[25])
 }
 
-/// Returns the number of bytes of the record `head` before the bytes of the writes, which its version determines.
+/// Returns the number of bytes of the record `head`, the journal's first bytes, before the bytes of the writes, which
+/// its version determines. `recover` copies from there.
 pub fn head_len(head: &[u8]) -> u64
     requires { HEAD_1 ≤ length head.now }
     ensures { result ≡ head_len (version_in head.now) }
@@ -44,7 +47,8 @@ pub fn head_len(head: &[u8]) -> u64
     if head[24] == 1 { HEAD_1 } else { HEAD }
 }
 
-/// Returns the number of bytes that the writes of the record `head` write in all.
+/// Returns the number of bytes that the writes of the record `head`, the journal's first bytes, write in all. Used by
+/// `is_total`.
 #[tactic(auto, using(crate::proofs::ReadingLemmas::sum_next))]
 fn sum_in(head: &[u8]) -> u128
     requires long { HEAD_1 ≤ length head.now }
@@ -58,7 +62,8 @@ fn sum_in(head: &[u8]) -> u128
     sum
 }
 
-/// Returns the offset in the edited file after the last write of the record `head`.
+/// Returns the offset in the edited file after the last write of the record `head`, the journal's first bytes. Used by
+/// `is_new_len`.
 #[tactic(auto, using(crate::proofs::ReadingLemmas::end_next))]
 fn end_in(head: &[u8]) -> u128
     requires long { HEAD_1 ≤ length head.now }
@@ -73,15 +78,16 @@ fn end_in(head: &[u8]) -> u128
     end
 }
 
-/// Checks whether all bytes of `octets` are zero.
+/// Checks whether all bytes of `octets`, a field of the journal that isn't used, are zero. Used by `is_padded` and
+/// `counted_breach`.
 fn are_zeros(octets: &[u8]) -> bool
     ensures { result ≡ are_zeros octets.now }
 {
     octets.iter().all(|&octet| octet == 0)
 }
 
-/// Returns the file's length in bytes before the edit, if the record `head` has it and the journal is long enough for
-/// it.
+/// Returns the file's length in bytes before the edit, or None unless the record `head`, the journal's first bytes, has
+/// it and is long enough for it. The checks of the record use it. Used by `is_new_len` and `counted_breach`.
 fn old_len_of(head: &[u8]) -> Option<u64>
     requires { HEAD_1 ≤ length head.now }
     ensures { result ≡ old_len_of head.now }
@@ -93,7 +99,8 @@ fn old_len_of(head: &[u8]) -> Option<u64>
     }
 }
 
-/// Checks whether the length of the record `head` is the sum of its parts, and its writes have at most 16 MiB.
+/// Checks whether the length of the record `head`, the journal's first bytes, is the sum of its parts, and its writes
+/// have at most 16 MiB. Used by `counted_breach`.
 fn is_total(head: &[u8]) -> bool
     requires long { HEAD_1 ≤ length head.now }
     requires few { count_in head.now ≤ MAX_WRITES }
@@ -104,8 +111,8 @@ fn is_total(head: &[u8]) -> bool
         && u128::from(number_at(head, 8)) == u128::from(head_len(head)) + sum
 }
 
-/// Checks whether the length after the edit that the record `head` states is right, by its writes and the length
-/// before.
+/// Checks whether the length after the edit that the record `head`, the journal's first bytes, states is right, by its
+/// writes and the length before. Used by `counted_breach`.
 fn is_new_len(head: &[u8]) -> bool
     requires long { HEAD_1 ≤ length head.now }
     requires few { count_in head.now ≤ MAX_WRITES }
@@ -119,7 +126,8 @@ fn is_new_len(head: &[u8]) -> bool
     }
 }
 
-/// Checks whether the record `head` has zeros after the end of a file that is shorter than its kept bytes.
+/// Checks whether the record `head`, the journal's first bytes, has zeros after the end of a file that is shorter than
+/// its 64 kept bytes. One that isn't long enough for them passes. Used by `counted_breach`.
 fn is_padded(head: &[u8]) -> bool
     requires { HEAD_1 ≤ length head.now }
     ensures { result ≡ is_padded head.now }
@@ -133,7 +141,8 @@ fn is_padded(head: &[u8]) -> bool
 }
 
 /// Checks whether the place of a write in the record has bytes and leaves no gap. It must begin at the offset `from`,
-/// the end of the previous one, or after it. `old_len` is the file's length before the edit, if the record has it.
+/// the end of the previous one, or after it. `old_len` is the file's length in bytes before the edit, if the record has
+/// it. Used by `place_breach`.
 fn is_used(place: Place, from: u128, old_len: Option<u64>) -> bool
     ensures { result ≡ (nat_le 1 place.len && nat_le from place.at && is_joined old_len from place) }
 {
@@ -144,15 +153,15 @@ fn is_used(place: Place, from: u128, old_len: Option<u64>) -> bool
     place.len >= 1 && from <= u128::from(place.at) && joined
 }
 
-/// Checks whether `place` is zero, as an unused one must be.
+/// Checks whether `place` of the record is zero, as an unused one must be. Used by `unused_breach`.
 fn is_zero(place: Place) -> bool
     ensures { result ≡ ((place.at == 0) && (place.len == 0)) }
 {
     place.at == 0 && place.len == 0
 }
 
-/// Returns the offset in the journal `head` of the first place of a write that breaks a rule, if any. The file had
-/// `old_len` bytes before the edit.
+/// Returns the offset in the journal `head` of the first place of a write that breaks a rule, or None. The file had
+/// `old_len` bytes before the edit, if that is known. Used by `counted_breach`.
 fn place_breach(head: &[u8], old_len: Option<u64>) -> Option<u64>
     requires long { HEAD_1 ≤ length head.now }
     requires few { count_in head.now ≤ MAX_WRITES }
@@ -169,7 +178,7 @@ fn place_breach(head: &[u8], old_len: Option<u64>) -> Option<u64>
     unused_breach(head)
 }
 
-/// Returns the offset in the journal `head` of the first unused place that isn't zero, if any.
+/// Returns the offset in the journal `head` of the first unused place that isn't zero, or None. Used by `place_breach`.
 fn unused_breach(head: &[u8]) -> Option<u64>
     requires long { HEAD_1 ≤ length head.now }
     requires few { count_in head.now ≤ MAX_WRITES }
@@ -184,8 +193,8 @@ fn unused_breach(head: &[u8]) -> Option<u64>
     None
 }
 
-/// Returns the offset in the journal `head` of the first field that breaks a rule of the record, if any. The journal
-/// then is invalid.
+/// Returns the offset in the journal `head` of the first field that breaks a rule of the record, or None. The journal
+/// is invalid if there is one. Used by `gate_of`.
 pub fn first_breach(head: &[u8]) -> Option<u64>
     requires { HEAD_1 ≤ length head.now }
     ensures { result ≡ first_breach (rules_of head.now) }
@@ -203,8 +212,8 @@ pub fn first_breach(head: &[u8]) -> Option<u64>
     counted_breach(head)
 }
 
-/// Returns the offset in the journal `head` of the first field that breaks a rule, if any. Only the rules that depend
-/// on the number of writes are checked.
+/// Returns the offset in the journal `head` of the first field that breaks a rule, or None. Only the rules that depend
+/// on the number of writes are checked. Used by `first_breach`.
 fn counted_breach(head: &[u8]) -> Option<u64>
     requires long { HEAD_1 ≤ length head.now }
     requires few { count_in head.now ≤ MAX_WRITES }
@@ -226,7 +235,8 @@ fn counted_breach(head: &[u8]) -> Option<u64>
     }
 }
 
-/// Returns the state of a journal of `size` bytes with the first bytes `head`.
+/// Returns the state of a journal of `size` bytes with the first bytes `head`. Commands that read or edit a file, and
+/// `recover`, decide by it.
 pub fn gate_of(head: &[u8], size: u64) -> Gate
     requires { length head.now ≡ min HEAD size }
     ensures exact { result ≡ gate_of head.now size }

@@ -9,7 +9,8 @@ use std::alloc::{AllocError, Global};
 /// Suffix of a file's name in the name of its journal.
 pub const SUFFIX: &str = ".mkvedit";
 
-/// Returns the name of the journal of the file `name`.
+/// Returns the name of the journal of the file `name`, which is `name` with `.mkvedit` after it. Used by edits, and by
+/// commands that look for a pending edit.
 pub fn sidecar_name(alloc: Global, name: &str) -> Result<Text, AllocError>
     ensures { IfOk result (λ sidecar. sidecar ≡ sidecar_of name.now) }
 {

@@ -49,6 +49,7 @@ pub enum RecoverEnd {
 impl From<Failed> for RecoverEnd {
     ghost from_gives = { λ _ end. end ≡ recover_end.DiskFault };
 
+    /// Returns the end of a recovery when a call on the disk failed.
     fn from(_failed: Failed) -> RecoverEnd {
         RecoverEnd::DiskFault
     }

@@ -14,8 +14,9 @@ use crate::reading::state;
 use mkv_io::{Files, OpenFault, ReadEnd};
 use std::alloc::Global;
 
-/// Checks whether an edit of the file `name` is pending, by its journal, which is opened, read and closed. No edit is
-/// pending if there is no journal. A journal that can't be opened or read is a `ReadFault`.
+/// Checks whether an edit of the file `name` is pending, by its journal, which is opened, read and closed. `merge`,
+/// `extract` and `info` do this before they read the file. No edit is pending if there is no journal. A journal that
+/// can't be opened or read is a `ReadFault`.
 pub fn is_pending<F: Files>(alloc: Global, name: &str, files: &mut F) -> Result<bool, ReadEnd>
     ensures exact { IfVisible (F.names files.old) (λ world. IfOk result (λ pending. pending ≡ is_pending world name.now)) }
     ensures looks { LooksOnly F.Reads F.Files.own (sidecar_of name.now ∷ []) files.old files.new }
@@ -34,7 +35,7 @@ pub fn is_pending<F: Files>(alloc: Global, name: &str, files: &mut F) -> Result<
     Ok(is_begun(held?))
 }
 
-/// Checks whether the state `held` is a pending edit.
+/// Checks whether the state `held` of a journal is a pending edit. Used by `is_pending`.
 fn is_begun(held: Gate) -> bool
     ensures { result ≡ is_begun held }
 {

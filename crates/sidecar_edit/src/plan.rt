@@ -36,8 +36,9 @@ impl Model for Plan {
 }
 
 impl Plan {
-    /// Returns a plan of writes at `places`, with the bytes `payload` in this order. The file has the length `old_len`
-    /// before and `new_len` after, and the first bytes `first` before.
+    /// Returns a plan of writes at `places`, with the bytes `payload` in this order; the planning of `propedit` and
+    /// `reindex` ends with it. The file has the length `old_len` in bytes before and `new_len` after, and the first
+    /// bytes `first` before.
     pub fn new(
         alloc: Global,
         old_len: u64,
@@ -68,21 +69,21 @@ impl Plan {
         })
     }
 
-    /// Returns the number of writes of the plan.
+    /// Returns the number of writes of the plan. For a reader of plans; no command calls it.
     pub fn count(&self) -> usize
         ensures { result ≡ length self.now.head.places }
     {
         self.places.len()
     }
 
-    /// Returns the places of the writes, in order.
+    /// Returns the places of the plan's writes, in order. Used by `write_media`, for `commit`.
     pub fn places(&self) -> &[Place]
         ensures { result.now ≡ self.now.head.places }
     {
         self.places.as_slice()
     }
 
-    /// Returns the bytes of all writes, in sequence.
+    /// Returns the bytes of all writes of the plan, in sequence. Used by `write_media`, for `commit`.
     pub fn payload(&self) -> &[u8]
         ensures same { result.now ≡ self.now.payload }
         ensures full { length result.now ≡ sum_of self.now.head.places }
@@ -90,7 +91,7 @@ impl Plan {
         &self.octets.as_slice()[HEAD as usize - 1..]
     }
 
-    /// Returns the bytes of the record in the journal, after the gate.
+    /// Returns the bytes of the plan's record in the journal, after the gate. Used by `write_record`, for `commit`.
     pub fn body(&self) -> &[u8]
         ensures same { result.now ≡ body_of self.now }
         ensures sound { IsPlan self.now }
@@ -98,14 +99,15 @@ impl Plan {
         self.octets.as_slice()
     }
 
-    /// Returns the length of the file after the edit, in bytes.
+    /// Returns the length of the file after the edit of the plan, in bytes. For a reader of plans; no command calls it.
     pub fn new_len(&self) -> u64
         ensures { result ≡ self.now.head.new_len }
     {
         self.new_len
     }
 
-    /// Returns the file's first bytes before the edit: 64, or all if it has fewer.
+    /// Returns the file's first bytes before the edit of the plan: 64, or all if it has fewer. For a reader of plans;
+    /// no command calls it. Used by `new`, `append_marks` and others.
     pub fn first(&self) -> &[u8]
         ensures { result.now ≡ self.now.head.first }
     {
@@ -114,7 +116,7 @@ impl Plan {
 }
 
 /// Appends the fields before the places to `octets`: for a record of `total` bytes with `count` writes, which gives the
-/// file `new_len` bytes.
+/// file `new_len` bytes. Used by `Plan::new`.
 fn append_front(octets: &mut Bytes, total: u64, new_len: u64, count: u8) -> Result<(), AllocError>
     ensures { OnOk result (octets.new ≡ octets.old ++ front_octets total new_len count) }
 {
@@ -125,7 +127,8 @@ fn append_front(octets: &mut Bytes, total: u64, new_len: u64, count: u8) -> Resu
     Ok(())
 }
 
-/// Appends the eight places of a record to `octets`; unused ones are zero.
+/// Appends the eight places of a record to `octets`: the ones in `places`, and zeros for unused ones. Used by
+/// `Plan::new`.
 fn append_places(octets: &mut Bytes, places: &[Place]) -> Result<(), AllocError>
     ensures { OnOk result (octets.new ≡ octets.old ++ slots MAX_WRITES places.now) }
 {
@@ -135,7 +138,8 @@ fn append_places(octets: &mut Bytes, places: &[Place]) -> Result<(), AllocError>
     Ok(())
 }
 
-/// Appends to `octets` the one of `places` with the index `k`, counted from 0, or zeros if there are fewer.
+/// Appends to `octets` the one of `places` with the index `k`, counted from 0, or zeros if there are fewer. Used by
+/// `append_places`.
 fn append_place(octets: &mut Bytes, places: &[Place], k: usize) -> Result<(), AllocError>
     ensures { OnOk result (octets.new ≡ octets.old ++ slot places.now k) }
 {
@@ -145,7 +149,7 @@ fn append_place(octets: &mut Bytes, places: &[Place], k: usize) -> Result<(), Al
     Ok(())
 }
 
-/// Returns the zeros that fill the first bytes `first` of a short file up to `KEPT` bytes.
+/// Returns the zeros that fill the first bytes `first` of a short file up to `KEPT` bytes. Used by `append_marks`.
 fn zeros_behind(first: &[u8]) -> &'static [u8]
     requires { length first.now ≤ KEPT }
     ensures { result.now ≡ zeros (KEPT - length first.now) }
@@ -153,7 +157,8 @@ fn zeros_behind(first: &[u8]) -> &'static [u8]
     &ZEROS[first.len()..]
 }
 
-/// Appends to `octets` the bytes that identify the file: its length `old_len` before the edit, and its first bytes.
+/// Appends to `octets` the bytes that identify the file: its length `old_len` in bytes before the edit, and its first
+/// bytes `first`, filled up with zeros. Used by `Plan::new`.
 fn append_marks(octets: &mut Bytes, old_len: u64, first: &[u8]) -> Result<(), AllocError>
     requires { length first.now ≤ KEPT }
     ensures { OnOk result (octets.new ≡ octets.old ++ mark_octets old_len first.now) }

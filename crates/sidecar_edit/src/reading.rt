@@ -16,7 +16,8 @@ use crate::place::{HEAD, KEPT};
 use mkv_disk::{MEDIA, SIDECAR};
 use mkv_io::{Failed, FileId, Reads};
 
-/// Reads the first bytes of `file`, up to the length of `first`, into it, and returns their number.
+/// Reads the first bytes of `file`, up to the length of `first`, into it, and returns their number. Used for a
+/// journal's fields, and for the bytes that identify a file.
 #[tactic(auto, using(std::proofs::lemmas::List::take_at))]
 pub fn read_first<R: Reads>(src: &mut R, file: FileId, first: &mut [u8]) -> Result<usize, Failed>
     requires { IsLive R.Reads src.old file }
@@ -31,7 +32,8 @@ pub fn read_first<R: Reads>(src: &mut R, file: FileId, first: &mut [u8]) -> Resu
     Ok(count)
 }
 
-/// Returns the state of the journal `file`. It takes no memory.
+/// Returns the state of the journal `file` in `src`, which decides whether its file may be used. It takes no memory. An
+/// edit asks for it, and each command that reads a file. Used by `is_pending`.
 pub fn state<R: Reads>(src: &mut R, file: FileId) -> Result<Gate, Failed>
     requires live { IsLive R.Reads src.old file }
     ensures ok { IfOk result (λ gate. IfTold R.Reads src.old file (λ bytes. gate ≡ state bytes)) }
@@ -44,7 +46,8 @@ pub fn state<R: Reads>(src: &mut R, file: FileId) -> Result<Gate, Failed>
     Ok(gate_of(&head[..count], src.size(file)))
 }
 
-/// Returns the refusal if the writes of a pending record, whose journal has the first bytes `head`, don't fit the file.
+/// Returns the refusal if the writes of a pending record, whose journal has the first bytes `head`, don't fit the file
+/// on the disk `src`, or None. Used by `redo_own`.
 pub fn unfit_medium<R: Reads>(head: &[u8], src: &mut R) -> Result<Option<RecoverEnd>, Failed>
     requires live { IsLive R.Reads src.old MEDIA }
     requires head { IsLiveHead head.now (file_size R.Reads src.old SIDECAR) }

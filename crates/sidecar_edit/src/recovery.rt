@@ -22,7 +22,8 @@ use crate::reading::{read_first, unfit_medium};
 use mkv_disk::{Disk, MEDIA, SIDECAR};
 use mkv_io::Failed;
 
-/// Makes the writes of the pending record, whose journal has the first bytes `head`, in the file, and syncs them.
+/// Makes the writes of the pending record, whose journal on `disk` has the first bytes `head`, in the file, and syncs
+/// them. Used by `redo`.
 fn redo_writes<D: Disk>(head: &[u8], disk: &mut D) -> Result<(), Failed>
     requires ready { IsReady D.Reads D.Disk.own disk.old }
     requires head { IsHeadOf D.Reads D.Disk.own disk.old head.now }
@@ -42,7 +43,7 @@ fn redo_writes<D: Disk>(head: &[u8], disk: &mut D) -> Result<(), Failed>
 }
 
 /// Makes the writes of the pending record `head`, which belongs to the file of `disk`, and then closes the journal's
-/// gate.
+/// gate. Used by `redo_own`.
 fn redo<D: Disk>(head: &[u8], disk: &mut D) -> Result<(), Failed>
     requires ready { IsReady D.Reads D.Disk.own disk.old }
     requires head { IsHeadOf D.Reads D.Disk.own disk.old head.now }
@@ -56,7 +57,8 @@ fn redo<D: Disk>(head: &[u8], disk: &mut D) -> Result<(), Failed>
     close(disk)
 }
 
-/// Makes the pending edit of the journal with the first bytes `head`, unless it was made for another file.
+/// Makes the pending edit of the journal on `disk` with the first bytes `head`, unless it was made for another file.
+/// Used by `recover`.
 fn redo_own<D: Disk>(head: &[u8], disk: &mut D) -> Result<Recovered, RecoverEnd>
     requires ready { IsReady D.Reads D.Disk.own disk.old }
     requires head { IsHeadOf D.Reads D.Disk.own disk.old head.now }
@@ -73,8 +75,8 @@ fn redo_own<D: Disk>(head: &[u8], disk: &mut D) -> Result<Recovered, RecoverEnd>
     Ok(Recovered::Applied)
 }
 
-/// Completes the pending edit of the journal on `disk`, if there is one, and closes its gate. It takes no memory. A
-/// crash in the meantime leaves files that can be recovered in turn, to the same file.
+/// Completes the pending edit of the journal on `disk`, if there is one, and closes its gate; the command `recover`
+/// does this. It takes no memory. A crash in the meantime leaves files that can be recovered in turn, to the same file.
 pub fn recover<D: Disk>(disk: &mut D) -> Result<Recovered, RecoverEnd>
     requires { IsReady D.Reads D.Disk.own disk.old }
     ensures ok { OfReads D.Disk.own disk.old (λ M S. IsRecovered M S result (D.pair disk.new)) }

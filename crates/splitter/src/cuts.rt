@@ -44,7 +44,7 @@ impl Model for Cuts {
 
 impl Cuts {
     /// Returns the state before the first block, for the cuts of `spec` and an output with `scale` nanoseconds per
-    /// tick. Allocates no memory.
+    /// tick. Allocates no memory. `PartCuts` makes one for a merge whose parts end at times.
     pub fn new(spec: SplitSpec, scale: u64) -> Cuts
         ensures { result ≡ new_cuts spec None scale }
     {
@@ -60,14 +60,15 @@ impl Cuts {
     }
 
     /// Checks whether the section with the last block is written. Before the first block this is the section at tick 0,
-    /// which is a part without blocks if the output has no block.
+    /// which is a part without blocks if the output has no block. `merge` asks it if there is no block at all.
     pub fn is_kept(&self) -> bool
         ensures { result ≡ is_kept self.now }
     {
         self.kept
     }
 
-    // Starts a section at the tick `start` of the whole output: a run of blocks up to the next cut.
+    // Starts a section at the tick `start` of the whole output: a run of blocks up to the next cut. For `assign`, when
+    // `merge` cuts its output.
     fn begin(&mut self, start: u64)
         ensures { self.new ≡ record self.old { start = Some start } }
     {
@@ -78,7 +79,7 @@ impl Cuts {
     }
 
     // Checks whether the section with the last block is over at the tick `tick`. The next keyframe that allows a cut
-    // then begins a new one.
+    // then begins a new one. For `assign`, when `merge` cuts its output.
     fn is_over(&self, tick: u64) -> bool
         ensures { result ≡ is_over_at self.now tick }
     {
@@ -87,7 +88,7 @@ impl Cuts {
     }
 
     /// Returns the place of the next block of a merged list, whose head is `head`. `drives` is true if keyframes of its
-    /// output track allow a cut. Allocates no memory.
+    /// output track allow a cut. Allocates no memory. `merge` calls it for each block that it has read.
     pub fn assign(&mut self, head: &OutHead, drives: bool) -> Place
         ensures place { result ≡ place_of self.old (head.now.key && drives) head.now.tick }
         ensures steps { (len : ℕ) → self.new ≡ stepped self.old (head.now.key && drives) head.now.tick len }

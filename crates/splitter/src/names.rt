@@ -7,8 +7,8 @@ ghost use Rattle.splitter.specs.Names.{are_digits, before, behind, extension, is
 use mkv_io::Text;
 use std::alloc::{AllocError, Global};
 
-// Splits the name of an output before its extension. That begins at the last point after the last slash, and may be
-// empty.
+// Splits the name `name` of an output into its stem and its extension. That begins at the last point after the last
+// slash, and may be empty. For the names of parts.
 fn cut(name: &str) -> (&str, &str)
     ensures stem { result.0.now ≡ stem name.now }
     ensures extension { result.1.now ≡ extension name.now }
@@ -21,7 +21,7 @@ fn cut(name: &str) -> (&str, &str)
 
 /// Returns the name of the part with the number `number`, counted from 1, of the output `output`. It has `-` and the
 /// number, with at least three digits, before the extension. That begins at the last point after the last `/`, if there
-/// is one.
+/// is one. `merge` calls it for each part of a split.
 pub fn part_name(alloc: Global, output: &str, number: u64) -> Result<Text, AllocError>
     ensures { IfOk result (λ name. name ≡ part_name output.now number) }
 {
@@ -30,14 +30,15 @@ pub fn part_name(alloc: Global, output: &str, number: u64) -> Result<Text, Alloc
     Ok(Text::from_string(name))
 }
 
-// Checks whether the bytes `octets` are at least three digits, as the number in a part's name.
+// Checks whether the bytes `octets` are at least three digits, as the number in a part's name. For `is_part_name`, in
+// the names of the parts of `merge --split`.
 fn are_digits(octets: &[u8]) -> bool
     ensures { result ≡ are_digits octets.now }
 {
     octets.len() >= 3 && octets.iter().all(|octet| octet.is_ascii_digit())
 }
 
-// Returns the bytes `octets` without the prefix `front`, or nothing if they don't have it. Used to find the number in a
+// Returns the bytes `octets` without the prefix `front`, or None if they don't have it. Used to find the number in a
 // part's name.
 fn behind<'a>(front: &[u8], octets: &'a [u8]) -> Option<&'a [u8]>
     ensures { option_copied result ≡ behind front.now octets.now }
@@ -45,7 +46,7 @@ fn behind<'a>(front: &[u8], octets: &'a [u8]) -> Option<&'a [u8]>
     octets.strip_prefix(front)
 }
 
-// Returns the bytes `octets` without the suffix `end`, or nothing if they don't have it. Used to find the number in a
+// Returns the bytes `octets` without the suffix `end`, or None if they don't have it. Used to find the number in a
 // part's name.
 fn before<'a>(end: &[u8], octets: &'a [u8]) -> Option<&'a [u8]>
     ensures { option_copied result ≡ before end.now octets.now }
@@ -54,7 +55,8 @@ fn before<'a>(end: &[u8], octets: &'a [u8]) -> Option<&'a [u8]>
 }
 
 // Returns the bytes of `name` between the stem of `output` with `-` and its extension, if it has both. They are the
-// number if `name` is a part's.
+// number if `name` is a part's. Returns None otherwise. For `is_part_name`, in the names of the parts of `merge
+// --split`.
 fn number_in<'a>(output: &str, name: &'a str) -> Option<&'a [u8]>
     ensures { option_copied result ≡ number_in output.now name.now }
 {
@@ -64,7 +66,8 @@ fn number_in<'a>(output: &str, name: &'a str) -> Option<&'a [u8]>
     before(extension.as_bytes(), rest)
 }
 
-/// Checks whether `name` could be the name of a part of `output`, with any number.
+/// Checks whether `name` could be the name of a part of `output`, with any number. `merge` refuses a split if a file
+/// that it reads has such a name.
 pub fn is_part_name(output: &str, name: &str) -> bool
     ensures { result ≡ is_part_name output.now name.now }
 {

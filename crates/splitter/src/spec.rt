@@ -21,7 +21,7 @@ pub enum SplitSpec {
 }
 
 // Returns the earlier of the times `end` and `bound`, which are in nanoseconds. The bound counts only if it is after
-// `start`, the start of a section.
+// `start`, the start of a section. For the first cut after it.
 fn sooner(end: Option<u128>, bound: u64, start: u128) -> Option<u128>
     ensures { (time : ℕ) → has_come result time ≡ (has_come end time || is_within start time bound) }
 {
@@ -35,7 +35,8 @@ fn sooner(end: Option<u128>, bound: u64, start: u128) -> Option<u128>
     }
 }
 
-// Returns the first of the times `at` after `start`, the start of a section, if there is one; all are in nanoseconds.
+// Returns the first of the times `at` after `start`, the start of a section, or None; all are in nanoseconds. For
+// `end_behind`, when `merge` cuts its output.
 fn first_time(at: &[u64], start: u128) -> Option<u128>
     ensures { (time : ℕ) → has_come result time ≡ list_any (is_within start time) at.now }
 {
@@ -46,7 +47,8 @@ fn first_time(at: &[u64], start: u128) -> Option<u128>
     end
 }
 
-// Returns the first bound of `spans` after `start`, the start of a section, if there is one; all are in nanoseconds.
+// Returns the first bound of `spans` after `start`, the start of a section, or None; all are in nanoseconds. For
+// `end_behind`, when `merge` cuts its output.
 fn first_bound(spans: &[SpanWords], start: u128) -> Option<u128>
     ensures { (time : ℕ) → has_come result time ≡ list_any (passes start time) spans.now }
 {
@@ -60,7 +62,8 @@ fn first_bound(spans: &[SpanWords], start: u128) -> Option<u128>
     end
 }
 
-// Checks whether the time `time` is in the span `span`, which may have no end; all are in nanoseconds.
+// Checks whether the time `time` is in the span `span`, which may have no end; all are in nanoseconds. For `keeps`,
+// when `merge` cuts its output.
 fn holds(span: &SpanWords, time: u128) -> bool
     ensures { result ≡ holds time span.now }
 {
@@ -68,8 +71,9 @@ fn holds(span: &SpanWords, time: u128) -> bool
 }
 
 impl SplitSpec {
-    /// Returns the time at the end of a section that starts at `start`, if it ends; both are in nanoseconds. The next
-    /// keyframe from then on that allows a cut begins a new section.
+    /// Returns the time at the end of a section that starts at `start`, or None if it doesn't end; both are in
+    /// nanoseconds. The next keyframe from then on that allows a cut begins a new section. For the state of the cuts,
+    /// when a section begins.
     pub(crate) fn end_behind(&self, start: u128) -> Option<u128>
         requires { start ≤ (2 ^ 64 - 1) * (2 ^ 64 - 1) }
         ensures { (time : ℕ) → has_come result time ≡ is_over self.now start time }
@@ -82,7 +86,8 @@ impl SplitSpec {
         }
     }
 
-    /// Checks whether a section that starts at `start`, in nanoseconds, is written as a part.
+    /// Checks whether a section that starts at `start`, in nanoseconds, is written as a part. For the state of the
+    /// cuts, when a section begins.
     pub(crate) fn keeps(&self, start: u128) -> bool
         ensures { result ≡ keeps self.now start }
     {

@@ -9,8 +9,8 @@ use mkv_io::List;
 use requests::SplitWords;
 use std::alloc::{AllocError, Global};
 
-// Returns the start of the chapter with the number `number`, counted from 1, if there is one. `starts` has the starts
-// of all chapters in nanoseconds.
+// Returns the start of the chapter with the number `number`, counted from 1, or None. `starts` has the starts of all
+// chapters in nanoseconds. For `starts_at`, when `merge` cuts its output.
 fn start_at(starts: &[u64], number: u64) -> Option<u64>
     ensures { result ≡ start_at starts.now number }
 {
@@ -19,7 +19,7 @@ fn start_at(starts: &[u64], number: u64) -> Option<u64>
 }
 
 // Returns the starts of the chapters with the numbers `numbers`, counted from 1, in nanoseconds. Chapters that don't
-// exist are left out.
+// exist are left out. For `split_spec`, when `merge` cuts its output.
 fn starts_at(alloc: Global, starts: &[u64], numbers: &[u64]) -> Result<List<u64>, AllocError>
     ensures { IfOk result (λ at. at ≡ filter_map (start_at starts.now) numbers.now) }
 {
@@ -29,7 +29,7 @@ fn starts_at(alloc: Global, starts: &[u64], numbers: &[u64]) -> Result<List<u64>
     Ok(List::from_vec(at.collect(alloc)?))
 }
 
-// Returns the cuts at the times `at`, in nanoseconds.
+// Returns the cuts at the times `at`, in nanoseconds. For `split_spec`, when `merge` cuts its output.
 fn times(alloc: Global, at: &[u64]) -> Result<SplitSpec, AllocError>
     ensures { IfOk result (λ s. s ≡ spec.Times at.now) }
 {
@@ -40,6 +40,7 @@ fn times(alloc: Global, at: &[u64]) -> Result<SplitSpec, AllocError>
 
 /// Returns the cuts at times that the option `words` asks for. `starts` are the starts of the output's chapters in
 /// nanoseconds, for cuts at chapters. Without the option, or if it asks for parts of a size, there are no times.
+/// `merge` calls it when it makes its plan.
 pub fn split_spec(
     alloc: Global,
     words: &Option<SplitWords>,
@@ -61,7 +62,8 @@ pub fn split_spec(
     }
 }
 
-/// Returns the size in bytes that ends each part, if the option `words` asks for parts of a size.
+/// Returns the size in bytes that ends each part, if the option `words` asks for parts of a size, and None otherwise.
+/// `merge` calls it when it makes its plan.
 pub fn split_size(words: &Option<SplitWords>) -> Option<u64>
     ensures { result ≡ size_of words.now }
 {

@@ -16,7 +16,8 @@ use mkv_schema::ids::{
 use std::alloc::{AllocError, Global};
 use text_formats::{Chapter, TextEnd, read_pairs};
 
-// Makes a master with the ID `id` and no children.
+// Returns a master with the ID `id` and no children, to which the functions for a file of simple chapters append. Used
+// by `display`, `atom` and others.
 #[tactic(auto, using(crate::proofs::ChaptersLemmas::empty), unfolding(tree_format::specs::Reading::grove, tree_format::specs::Reading::grove_within))]
 fn empty_master(alloc: Global, id: u32) -> Result<Tree, AllocError>
     requires { IsTrue (is_master id) }
@@ -28,7 +29,7 @@ fn empty_master(alloc: Global, id: u32) -> Result<Tree, AllocError>
     }
 }
 
-// Makes a ChapterDisplay with the name `name`, in an undetermined language.
+// Returns a ChapterDisplay with the name `name`, in an undetermined language. Used by `atom`.
 #[tactic(auto, using(crate::proofs::ChaptersLemmas::known))]
 fn display(alloc: Global, name: &str) -> Result<Tree, AllocError>
     ensures { IfOk result (λ tree. tree ≡ spec.display name.now) }
@@ -39,7 +40,8 @@ fn display(alloc: Global, name: &str) -> Result<Tree, AllocError>
     Ok(display)
 }
 
-// Makes the ChapterAtom for the simple chapter `chapter`. Its ChapterUID is 0 until a merge gives one.
+// Returns the ChapterAtom for the simple chapter `chapter`, with its start in nanoseconds. Its ChapterUID is 0 until a
+// merge gives one. Used by `edition`.
 #[tactic(auto, using(crate::proofs::ChaptersLemmas::known, crate::proofs::SoundLemmas::stands))]
 fn atom(alloc: Global, chapter: &Chapter) -> Result<Tree, AllocError>
     ensures exact { IfOk result (λ tree. tree ≡ spec.atom chapter.now) }
@@ -52,7 +54,8 @@ fn atom(alloc: Global, chapter: &Chapter) -> Result<Tree, AllocError>
     Ok(atom)
 }
 
-// Makes the EditionEntry with an atom for each of `chapters`. Its EditionUID is 0 until a merge gives one.
+// Returns the EditionEntry with an atom for each of `chapters`. Its EditionUID is 0 until a merge gives one. Used by
+// `chapters_tree`.
 #[tactic(auto, using(crate::proofs::ChaptersLemmas::known))]
 fn edition(alloc: Global, chapters: &[Chapter]) -> Result<Tree, AllocError>
     ensures exact { IfOk result (λ tree. tree ≡ spec.edition chapters.now) }
@@ -66,8 +69,8 @@ fn edition(alloc: Global, chapters: &[Chapter]) -> Result<Tree, AllocError>
     Ok(edition)
 }
 
-/// Makes a Chapters Element with one edition that has an atom for each of `chapters` (RFC 9559, section 5.1.7, Chapters
-/// Element). Its identifiers are 0 until a merge gives them.
+/// Returns a Chapters Element with one edition that has an atom for each of `chapters` (RFC 9559, section 5.1.7,
+/// Chapters Element). Its identifiers are 0 until a merge gives them. Used by `read_simple`.
 #[tactic(auto, using(crate::proofs::ChaptersLemmas::known, crate::proofs::SoundLemmas::chapters_sound))]
 pub fn chapters_tree(alloc: Global, chapters: &[Chapter]) -> Result<Tree, AllocError>
     ensures exact { IfOk result (λ tree. tree ≡ spec.chapters_of chapters.now) }
@@ -78,8 +81,8 @@ pub fn chapters_tree(alloc: Global, chapters: &[Chapter]) -> Result<Tree, AllocE
     Ok(tree)
 }
 
-/// Reads `bytes`, the content of a file of simple chapters, as a Chapters Element. It fails with the number of the
-/// first bad line, from 1. The identifiers are 0 until a merge gives them.
+/// Reads `bytes`, the content of a file of simple chapters, as a Chapters Element, for `merge --chapters`. It fails
+/// with the number of the first bad line, from 1. The identifiers are 0 until a merge gives them.
 pub fn read_simple(alloc: Global, bytes: &[u8]) -> Result<Tree, TextEnd>
     ensures exact { Reads result (spec.simple_chapters bytes.now) }
 

@@ -14,7 +14,7 @@ use mkv_schema::ids::{
 use std::alloc::AllocError;
 use text_formats::put_pair;
 
-// Returns the ChapterTimeStart of `atom` in nanoseconds, or 0 if it is absent.
+// Returns the ChapterTimeStart of `atom` in nanoseconds, or 0 if it is absent. Used by `put_atoms`.
 fn start_of(atom: &Tree) -> u64
     requires { IsSoundOf ids.CHAPTER_ATOM atom.now }
     ensures { result ≡ spec.start_of atom.now }
@@ -25,7 +25,7 @@ fn start_of(atom: &Tree) -> u64
     }
 }
 
-// Returns the ChapString in the first ChapterDisplay of `atom`, or no bytes if one is absent.
+// Returns the ChapString in the first ChapterDisplay of `atom`, or no bytes if one is absent. Used by `put_atoms`.
 fn name_of(atom: &Tree) -> &[u8]
     ensures { result.now ≡ spec.name_of atom.now }
 {
@@ -38,8 +38,9 @@ fn name_of(atom: &Tree) -> &[u8]
     }
 }
 
-/// Appends the simple chapters of `chapters` to `out`: two lines for each top atom of the first edition, numbered from
-/// 1. Times are in whole milliseconds, and the name is in the first display. On failure nothing is appended.
+/// Appends the simple chapters of `chapters` to `out`, for `extract FILE chapters`: two lines for each top atom of the
+/// first edition, numbered from 1. Times are in whole milliseconds, and the name is in the first display. On failure
+/// nothing is appended.
 pub fn put_simple(chapters: &Tree, out: &mut Bytes) -> Result<(), AllocError>
     requires { IsSoundOf ids.CHAPTERS chapters.now }
     ensures ok { OnOk result (out.new ≡ out.old ++ spec.put_simple chapters.now) }
@@ -52,7 +53,7 @@ pub fn put_simple(chapters: &Tree, out: &mut Bytes) -> Result<(), AllocError>
 }
 
 // Appends the atoms directly in `edition` to `out` as simple chapters, numbered from 1. If memory runs out, nothing is
-// appended.
+// appended. Used by `put_simple`.
 fn put_atoms(edition: &Tree, out: &mut Bytes) -> Result<(), AllocError>
     requires { IsSoundOf ids.EDITION_ENTRY edition.now }
     ensures ok { OnOk result (out.new ≡ out.old ++ spec.put_atoms 1 (spec.atoms_in (children edition.now))) }

@@ -8,6 +8,6 @@ use Rattle.merge_laws.specs.Merge.{HasMerged}
 use Rattle.word_values.specs.Place.{texts}
 
 -- If the exit status `code` is 0 or 1, the merge that `words` ask for was written, and took the names `old` to `new`. Other commands need no promise
--- here.
+-- here. The contract of `program` promises it.
 abbrev pub ExitsMerged : Names → Names → ℕ → Vec (String Global) Global → Type 0
 ExitsMerged old new code words = code < 2 → HasMerged old (texts words.items) new

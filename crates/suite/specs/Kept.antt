@@ -13,7 +13,7 @@ use Rattle.reindex.specs.Plan.{Index, index_of}
 use Rattle.edit_laws.specs.IndexLaws.{HoldsIndex}
 
 -- The file `new` is the file `old` with `edits` made, and holds the rest of `old`. The second is promised if `old` consists of bytes, at most 2^48 of
--- them, and has neither a Timestamp nor a block at level 1.
+-- them, and has neither a Timestamp nor a block at level 1. It is promised for a successful `propedit`.
 pub record KeepsRest (edits : List Edit) (old new : List ℕ) : Type 0 where
   pub file : EditableFile
   pub trees : Trees
@@ -22,7 +22,7 @@ pub record KeepsRest (edits : List Edit) (old new : List ℕ) : Type 0 where
   pub holds : AreOctets old → length old ≤ LONGEST_FILE → All IsOutside (segment_run old file.outline.segment).list → HoldsEdited old new file trees
 
 -- The file `new` is the file `old` with a new index, and holds the rest of `old`. The second is promised if `old` consists of bytes, at most 2^48 of
--- them, and has neither a Timestamp nor a block at level 1.
+-- them, and has neither a Timestamp nor a block at level 1. It is promised for a successful `reindex`.
 pub record HasNewIndex (old new : List ℕ) : Type 0 where
   pub file : EditableFile
   pub index : Index

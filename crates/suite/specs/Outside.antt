@@ -13,19 +13,20 @@ use Rattle.mkv_lines.specs.Said.{ReportLines}
 use Rattle.mkv_propedit.specs.Recover.{DiskWorld}
 use Rattle.mkv_run.specs.RunSeen.{DiskFaults, RunSeen}
 
--- A file that is edited in place, with its journal FILE.mkvedit.
+-- A file that is edited in place, with its journal FILE.mkvedit, as the state of the disk before or after a run. Used by `Outside`.
 pub record DiskSeen : Type 0 where
   -- the bytes of the two, and which versions of them a crash may leave now
   pub pair : Pair
   -- the name of the file that was opened last, if one was
   pub opened : Option (List ℕ)
 
--- Counts of the bytes that were read since the program started, from the files and from the disk.
+-- Counts of the bytes that were read since the program started, from the files and from the disk. The promise on bounds of a run compares them. Used
+-- by `Outside`.
 pub record BytesRead : Type 0 where
   pub files : ℕ
   pub disk : ℕ
 
--- The state of the files, the disk and the report, at one moment.
+-- The state of the files, the disk and the report, before or after a run. The contracts of `run` and `program` promise what changes between two.
 pub record Outside : Type 1 where
   -- the content under each name, if it is visible to the proof: files in memory are, real files aren't
   pub names : Names
@@ -51,7 +52,8 @@ pub record Outside : Type 1 where
   -- A crash at some moment since an earlier one could have left these bytes of the file and of its journal.
   pub left_since : ℕ → List ℕ → List ℕ → Type 0
 
--- the state of the files `files`, the disk `disk` and the report `report`, as plain values
+-- the state of the files `files`, the disk `disk` and the report `report`, as plain values, for the contracts of `run` and `program`. The other
+-- arguments have the parts of their states.
 abbrev pub outside : {F D R : Type 0} → ReadsGhosts F → FilesGhosts F → ReadsGhosts D → DiskGhosts D → ReportGhosts R → F → D → R → Outside
 outside r f s d p files disk report = record {
   names = f.names files;
@@ -68,17 +70,17 @@ outside r f s d p files disk report = record {
   left_since = d.left_since disk;
 }
 
--- the lines, the names and all failure counts of the state `o`
+-- the lines, the names and all failure counts of the state `o`, by which the outcome of a run is described. Used by `Runs`.
 abbrev pub seen_of : Outside → RunSeen
 seen_of o = record {
   seen = record { counts = o.faults; lines = o.lines; names = o.names };
   disk = o.disk_faults;
 }
 
--- the contents of the disk in the state `o`, if they are visible to the proof
+-- the contents of the disk in the state `o`, or None if they aren't visible to the proof. The promises of a run depend on them. Used by `Runs`.
 abbrev pub world_of : Outside → Option DiskWorld
 world_of o = if o.tells then Some record { is_there = o.is_there; media = o.disk.pair.media.reads; sidecar = o.disk.pair.sidecar.reads } else None
 
--- the number of bytes that were read of files and disk together, up to the state `o`
+-- the number of bytes that were read of files and disk together, since the program started, up to the state `o`. Used by `Runs`.
 abbrev pub bytes_read : Outside → ℕ
 bytes_read o = o.read.files + o.read.disk

@@ -25,7 +25,7 @@ use Rattle.mkv_run.specs.Touched.{LeftOnTheWay, Reach, edited, files, indexed, n
 -- ---- the rest stays
 
 -- From the state `before` to `after`, the files stay as they were. So do their contents, the open ones, the names that were opened or created, and
--- the counts of failures and bytes read.
+-- the counts of failures and bytes read. A command that works on the disk, or on nothing, promises it.
 pub record FilesStay (before after : Outside) : Type 0 where
   pub names : after.names ≡ before.names
   pub live : after.live ≡ before.live
@@ -35,7 +35,7 @@ pub record FilesStay (before after : Outside) : Type 0 where
   pub read : after.read.files ≡ before.read.files
 
 -- From the state `before` to `after`, the disk stays as it was. So do the file and its journal, all other names, and the counts of failures and bytes
--- read. A crash can have left nothing new.
+-- read. A crash can have left nothing new. A command that works on files, or on nothing, promises it.
 pub record DiskStays (before after : Outside) : Type 0 where
   pub disk : after.disk ≡ before.disk
   pub is_there : after.is_there ≡ before.is_there
@@ -47,29 +47,31 @@ pub record DiskStays (before after : Outside) : Type 0 where
 -- ---- a file in place
 
 -- `P` holds of the bytes of the file and its journal in `before`, and of the two in `after`. It is promised if the disk is visible to the proof.
+-- Promises of edits in place use it.
 abbrev pub OfPair : Outside → Outside → (List ℕ → List ℕ → Pair → Type 0) → Type 0
 OfPair before after P = IsTrue before.tells → P before.disk.pair.media.reads before.disk.pair.sidecar.reads after.disk.pair
 
 -- A run that ended with the status `s` has opened the file `name` by the state `after`. If not, the file doesn't exist or a call failed, and the disk
--- is as in `before`.
+-- is as in `before`. `propedit`, `reindex` and `recover` promise it.
 abbrev pub OpensOrLeaves : List ℕ → Outside → Outside → Status → Type 0
 OpensOrLeaves name before after s =
     (after.disk.opened ≡ Some name)
     ⊎ ((after.disk ≡ before.disk) × (s ≢ status.Done) × (s ≡ status.Refused → IsTrue before.tells → before.is_there name ≡ false))
 
--- An edit with `edits` that succeeded keeps the rest of the file, from the state `before` to `after`. The last argument is the status.
+-- A `propedit` with `edits` that succeeded keeps the rest of the file, from the state `before` to `after`. The last argument is the status. `Leaves`
+-- promises it.
 abbrev pub KeepsRestOf : List Edit → Outside → Outside → Status → Type 0
 KeepsRestOf edits before after status.Done = OfPair before after (λ M S p. KeepsRest edits M p.media.reads)
 KeepsRestOf edits before after s = ⊤
 
 -- A `reindex` that succeeded keeps the rest of the file, from the state `before` to `after`, and its index is complete. The last argument is the
--- status.
+-- status. `Leaves` promises it.
 abbrev pub IndexesAll : Outside → Outside → Status → Type 0
 IndexesAll before after status.Done = OfPair before after (λ M S p. HasNewIndex M p.media.reads)
 IndexesAll before after s = ⊤
 
 -- A run with the status `s` changes only the objects that its command works on, from the state `before` to `after`. A run that recovers, edits or
--- indexes a file leaves all other files as they are. Every other run leaves the disk as it is.
+-- indexes a file leaves all other files as they are. Every other run leaves the disk as it is. The contract of `run` promises it.
 abbrev pub Leaves : Reach → Outside → Outside → Status → Type 0
 Leaves nothing before after s = FilesStay before after × DiskStays before after
 Leaves files before after s = DiskStays before after
@@ -81,7 +83,7 @@ Leaves (indexed file) before after s =
     FilesStay before after × OpensOrLeaves file before after s × OfPair before after (LeavesEdited s writes_of_index) × IndexesAll before after s
 
 -- A crash at any moment from `before` to `after` leaves bytes of the file and its journal that satisfy `P`. A crash since an earlier moment leaves
--- such bytes, or bytes that were possible in `before`; these are still possible.
+-- such bytes, or bytes that were possible in `before`; the latter are still possible. The contract of `run` promises it.
 pub record CrashLeavesOnly (before after : Outside) (P : List ℕ → List ℕ → Type 0) : Type 0 where
   pub later : before.moment ≤ after.moment
   pub each : (m s : List ℕ) → after.left_since before.moment m s → P m s
@@ -90,7 +92,8 @@ pub record CrashLeavesOnly (before after : Outside) (P : List ℕ → List ℕ �
 
 -- ---- a run
 
--- The promises of a run with the command line `words` that found the state `before`, left `after`, and ended with the status `s`.
+-- The promises of a run with the command line `words` that found the state `before`, left `after`, and ended with the status `s`. They are the
+-- contract of `run`, on which users rely.
 pub record Runs (words : List (List ℕ)) (before after : Outside) (s : Status) : Type 0 where
   -- Status, messages and outputs are the ones that the definitions give for the command line, and nothing under another name has changed. If a call
   -- of the system fails or memory runs out on the way, only the first of the messages were printed. This is promised if the contents of the files, or
@@ -119,13 +122,14 @@ pub record Runs (words : List (List ℕ)) (before after : Outside) (s : Status) 
   pub survives_crashes : IsTrue before.tells → IsSynced before.disk.pair
       → CrashLeavesOnly before after (LeftOnTheWay (reach_in (command words)) s before.disk.pair.media.reads before.disk.pair.sidecar.reads)
 
--- The exit status `code` of the program is the number of a status. A run of `words` from the state `before` to `after` ends with this status.
+-- The exit status `code` of the program is the number of a status. A run of `words` from the state `before` to `after` ends with this status. The
+-- contract of `program` promises it.
 pub record Exits (words : List (List ℕ)) (before after : Outside) (code : ℕ) : Type 0 where
   pub status : Status
   pub number : code ≡ code_of status
   pub runs : Runs words before after status
 
--- From the state `before` to `after`, nothing was done and nothing was printed.
+-- From the state `before` to `after`, nothing was done and nothing was printed. The contract of `program` promises it if the words couldn't be read.
 pub record IsIdle (before after : Outside) : Type 0 where
   pub files : FilesStay before after
   pub disk : DiskStays before after

@@ -17,7 +17,8 @@ use remerge_laws::outputs_are_written_again;
 use std::alloc::Global;
 
 /// Does what `words`, the command line without the program's name, ask for, prints the messages, and returns the
-/// status. Requires that nothing on the disk is left to sync if the command edits or recovers a file in place.
+/// status. `program` calls it once. Requires that nothing on the disk is left to sync if the command edits or recovers
+/// a file in place.
 pub fn run<F: Files, D: Disk, R: Report>(
     alloc: Global,
     words: &Vec<String>,

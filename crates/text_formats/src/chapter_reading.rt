@@ -28,7 +28,7 @@ struct FirstLine<'a> {
     start: u64,
 }
 
-// Reads the time `word`, `HH:MM:SS.mmm`; returns nanoseconds.
+// Reads the time `word`, `HH:MM:SS.mmm`; returns nanoseconds, or None if it has another form. `first_line` calls it.
 #[tactic(auto, unfolding(crate::specs::Pairs::time_of))]
 fn time_of(word: &[u8]) -> Option<u64>
     ensures { result ≡ spec.time_of word.now }
@@ -43,7 +43,8 @@ fn time_of(word: &[u8]) -> Option<u64>
     Some(((hours * 60 + minutes) * 60_000 + (seconds * 1000 + thousandths)) * MILLISECOND)
 }
 
-// Reads the first line of a chapter, `CHAPTERnn=` and a time, where nn are two to four digits.
+// Reads the first line of a chapter, `CHAPTERnn=` and a time, where nn are two to four digits. Returns None if `line`
+// has another form. `take_line` calls it.
 #[tactic(auto, unfolding(crate::specs::Pairs::first_line))]
 fn first_line(line: &[u8]) -> Option<FirstLine<'_>>
     ensures { option_map timed_of result ≡ spec.first_line line.now }
@@ -56,7 +57,7 @@ fn first_line(line: &[u8]) -> Option<FirstLine<'_>>
 }
 
 // Reads the second line of a chapter, `CHAPTERnnNAME=` and a name in UTF-8, and returns the name. `number` has the
-// digits nn of the first line.
+// digits nn of the first line. Returns None if `line` has another form. `take_line` calls it.
 #[tactic(auto, unfolding(crate::specs::Pairs::second_line))]
 fn second_line<'a>(number: &[u8], line: &'a [u8]) -> Option<&'a str>
     ensures { option_map (λ s. s.now) result ≡ spec.second_line number.now line.now }
@@ -66,7 +67,7 @@ fn second_line<'a>(number: &[u8], line: &'a [u8]) -> Option<&'a str>
     text(behind(b"NAME=", rest)?)
 }
 
-// Makes the chapter that starts at `start` nanoseconds and has the name `words`.
+// Makes the chapter that starts at `start` nanoseconds and has the name `words`, for `take_line`.
 fn named(alloc: Global, start: u64, words: &str) -> Result<Chapter, AllocError>
     ensures { IfOk result (λ chapter. chapter ≡ spec.chapter start words.now) }
 {
@@ -75,8 +76,9 @@ fn named(alloc: Global, start: u64, words: &str) -> Result<Chapter, AllocError>
     Ok(Chapter { start, name })
 }
 
-// Takes `line`, which isn't empty and has the number `number`. If `due` is a first line, it must be the second line,
-// and the chapter is added to `list`. If not, it must be a first line, which is returned.
+// Takes `line`, which isn't empty and has the number `number`, counted from 1. If `due` is a first line, it must be the
+// second line, and the chapter is added to `list`; the result is None. If not, it must be a first line, which is
+// returned. `read_pairs` calls it for each line.
 fn take_line<'a>(
     alloc: Global,
     list: &mut List<Chapter>,
@@ -101,9 +103,9 @@ fn take_line<'a>(
     Ok(None)
 }
 
-/// Reads the chapters in `bytes`, the content of a file of simple chapters, in the file's order. It fails with the
-/// number, from 1, of the first bad line: one that is neither empty nor the line that is due. If the last name is
-/// missing, that is the line after the last.
+/// Reads the chapters in `bytes`, the content of a file of simple chapters, in the file's order, for a chapter file of
+/// `merge`. It fails with the number, from 1, of the first bad line: one that is neither empty nor the line that is
+/// due. If the last name is missing, that is the line after the last.
 pub fn read_pairs(alloc: Global, bytes: &[u8]) -> Result<List<Chapter>, TextEnd>
     ensures exact { Reads result (spec.simple bytes.now) }
 {

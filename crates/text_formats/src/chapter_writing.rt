@@ -8,7 +8,7 @@ use mkv_io::Bytes;
 use std::alloc::AllocError;
 
 /// Appends to `out` the two lines of the chapter with the number `number` and the name `name`, which starts at `start`
-/// nanoseconds. On failure nothing is appended.
+/// nanoseconds. `extract` writes chapters as text with it. On failure nothing is appended.
 #[tactic(auto, using(crate::proofs::ChapterWritingLemmas::pieces), unfolding(crate::specs::ChapterWriting::put_pair))]
 pub fn put_pair(number: u64, start: u64, name: &[u8], out: &mut Bytes) -> Result<(), AllocError>
     ensures ok { OnOk result (out.new ≡ out.old ++ spec.put_pair number start name.now) }
@@ -28,7 +28,8 @@ pub fn put_pair(number: u64, start: u64, name: &[u8], out: &mut Bytes) -> Result
     put_pieces(&pieces, out)
 }
 
-// Returns a time in milliseconds as simple chapters write it, with a point before the last three digits.
+// Returns a time in milliseconds as simple chapters write it, with a point before the last three digits. `put_pair`
+// calls it.
 fn time(milliseconds: u64) -> Piece<'static>
     ensures { result ≡ spec.time milliseconds }
 {

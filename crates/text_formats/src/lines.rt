@@ -8,7 +8,8 @@ ghost use Rattle.text_formats.specs.Lines as spec;
 /// Byte order mark of UTF-8, which a text file may begin with.
 const MARK: [u8; 3] = [0xEF, 0xBB, 0xBF];
 
-/// Returns `content` without the byte order mark of UTF-8, if it begins with one.
+/// Returns `content` without the byte order mark of UTF-8, if it begins with one. Readers of text files call it first.
+/// Used by `read_pairs`, `read_entries` and others.
 pub fn behind_mark(content: &[u8]) -> &[u8]
     ensures { result.now ≡ spec.behind_mark content.now }
 {
@@ -20,6 +21,7 @@ pub fn behind_mark(content: &[u8]) -> &[u8]
 }
 
 /// Returns the first line of `rest` without its LF or CRLF, and the bytes after it; None at the end of the file.
+/// Readers of text files call it for each line. Used by `read_pairs`, `read_head` and others.
 pub fn next_line(rest: &[u8]) -> Option<(&[u8], &[u8])>
     ensures first { MatchOption result (lines rest.now ≡ []) (λ p. lines rest.now ≡ p.0.now ∷ lines p.1.now) }
     ensures less { MatchOption result (length rest.now ≡ 0) (λ p. length p.1.now < length rest.now) }
@@ -36,7 +38,7 @@ pub fn next_line(rest: &[u8]) -> Option<(&[u8], &[u8])>
     }
 }
 
-/// Returns `line` without a CR at its end, if it has one.
+/// Returns `line` without a CR at its end, if it has one. `next_line` calls it for a line that ended with LF.
 fn without_return(line: &[u8]) -> &[u8]
     ensures { result.now ≡ strip_carriage_return line.now }
 {
@@ -46,7 +48,8 @@ fn without_return(line: &[u8]) -> &[u8]
     }
 }
 
-/// Returns the index, from 0, of the first byte of `word` that is `octet`.
+/// Returns the index, from 0, of the first byte of `word` that is `octet`, or None if there is none. `cut` and
+/// `next_line` call it.
 pub(crate) fn place_of(word: &[u8], octet: u8) -> Option<usize>
     ensures { result ≡ position (λ b. b == octet) word.now }
 {

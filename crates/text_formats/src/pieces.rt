@@ -30,7 +30,8 @@ pub enum Piece<'a> {
     Time { point: u8, milliseconds: u64 },
 }
 
-/// Appends `pieces` to `out`, in order. On failure nothing is appended.
+/// Appends `pieces` to `out`, in order, for entries of SubRip and simple chapters. On failure nothing is appended.
+/// `put_srt` and `put_pair` call it.
 pub fn put_pieces(pieces: &[Piece<'_>], out: &mut Bytes) -> Result<(), AllocError>
     ensures ok { OnOk result (out.new ≡ out.old ++ flat_map spec.octets_of pieces.now) }
     ensures err { OnErr result (out.new ≡ out.old) }
@@ -45,7 +46,8 @@ pub fn put_pieces(pieces: &[Piece<'_>], out: &mut Bytes) -> Result<(), AllocErro
     Ok(())
 }
 
-// Appends `piece` to `out`. On failure a part may be appended; the bytes that `out` had before stay.
+// Appends `piece` to `out`. `put_pieces` calls it. On failure a part may be appended; the bytes that `out` had before
+// stay.
 fn put_piece(piece: &Piece<'_>, out: &mut Bytes) -> Result<(), AllocError>
     ensures ok { OnOk result (out.new ≡ out.old ++ spec.octets_of piece.now) }
     ensures err { OnErr result (take (length out.old) out.new ≡ out.old) }
@@ -61,7 +63,7 @@ fn put_piece(piece: &Piece<'_>, out: &mut Bytes) -> Result<(), AllocError>
     }
 }
 
-// Appends `n` to `out` in decimal. If memory runs out, nothing is appended.
+// Appends `n` to `out` in decimal. `put_piece` and `put_two_or_more` call it. If memory runs out, nothing is appended.
 fn put_number(n: u64, out: &mut Bytes) -> Result<(), AllocError>
     ensures ok { OnOk result (out.new ≡ out.old ++ decimal n) }
     ensures err { OnErr result (out.new ≡ out.old) }
@@ -69,7 +71,8 @@ fn put_number(n: u64, out: &mut Bytes) -> Result<(), AllocError>
     out.append(Buffer::new().format(n).as_bytes())
 }
 
-// Appends `n` to `out` in decimal, with at least two digits. If memory runs out, nothing is appended.
+// Appends `n` to `out` in decimal, with at least two digits. `put_piece` and `put_time` call it. If memory runs out,
+// nothing is appended.
 fn put_two_or_more(n: u64, out: &mut Bytes) -> Result<(), AllocError>
     ensures ok { OnOk result (out.new ≡ out.old ++ spec.two_or_more n) }
     ensures err { OnErr result (out.new ≡ out.old) }
@@ -82,7 +85,7 @@ fn put_two_or_more(n: u64, out: &mut Bytes) -> Result<(), AllocError>
 }
 
 // Appends a time of `ms` milliseconds to `out` as hours, minutes, seconds and milliseconds, with the byte `point`
-// before the last. If memory runs out, a part may be appended.
+// before the last. `put_piece` calls it. If memory runs out, a part may be appended.
 #[tactic(auto, using(crate::proofs::PiecesLemmas::joins), unfolding(crate::specs::Pieces::stamp))]
 fn put_time(point: u8, ms: u64, out: &mut Bytes) -> Result<(), AllocError>
     ensures ok { OnOk result (out.new ≡ out.old ++ spec.stamp point ms) }
@@ -96,21 +99,21 @@ fn put_time(point: u8, ms: u64, out: &mut Bytes) -> Result<(), AllocError>
     Ok(())
 }
 
-// Returns the last two decimal digits of `n`, as ASCII.
+// Returns the last two decimal digits of `n`, as ASCII, for hours, minutes and seconds. `put_time` calls it.
 fn two_digits(n: u64) -> [u8; 2]
     ensures { result ≡ spec.two_digits n }
 {
     [digit(n / 10), digit(n)]
 }
 
-// Returns the last three decimal digits of `n`, as ASCII.
+// Returns the last three decimal digits of `n`, as ASCII, for milliseconds. `put_time` calls it.
 fn three_digits(n: u64) -> [u8; 3]
     ensures { result ≡ spec.three_digits n }
 {
     [digit(n / 100), digit(n / 10), digit(n)]
 }
 
-// Returns the last decimal digit of `n`, as ASCII.
+// Returns the last decimal digit of `n`, as ASCII. `two_digits` and `three_digits` call it.
 fn digit(n: u64) -> u8
     ensures { result ≡ spec.digit n }
 {

@@ -25,7 +25,7 @@ struct Head<'a> {
     number: u64,
 }
 
-// Checks whether `line` has `-->`, the arrow between two times.
+// Checks whether `line` has `-->`, the arrow between two times. `plain` calls it.
 fn has_arrow(line: &[u8]) -> bool
     ensures { result ≡ spec.has_arrow line.now }
 {
@@ -37,7 +37,8 @@ fn has_arrow(line: &[u8]) -> bool
     false
 }
 
-// Returns `line` as text, if it may be a line of an entry's text: UTF-8 without `-->`.
+// Returns `line` as text, if it may be a line of an entry's text: UTF-8 without `-->`; otherwise None. `skip_front` and
+// `read_text` call it for each line.
 fn plain(line: &[u8]) -> Option<&str>
     ensures { MatchOption result (is_bad_at Behind false line.now ≡ true) (λ text. IsTextLine line.now text.now) }
 {
@@ -47,8 +48,9 @@ fn plain(line: &[u8]) -> Option<&str>
     text(line)
 }
 
-// Returns the head of an entry that begins with `line`, if one does. `line` has the number `number`, from 1, and the
-// bytes `after` follow it. Fails with `Bad` if the end is before the start.
+// Returns the head of an entry that begins with `line`, or None if none does. `line` has the number `number`, from 1,
+// and the bytes `after` follow it. Fails with `Bad` if the end is before the start. `skip_front` and `read_text` call
+// it for each line.
 fn read_head<'a>(line: &[u8], after: &'a [u8], number: u64) -> Result<Option<Head<'a>>, TextEnd>
     requires room { number + length after.now < 2 ^ 64 }
     ensures is { HeadRead line.now (lines after.now) number result }
@@ -78,7 +80,7 @@ fn read_head<'a>(line: &[u8], after: &'a [u8], number: u64) -> Result<Option<Hea
 }
 
 // Reads the empty lines before the first entry in `text`, and the head of that entry; returns None if there is no
-// entry. Fails with `Bad` for another line.
+// entry. `read_entries` calls it first. Fails with `Bad` for another line.
 fn skip_front(text: &[u8]) -> Result<Option<Head<'_>>, TextEnd>
     ensures ok { IfOk result (GoesOn (first_bad (lines text.now)) (lines text.now)) }
     ensures err { IfErr result (λ e. Blames e (first_bad (lines text.now))) }
@@ -104,7 +106,7 @@ fn skip_front(text: &[u8]) -> Result<Option<Head<'_>>, TextEnd>
     Ok(None)
 }
 
-// Appends `count` line feeds and then `line` to `text`, the text of an entry.
+// Appends `count` line feeds and then `line` to `text`, the text of an entry. `read_text` calls it.
 fn add_line(text: &mut Text, count: u64, line: &str) -> Result<(), AllocError>
     ensures { OnOk result (text.new ≡ text.old ++ (breaks count ++ line.now)) }
 {
@@ -114,8 +116,8 @@ fn add_line(text: &mut Text, count: u64, line: &str) -> Result<(), AllocError>
     text.append(line)
 }
 
-// Reads the text of an entry in `from`, the bytes after its head, and the next head, if there is one. `before` is the
-// number of lines before `from`.
+// Reads the text of an entry in `from`, the bytes after its head, and the next head, or None if there is none. `before`
+// is the number of lines before `from`. `read_entries` calls it for each entry.
 fn read_text<'a>(
     alloc: Global,
     from: &'a [u8],
@@ -152,7 +154,8 @@ fn read_text<'a>(
     Ok((text, None))
 }
 
-// Reads the entries in `bytes`, the content of a SubRip file, in the file's order.
+// Reads the entries in `bytes`, the content of a SubRip file, in the file's order, with times in nanoseconds.
+// `read_srt` calls it. It fails with the number, from 1, of the first bad line.
 fn read_entries(alloc: Global, bytes: &[u8]) -> Result<Vec<Entry>, TextEnd>
     ensures ok { IfOk result (λ es. entries (lines_of bytes.now) ≡ es.items) }
     ensures good { OnOk result (first_bad (lines_of bytes.now) ≡ None) }
@@ -174,9 +177,9 @@ fn read_entries(alloc: Global, bytes: &[u8]) -> Result<Vec<Entry>, TextEnd>
 }
 
 /// Reads the entries in `bytes`, the content of a SubRip file, sorted by start; entries with the same start keep their
-/// order. Times are in nanoseconds. It fails with the number, from 1, of the first bad line. A line is bad if it isn't
-/// UTF-8. It is bad if it has `-->` but isn't the second line of a head, or if its end is before its start. A line
-/// before the first entry is bad unless it is empty.
+/// order. `merge` calls it for a SubRip input. Times are in nanoseconds. It fails with the number, from 1, of the first
+/// bad line. A line is bad if it isn't UTF-8. It is bad if it has `-->` but isn't the second line of a head, or if its
+/// end is before its start. A line before the first entry is bad unless it is empty.
 pub fn read_srt(alloc: Global, bytes: &[u8]) -> Result<List<Entry>, TextEnd>
     ensures exact { Reads result (spec.srt bytes.now) }
     ensures within { IfOk result (AreWithin (length bytes.now)) }

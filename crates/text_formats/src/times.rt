@@ -17,7 +17,8 @@ pub(crate) struct Times {
     pub end: u64,
 }
 
-/// Reads `SS,mmm` or `SS.mmm` at the start of `word`; returns milliseconds.
+/// Reads `SS,mmm` or `SS.mmm` at the start of `word`; returns milliseconds, or None if it has another form. `clock`
+/// calls it.
 #[tactic(auto, unfolding(crate::specs::Times::seconds))]
 fn seconds(word: &[u8]) -> Option<u64>
     ensures same { result ≡ spec.seconds word.now }
@@ -37,7 +38,7 @@ fn seconds(word: &[u8]) -> Option<u64>
 }
 
 /// Reads a time `HH:MM:SS,mmm`, whose hours have two to four digits, at the start of `word`. Returns it in nanoseconds,
-/// with the bytes after it.
+/// with the bytes after it, or None if it has another form. `times_of` calls it.
 #[tactic(auto, unfolding(crate::specs::Times::clock))]
 fn clock(word: &[u8]) -> Option<(u64, &[u8])>
     ensures same { option_map (λ p. (p.0, p.1.now)) result ≡ spec.clock word.now }
@@ -52,7 +53,8 @@ fn clock(word: &[u8]) -> Option<(u64, &[u8])>
     Some((time, &rest[6..]))
 }
 
-/// Reads the second line of a head: two times with ` --> ` between them, and anything after a space.
+/// Reads the second line of a head: two times with ` --> ` between them, and anything after a space. Returns the times
+/// in nanoseconds, or None if it has another form. `read_head` calls it.
 #[tactic(auto, unfolding(crate::specs::Times::times))]
 pub(crate) fn times_of(line: &[u8]) -> Option<Times>
     ensures same { result ≡ spec.times line.now }
@@ -68,14 +70,14 @@ pub(crate) fn times_of(line: &[u8]) -> Option<Times>
     }
 }
 
-/// Checks whether `word`, the rest of a line after its end time, is empty or begins with a space.
+/// Checks whether `word`, the rest of a line after its end time, is empty or begins with a space. `times_of` calls it.
 fn is_tail(word: &[u8]) -> bool
     ensures { result ≡ spec.is_tail word.now }
 {
     word.is_empty() || word[0] == b' '
 }
 
-/// Checks whether `line` is the first line of a head: 1 to 9 digits, followed by spaces and tabs.
+/// Checks whether `line` is the first line of a head: 1 to 9 digits, followed by spaces and tabs. `read_head` calls it.
 #[tactic(auto, unfolding(crate::specs::Times::is_number))]
 pub(crate) fn is_number(line: &[u8]) -> bool
     ensures { result ≡ spec.is_number line.now }
@@ -87,14 +89,14 @@ pub(crate) fn is_number(line: &[u8]) -> bool
     all_blank(&line[n..])
 }
 
-/// Checks whether all bytes of `word` are spaces or tabs.
+/// Checks whether all bytes of `word` are spaces or tabs. `is_number` calls it for the rest of a line.
 fn all_blank(word: &[u8]) -> bool
     ensures { result ≡ list_all spec.is_blank word.now }
 {
     word.iter().all(|b| *b == b' ' || *b == b'\t')
 }
 
-/// Returns the number of digits that `line` begins with.
+/// Returns the number of digits that `line` begins with. `is_number` calls it.
 fn digits_in_front(line: &[u8]) -> usize
     ensures same { result ≡ prefix_len is_ascii_digit line.now }
     ensures within { result ≤ length line.now }

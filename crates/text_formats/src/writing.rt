@@ -7,8 +7,9 @@ use crate::pieces::{Piece, put_pieces};
 use mkv_io::Bytes;
 use std::alloc::AllocError;
 
-/// Appends to `out` an entry of SubRip: its number, its times, its text and an empty line. `start` and `duration` are
-/// in nanoseconds; a time before 0 is written as 0. On failure nothing is appended.
+/// Appends to `out` an entry of SubRip: its number, its times, its text and an empty line. `extract` writes a subtitle
+/// track with it. `start` and `duration` are in nanoseconds; a time before 0 is written as 0. On failure nothing is
+/// appended.
 #[tactic(auto, using(crate::proofs::WritingLemmas::pieces), unfolding(crate::specs::Writing::put_srt))]
 pub fn put_srt(
     number: u64,
@@ -35,7 +36,7 @@ pub fn put_srt(
     put_pieces(&pieces, out)
 }
 
-// Returns a time in milliseconds as SubRip writes it, with a comma before the last three digits.
+// Returns a time in milliseconds as SubRip writes it, with a comma before the last three digits. `put_srt` calls it.
 fn time(milliseconds: u64) -> Piece<'static>
     ensures { result ≡ spec.time milliseconds }
 {
@@ -45,7 +46,7 @@ fn time(milliseconds: u64) -> Piece<'static>
     }
 }
 
-// Returns `time`, in nanoseconds, in whole milliseconds, and 0 for a time before 0.
+// Returns `time`, in nanoseconds, in whole milliseconds, and 0 for a time before 0. `put_srt` calls it.
 fn milliseconds(time: i128) -> u64
     requires { spec.milliseconds time < 2 ^ 64 }
     ensures { result ≡ spec.milliseconds time }

@@ -34,8 +34,8 @@ impl Model for Merge {
 }
 
 impl Merge {
-    /// Returns a merge of the output tracks `lanes`, which are at their start. Reads nothing: the first step reads the
-    /// first block of each output track.
+    /// Returns a merge of the output tracks `lanes`, which are at their start. `merge` does this before it writes
+    /// Clusters. Reads nothing: the first step reads the first block of each output track.
     pub fn start<R: Reads>(alloc: Global, lanes: List<Lane>, _src: &mut R) -> Result<Merge, ReadEnd>
         requires { length lanes ≤ MAX_LANES }
         ensures starts { (f : LiveFiles) → IfOk result (Starts f lanes) }
@@ -48,8 +48,8 @@ impl Merge {
     }
 
     /// Reads the next block of the merge, and returns the number of its output track, counted from 0; `lane` has the
-    /// block until the next call. Returns nothing after the last block, at each call. After an error the same block is
-    /// due.
+    /// block until the next call. `merge` does this for each block that it writes. Returns None after the last block,
+    /// at each call. After an error the same block is due.
     pub fn step<R: Reads>(&mut self, src: &mut R) -> Result<Option<usize>, ReadEnd>
         requires { IsReady (live_files R.Reads src.old) self.old }
         ensures gives { GivesIfTold (live_files R.Reads src.old) self.old self.new result }
@@ -69,7 +69,8 @@ impl Merge {
         Ok(Some(k))
     }
 
-    /// Returns the output track with the number `k`, counted from 0, for its block and its damaged places.
+    /// Returns the output track with the number `k`, counted from 0, for its block after a step, and for its damaged
+    /// places at the end.
     pub fn lane(&self, k: usize) -> &Lane
         requires { k < length self.now.queues }
         ensures { option_map (λ q. q.lane) (slice_get self.now.queues k) ≡ Some result.now }

@@ -28,8 +28,8 @@ pub struct Queue {
 }
 
 impl Queue {
-    /// Reads the next block of the output track, which is due, and returns its order number, or nothing if no block is
-    /// left.
+    /// Reads the next block of the output track, which is due, and returns its order number, or None if no block is
+    /// left. `Queues::fill` does this for each output track that is due.
     pub fn fill<R: Reads>(&mut self, src: &mut R) -> Result<Option<u64>, ReadEnd>
         requires ready { IsReady (live_files R.Reads src.old) self.old.lane }
         requires due { is_due self.old ≡ true }

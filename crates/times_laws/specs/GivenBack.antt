@@ -19,26 +19,26 @@ use Rattle.mkv_extract.specs.Extract.{extract_verdict}
 use Rattle.mkv_merge.specs.Merge.{merge_verdict}
 use Rattle.mkv_merge.specs.Read.{first_written}
 
--- the contents of files by their names; a name without a file has none
+-- the contents of files by their names; a name without a file has none. For the law on timestamps that are given back.
 abbrev pub World : Type 0
 World = List ℕ → Option (List ℕ)
 
 -- ---- the option
 
--- the options of the input `file` without its timestamp files and the tracks that options name
+-- the options of the input `file` without its timestamp files and the tracks that options name. For `HasOption`, in the laws on timestamp files.
 abbrev pub untold : FileWords → FileWords
 untold file = record file { times = []; named = [] }
 
--- the tracks in `named`, except the track `id`
+-- the tracks in `named`, except the track `id`. For `HasOption`, in the laws on timestamp files.
 abbrev pub others : ℕ → List ℕ → List ℕ
 others id named = filter (λ k. not (k == id)) named
 
--- One of the timestamp files `times` is for the track `id`.
+-- One of the timestamp files `times` is for the track `id`. For `HasOption`, in the laws on timestamp files.
 abbrev pub is_timed : ℕ → List (ℕ × List ℕ) → Bool
 is_timed id times = list_any (λ (pair : ℕ × List ℕ). pair.0 == id) times
 
 -- The options `new` of an input are `old` with `--timestamps ID:NAME` added, for the track `id` and the file `name`. Both have the same other
--- timestamp files and name the same other tracks. No later file is for the same track.
+-- timestamp files and name the same other tracks. No later file is for the same track. For `IsTakenOut`.
 pub record HasOption (id : ℕ) (name : List ℕ) (new old : FileWords) : Type 0 where
   pub before : List (ℕ × List ℕ)
   pub behind : List (ℕ × List ℕ)
@@ -48,29 +48,31 @@ pub record HasOption (id : ℕ) (name : List ℕ) (new old : FileWords) : Type 0
   pub named : others id new.named ≡ others id old.named
   pub alike : untold new ≡ untold old
 
--- the inputs in the list with `new` in the place of the one with the number `number`, from 0
+-- the inputs in the list with `new` in the place of the one with the number `number`, from 0. For `with_input`, in the laws on timestamp files.
 abbrev pub set_input : ℕ → FileWords → List FileWords → List FileWords
 set_input number new [] = []
 set_input zero new (file ∷ files) = new ∷ files
 set_input (suc number) new (file ∷ files) = file ∷ set_input number new files
 
--- the command line `words` of a merge with `new` as the options of the input number `number`, from 0
+-- the command line `words` of a merge with `new` as the options of the input number `number`, from 0. The law on timestamps that are given back
+-- compares the two command lines.
 abbrev pub with_input : ℕ → FileWords → MergeWords → MergeWords
 with_input number new words = record words { files = set_input number new words.files }
 
 -- ---- the file
 
--- the job of `extract FILE timestamps_v2 ID:OUT`, for the track `id` and the output `out`
+-- the job of `extract FILE timestamps_v2 ID:OUT`, for the track `id` and the output `out`. For `WritesTimes`.
 abbrev pub times_job : ℕ → List ℕ → Job
 times_job id out = Tracks Times (record { id = id; name = out } ∷ [])
 
 -- `extract FILE timestamps_v2 ID:OUT`, for the file `file` in `world` and the track with the index `id` in Tracks, from 0, writes `content` to some
--- output.
+-- output. For `IsTakenOut`.
 abbrev pub WritesTimes : World → List ℕ → ℕ → List ℕ → Type 0
 WritesTimes world file id content = (out : List ℕ) × ((extract_verdict world file (times_job id out)).outputs ≡ at_once (output out content ∷ []))
 
--- The options `new` of the input of the merge `words` with the number `n`, from 0, give a track the timestamps of a file. That file holds what was
--- extracted from the same track in `before`. In `world` the input consists of bytes and hasn't changed since.
+-- The options `new` of an input of the merge `words` give a track the timestamps of the file `n`. It names the input and the track, and holds what
+-- was extracted from the same track in `before`. In `world` the input consists of bytes and hasn't changed since. A condition of the law on
+-- timestamps that are given back.
 pub record IsTakenOut (before world : World) (words : MergeWords) (n : TimesName) (new : FileWords) : Type 0 where
   pub input : FileWords
   pub content : List ℕ
@@ -81,26 +83,31 @@ pub record IsTakenOut (before world : World) (words : MergeWords) (n : TimesName
   pub written : WritesTimes before input.name n.id content
   pub holds : world n.name ≡ Some content
 
--- The timestamp file is refused because it is too long, by itself or together with the files before it.
+-- The timestamp file is refused because it is too long, by itself or together with the files before it. For `too_long`, in the laws on timestamp
+-- files.
 abbrev pub is_too_long : TimesGiven → Bool
 is_too_long Missing = false
 is_too_long (Refused TooLarge) = true
 is_too_long (Refused (Bad line)) = false
 is_too_long (Read times) = false
 
--- the timestamp files of the inputs `files` that are too long, in the order of the command line; `world` has the content of each name
+-- the timestamp files of the inputs `files` that are too long, in the order of the command line; `world` has the content of each name. For
+-- `IsAllowed`, in the laws on timestamp files.
 abbrev pub too_long : World → List FileWords → List TimesName
 too_long world files = map (λ (f : TimesFile). f.named) (filter (λ (f : TimesFile). is_too_long f.given) (times_files world files))
 
--- The option in `new`, for the input with the number `n` from 0, adds no refusal to the merge `words` by a name or a length. The first output name
--- that is also the name of a file that is read is the same. So are the timestamp files that are too long. `world` has the content of each name.
+-- The option in `new`, for the timestamp file `n`, adds no refusal to the merge `words` by a name or a length. The first output name that is also the
+-- name of a file that is read is the same. So are the timestamp files that are too long. `world` has the content of each name. A condition of the law
+-- on timestamps that are given back.
 pub record IsAllowed (world : World) (words : MergeWords) (n : TimesName) (new : FileWords) : Type 0 where
   pub name : first_written (with_input n.input new words) ≡ first_written words
   pub length : too_long world (with_input n.input new words).files ≡ too_long world words.files
 
 -- ---- the law
 
--- Timestamps that were extracted from a track and given back to it change neither the status, nor the lines, nor the outputs of a merge.
+-- Timestamps that were extracted from a track and given back to it change nothing in the merge `words`. Status, lines and outputs are the same.
+-- `world` has the files, and `before` had them at the extraction. `new` are the options of the input of the timestamp file `n`. The law
+-- `times_given_back_change_nothing` states it.
 abbrev pub TimesGivenBackChangeNothing : Type 0
 TimesGivenBackChangeNothing =
     (before world : World) (words : MergeWords) (n : TimesName) (new : FileWords) → IsTakenOut before world words n new → IsAllowed world words n new

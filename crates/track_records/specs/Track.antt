@@ -7,7 +7,7 @@ use Rattle.file_format.specs.Entry.{entries_of, number_of, uid_of, type_of, code
 use Rattle.file_format.specs.Refusal.{refusal_of}
 use Rattle.track_records.specs.declared.track.Track.{Track}
 
--- the track with the TrackEntry `entry`
+-- the track with the TrackEntry `entry`, as `read_tracks` reads it
 abbrev pub track_of : Node → Track
 track_of entry = record {
   number = number_of entry;
@@ -20,6 +20,6 @@ track_of entry = record {
   entry = entry;
 }
 
--- the tracks of `tracks` in the order of its entries, or the damage for which it is refused
+-- the tracks of `tracks` in the order of its entries, or the damage for which it is refused. The contract of `read_tracks` promises it.
 abbrev pub tracks_of : Node → Result (List Track) Damage
 tracks_of tracks = unless (refusal_of tracks) (map track_of (entries_of tracks))

@@ -9,7 +9,7 @@ use crate::track::Track;
 use ebml_tree::Tree;
 
 // Returns the first Element of `field` in `entry`, a TrackEntry: a child, or a child of the entry's first master for
-// the field.
+// the field. It is None if there is none. `octets_at` reads it.
 fn in_master<'a>(entry: &'a Tree, field: &Field) -> Option<&'a Tree>
     ensures { option_copied result ≡ in_master field.now.master field.now.id entry.now }
 {
@@ -19,7 +19,8 @@ fn in_master<'a>(entry: &'a Tree, field: &Field) -> Option<&'a Tree>
     }
 }
 
-// Returns the data of the first Element of `field` in `entry`, a TrackEntry, or None if it is absent.
+// Returns the data of the first Element of `field` in `entry`, a TrackEntry, or None if it is absent. `differs`
+// compares it.
 fn octets_at<'a>(entry: &'a Tree, field: &Field) -> Option<&'a [u8]>
     ensures { option_copied result ≡ octets_at field.now entry.now }
 {
@@ -29,7 +30,7 @@ fn octets_at<'a>(entry: &'a Tree, field: &Field) -> Option<&'a [u8]>
     }
 }
 
-// Checks whether two values of a field are equal, or both absent.
+// Checks whether two values of a field are equal, or both absent, for `differs`.
 fn are_alike(p: Option<&[u8]>, q: Option<&[u8]>) -> bool
     ensures { result ≡ are_alike (option_copied p.entry) (option_copied q.entry) }
 {
@@ -41,7 +42,8 @@ fn are_alike(p: Option<&[u8]>, q: Option<&[u8]>) -> bool
 }
 
 /// Returns the ID of the first field of the track `b` that differs from `a`, or None if `b` may be appended to `a`.
-/// Only the first Element of each field counts, compared by its bytes or its absence.
+/// `merge` checks each appended track so. Only the first Element of each field counts, compared by its bytes or its
+/// absence.
 pub fn differs(a: &Track, b: &Track) -> Option<u32>
     ensures { result ≡ first_difference a.now.entry b.now.entry }
 {

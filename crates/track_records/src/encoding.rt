@@ -40,7 +40,7 @@ const ONE_IN_8: [u8; 8] = [0x3F, 0xF0, 0, 0, 0, 0, 0, 0];
 
 // ---- one ContentEncoding
 
-// Returns the ContentCompAlgo of `encoding`, a ContentEncoding, or its default, 0.
+// Returns the ContentCompAlgo of `encoding`, a ContentEncoding, or its default, 0, for `strips_headers`.
 fn algorithm_of(encoding: &Tree) -> u64
     requires { IsSoundOf ENCODING_ID encoding.now }
     ensures { result ≡ algorithm_of encoding.now }
@@ -52,7 +52,7 @@ fn algorithm_of(encoding: &Tree) -> u64
 }
 
 // Returns the ContentCompSettings of `encoding`, a ContentEncoding, or no bytes: for header stripping, the bytes that
-// were removed.
+// were removed from each frame. `strips_headers` and `prefix_of` call it.
 fn settings_of(encoding: &Tree) -> &[u8]
     ensures { result.now ≡ settings_of encoding.now }
 {
@@ -66,7 +66,7 @@ fn settings_of(encoding: &Tree) -> &[u8]
 }
 
 // Checks whether the ContentEncoding `encoding` is header stripping of only the frames, by at most `MAX_STRIPPED`
-// bytes.
+// bytes. It is the only one that `can_be_undone` accepts.
 #[tactic(auto, using(crate::proofs::EntryLemmas::known))]
 fn strips_headers(encoding: &Tree) -> bool
     requires { IsSoundOf ENCODING_ID encoding.now }
@@ -81,7 +81,7 @@ fn strips_headers(encoding: &Tree) -> bool
 // ---- a track
 
 // Checks whether the ContentEncodings `encodings` can be undone: it has no encoding, or one that strips headers from
-// frames.
+// frames. `bad_encoding` refuses any other.
 fn can_be_undone(encodings: &Tree) -> bool
     requires { IsSoundOf ENCODINGS_ID encodings.now }
     ensures { result ≡ can_be_undone (encodings_of encodings.now) }
@@ -95,7 +95,8 @@ fn can_be_undone(encodings: &Tree) -> bool
     }
 }
 
-// Returns damage at the first ContentEncodings of `entry`, a TrackEntry, unless it can be undone.
+// Returns damage at the first ContentEncodings of `entry`, a TrackEntry, unless it can be undone. It is None if there
+// is no reason to refuse it. `cause_of` asks for it first.
 fn bad_encoding(entry: &Tree) -> Option<Damage>
     requires { IsEntry entry.now }
     ensures { result ≡ bad_encoding entry.now }
@@ -111,14 +112,15 @@ fn bad_encoding(entry: &Tree) -> Option<Damage>
     })
 }
 
-// Checks whether the data of a float, `octets`, is empty or 1.0.
+// Checks whether the data of a float, `octets`, is empty or 1.0, for a TrackTimestampScale. `bad_scale` calls it.
 fn is_one(octets: &[u8]) -> bool
     ensures { result ≡ is_one octets.now }
 {
     octets.is_empty() || octets == ONE_IN_4.as_slice() || octets == ONE_IN_8.as_slice()
 }
 
-// Returns damage at the first TrackTimestampScale of `entry`, a TrackEntry, unless it is 1.
+// Returns damage at the first TrackTimestampScale of `entry`, a TrackEntry, unless it is 1; None otherwise. `cause_of`
+// asks for it last.
 fn bad_scale(entry: &Tree) -> Option<Damage>
     ensures { result ≡ bad_scale entry.now }
 {
@@ -133,7 +135,8 @@ fn bad_scale(entry: &Tree) -> Option<Damage>
     })
 }
 
-// Returns the first reason why the frames of the track with the TrackEntry `entry` can't be used, as damage.
+// Returns the first reason why the frames of the track with the TrackEntry `entry` can't be used, as damage, or None.
+// `usable` refuses the track for it.
 fn cause_of(entry: &Tree) -> Option<Damage>
     requires { IsEntry entry.now }
     ensures { result ≡ first_damage (usable_causes entry.now) }
@@ -142,7 +145,7 @@ fn cause_of(entry: &Tree) -> Option<Damage>
 }
 
 // Returns the bytes that header stripping removed from the start of each frame, by the TrackEntry `entry`; none without
-// it.
+// it. `usable` returns them.
 fn prefix_of(entry: &Tree) -> &[u8]
     ensures { result.now ≡ prefix_of entry.now }
 {
@@ -156,7 +159,7 @@ fn prefix_of(entry: &Tree) -> &[u8]
 }
 
 /// Returns the bytes to restore before each frame of `track`, which are none without header stripping. Fails with the
-/// damage for which its frames can't be used.
+/// damage for which its frames can't be used. `merge` and `extract` ask for each track that they copy.
 ///
 /// `Encoding` is reported at the first ContentEncodings, unless it has at most one encoding, which strips at most 4,096
 /// bytes from frames. Otherwise `TrackScale` is reported at the first TrackTimestampScale, unless it is empty or 1.

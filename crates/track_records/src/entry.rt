@@ -13,7 +13,8 @@ use mkv_schema::ids::{
 };
 use std::alloc::{AllocError, Global};
 
-/// Returns the TrackNumber of `entry`, or 0 if it is absent.
+/// Returns the TrackNumber of `entry`, a TrackEntry, or 0 if it is absent. Tracks and repeated numbers are found by it.
+/// Used by `track_of` and `numbers_of`.
 #[tactic(auto, using(crate::proofs::EntryLemmas::known))]
 pub(crate) fn number_of(entry: &Tree) -> u64
     requires { IsEntry entry.now }
@@ -22,7 +23,7 @@ pub(crate) fn number_of(entry: &Tree) -> u64
     uint_in(entry, TRACK_NUMBER)
 }
 
-// Returns a copy of `text` that a track owns.
+// Returns a copy of `text` that a track owns, for `track_of`.
 fn as_text(alloc: Global, text: &str) -> Result<Text, AllocError>
     ensures { IfOk result (λ copy. copy ≡ text.now) }
 {
@@ -31,7 +32,7 @@ fn as_text(alloc: Global, text: &str) -> Result<Text, AllocError>
     Ok(copy)
 }
 
-/// Returns the track with the TrackEntry `entry`, with a copy of it.
+/// Returns the track with the TrackEntry `entry`, with a copy of it. `tracks_in` does this for each entry.
 #[tactic(auto, using(crate::proofs::EntryLemmas::known))]
 pub(crate) fn track_of(alloc: Global, entry: &Tree) -> Result<Track, AllocError>
     requires { IsEntry entry.now }

@@ -27,6 +27,7 @@ const MANDATORY: [u32; 3] = [TRACK_NUMBER, TRACK_TYPE, CODEC_ID];
 const MAX_TRACKS: usize = 1024;
 
 // Checks whether `child`, a child of a TrackEntry, is a TrackNumber of 0 or a DefaultDuration of 2^48 ns or more.
+// `bad_value` calls it.
 fn is_bad(child: &Tree) -> bool
     requires { StandsIn ENTRY_ID child.now }
     ensures { result ≡ is_bad child.now }
@@ -39,14 +40,14 @@ fn is_bad(child: &Tree) -> bool
 }
 
 // Checks whether an Element with the ID `id` came before in the entry: `numbered` if a TrackNumber did, `timed` if a
-// DefaultDuration did. Only the first of each is checked.
+// DefaultDuration did. Only the first of each is checked by `bad_value`.
 fn is_met(numbered: bool, timed: bool, id: u32) -> bool
     ensures { result ≡ is_met numbered timed id }
 {
     numbered && id == TRACK_NUMBER || timed && id == DEFAULT_DURATION
 }
 
-// Returns damage at the first invalid value of `entry`, a TrackEntry.
+// Returns damage at the first invalid value of `entry`, a TrackEntry, or None, for `first_bad_value`.
 fn bad_value(entry: &Tree) -> Option<Damage>
     requires { IsEntry entry.now }
     ensures { result ≡ bad_value entry.now }
@@ -68,14 +69,14 @@ fn bad_value(entry: &Tree) -> Option<Damage>
     None
 }
 
-// Checks whether `entry` has no child with the ID `id`.
+// Checks whether `entry`, a TrackEntry, has no child with the ID `id`, for `missing_child`.
 fn lacks(entry: &Tree, id: u32) -> bool
     ensures { result ≡ is_none (first_child id entry.now) }
 {
     entry.child(id).is_none()
 }
 
-// Returns damage at `entry`, a TrackEntry, if it lacks a mandatory child.
+// Returns damage at `entry`, a TrackEntry, if it lacks a mandatory child, or None, for `first_missing_child`.
 fn missing_child(entry: &Tree) -> Option<Damage>
     ensures { result ≡ missing_child entry.now }
 {
@@ -87,7 +88,7 @@ fn missing_child(entry: &Tree) -> Option<Damage>
     })
 }
 
-// Returns damage at the first invalid value in all entries of `tracks`.
+// Returns damage at the first invalid value in all entries of `tracks`, or None, for `refusal_of`.
 fn first_bad_value(tracks: &Tree) -> Option<Damage>
     requires { IsSound tracks.now }
     ensures { result ≡ first_in bad_value (entries_of tracks.now) }
@@ -102,7 +103,7 @@ fn first_bad_value(tracks: &Tree) -> Option<Damage>
     None
 }
 
-// Returns damage at the first entry of `tracks` that lacks a mandatory child.
+// Returns damage at the first entry of `tracks` that lacks a mandatory child, or None, for `refusal_of`.
 fn first_missing_child(tracks: &Tree) -> Option<Damage>
     ensures { result ≡ first_in missing_child (entries_of tracks.now) }
 {
@@ -116,7 +117,7 @@ fn first_missing_child(tracks: &Tree) -> Option<Damage>
     None
 }
 
-// Returns the TrackNumbers of all entries of `tracks`, in their order.
+// Returns the TrackNumbers of all entries of `tracks`, in their order, for `repeated_number`.
 fn numbers_of(alloc: Global, tracks: &Tree) -> Result<Vec<u64>, AllocError>
     requires { IsSound tracks.now }
     ensures { IfOk result (λ numbers. numbers.items ≡ map number_of (entries_of tracks.now)) }
@@ -130,7 +131,7 @@ fn numbers_of(alloc: Global, tracks: &Tree) -> Result<Vec<u64>, AllocError>
     Ok(numbers)
 }
 
-// Returns the index, from 0, of the first of `numbers` that is equal to an earlier one.
+// Returns the index, from 0, of the first of `numbers` that is equal to an earlier one, or None, for `repeated_number`.
 fn first_repeated(alloc: Global, numbers: &[u64]) -> Result<Option<usize>, AllocError>
     ensures { IfOk result (λ place. place ≡ first_repeated numbers.now) }
 {
@@ -143,8 +144,9 @@ fn first_repeated(alloc: Global, numbers: &[u64]) -> Result<Option<usize>, Alloc
     Ok(None)
 }
 
-// Returns damage of the kind `kind` with the Element ID `id`, at the entry of `tracks` with the index `k`, if there is
-// one.
+// Returns damage of the kind `kind` with the Element ID `id`, at the entry of `tracks` with the index `k`, from 0. It
+// is None without that entry. A repeated number and too many entries are reported so. Used by `repeated_number` and
+// `refusal_of`.
 fn told_at(tracks: &Tree, kind: Kind, id: u32, k: usize) -> Option<Damage>
     ensures { result ≡ told_at (entries_of tracks.now) (damage kind id) k }
 {
@@ -156,7 +158,7 @@ fn told_at(tracks: &Tree, kind: Kind, id: u32, k: usize) -> Option<Damage>
     })
 }
 
-// Returns damage at the first entry of `tracks` whose TrackNumber an earlier entry has.
+// Returns damage at the first entry of `tracks` whose TrackNumber an earlier entry has, or None, for `refusal_of`.
 fn repeated_number(alloc: Global, tracks: &Tree) -> Result<Option<Damage>, AllocError>
     requires { IsSound tracks.now }
     ensures { IfOk result (λ damage. damage ≡ repeated_number (entries_of tracks.now)) }
@@ -169,7 +171,7 @@ fn repeated_number(alloc: Global, tracks: &Tree) -> Result<Option<Damage>, Alloc
 }
 
 /// Returns the first reason to refuse `tracks`, as damage: an invalid value, a missing child, a repeated TrackNumber,
-/// or too many entries.
+/// or too many entries. It is None if there is no reason. `read_tracks` refuses the Tracks for it. Used by `read`.
 pub(crate) fn refusal_of(alloc: Global, tracks: &Tree) -> Result<Option<Damage>, AllocError>
     requires { IsSound tracks.now }
     ensures { IfOk result (λ damage. damage ≡ refusal_of tracks.now) }

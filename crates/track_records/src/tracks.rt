@@ -17,7 +17,7 @@ use mkv_io::List;
 use mkv_schema::ids::TRACK_ENTRY;
 use std::alloc::{AllocError, Global};
 
-// Returns the tracks of a Tracks, in its order.
+// Returns the tracks of `tracks`, a Tracks that isn't refused, in the order of its entries, for `read`.
 fn tracks_in(alloc: Global, tracks: &Tree) -> Result<List<Track>, AllocError>
     requires { IsSound tracks.now }
     ensures exact { IfOk result (λ list. list ≡ map track_of (entries_of tracks.now)) }
@@ -32,7 +32,7 @@ fn tracks_in(alloc: Global, tracks: &Tree) -> Result<List<Track>, AllocError>
     Ok(list)
 }
 
-// Reads the tracks, as the definition has them.
+// Reads the tracks of `tracks`, as the definition has them, for `read_tracks`, which promises more.
 fn read(alloc: Global, tracks: &Tree) -> Result<List<Track>, TreeEnd>
     requires { IsSound tracks.now }
     ensures exact { ReadsTracks result (tracks_of tracks.now) }
@@ -44,9 +44,10 @@ fn read(alloc: Global, tracks: &Tree) -> Result<List<Track>, TreeEnd>
     }
 }
 
-/// Reads the tracks of the Tracks Element `tracks` in the order of its entries, or returns the first damage. A tree
-/// from the parser is sound. An invalid value in any entry is reported first. Then come a missing child, a repeated
-/// TrackNumber, and the 1,025th entry.
+/// Reads the tracks of the Tracks Element `tracks` in the order of its entries, or returns the first damage. All
+/// commands that read a file's tracks call it. A tree from the parser is sound. An invalid value in any entry is
+/// reported first. Then come a missing child, a repeated TrackNumber, and the 1,025th entry. Used by `good_tracks` of
+/// `edit_plan` and others.
 pub fn read_tracks(alloc: Global, tracks: &Tree) -> Result<List<Track>, TreeEnd>
     requires { IsSound tracks.now }
     ensures exact { ReadsTracks result (tracks_of tracks.now) }

@@ -19,8 +19,8 @@ use mkv_schema::ids::{
 };
 use std::alloc::{AllocError, Global};
 
-// Returns a copy of `entry` without ContentEncodings, and without LanguageBCP47 if `language` is set, since it would be
-// displayed instead.
+// Returns a copy of `entry`, a TrackEntry, without ContentEncodings, and without LanguageBCP47 if `language` is set,
+// since it would be displayed instead. `written` begins with it.
 fn bare(alloc: Global, entry: &Tree, language: &Option<Text>) -> Result<Tree, AllocError>
     requires { IsWholeEntry entry.now }
     ensures exact { IfOk result (λ bare. bare ≡ removed_each (ids_removed language.now) entry.now) }
@@ -34,7 +34,7 @@ fn bare(alloc: Global, entry: &Tree, language: &Option<Text>) -> Result<Tree, Al
     Ok(bare)
 }
 
-// Sets the child `id` of `entry`, an unsigned integer, to `value`.
+// Sets the child `id` of `entry`, an unsigned integer, to `value`, for `written`.
 fn set_uint(alloc: Global, entry: &mut Tree, id: u32, value: u64) -> Result<(), AllocError>
     requires id { IsUintIn TRACK_ENTRY id }
     requires whole { IsWholeEntry entry.old }
@@ -43,7 +43,7 @@ fn set_uint(alloc: Global, entry: &mut Tree, id: u32, value: u64) -> Result<(), 
     entry.set(uint_leaf(alloc, id, value)?)
 }
 
-// Sets the child `id` of `entry`, a text, to `text`, if it is present.
+// Sets the child `id` of `entry`, a text, to `text`, if it is present, for `written`.
 fn set_text(alloc: Global, entry: &mut Tree, id: u32, text: &Option<Text>) -> Result<(), AllocError>
     requires id { IsTextIn TRACK_ENTRY id }
     requires whole { IsWholeEntry entry.old }
@@ -55,7 +55,7 @@ fn set_text(alloc: Global, entry: &mut Tree, id: u32, text: &Option<Text>) -> Re
     }
 }
 
-// Sets the child `id` of `entry`, a flag, to `flag`, if it is present.
+// Sets the child `id` of `entry`, a flag, to `flag`, if it is present, for `written`.
 fn set_flag(alloc: Global, entry: &mut Tree, id: u32, flag: Option<bool>) -> Result<(), AllocError>
     requires id { IsUintIn TRACK_ENTRY id }
     requires whole { IsWholeEntry entry.old }
@@ -67,7 +67,7 @@ fn set_flag(alloc: Global, entry: &mut Tree, id: u32, flag: Option<bool>) -> Res
     }
 }
 
-// Sets the flags of `entry` for the audience of the track, if they are present in `flags`.
+// Sets the flags of `entry` for the audience of the track, if they are present in `flags`, for `written`.
 fn set_flags(alloc: Global, entry: &mut Tree, flags: &FlagChange) -> Result<(), AllocError>
     requires whole { IsWholeEntry entry.old }
     ensures { OnOk result (SetsEach (flags_set flags.now) entry.old entry.new) }
@@ -86,8 +86,9 @@ fn set_flags(alloc: Global, entry: &mut Tree, flags: &FlagChange) -> Result<(), 
     Ok(())
 }
 
-/// Returns the TrackEntry that `track` gets in an output with the changes `change`. It has no ContentEncodings, the
-/// output's number and identifier, and then the user's changes. Other children stay in their order.
+/// Returns the TrackEntry that `track` gets in an output with the changes `change`. `merge` does this for each output
+/// track. It has no ContentEncodings, the output's number and identifier, and then the user's changes. Other children
+/// stay in their order.
 pub fn written(alloc: Global, track: &Track, change: &TrackChange) -> Result<Tree, AllocError>
     requires { IsWholeEntry track.now.entry }
     ensures exact { IfOk result (λ entry. entry ≡ written_entry change.now track.now.entry) }

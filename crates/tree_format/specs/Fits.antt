@@ -3,7 +3,8 @@ use Rattle.std.specs.Prelude.{◌≡◌, ◌<◌, ◌≤◌, ℕ, false}
 use Rattle.mkv_schema.specs.declared.element.Header.{Header}
 use Rattle.mkv_schema.specs.Element.{is_unknown, stated_end}
 
--- The Element with the header `h` is at the offset `p` of a file and its size is known. It ends at the offset `e` or before.
+-- The Element with the header `h` is at the offset `p` of a file and its size is known. It ends at the offset `e` or before. The reader of a tree
+-- promises it of each header.
 pub record Fits (p e : ℕ) (h : Header) : Type 0 where
   pub offset : h.offset ≡ p
   pub later : p < h.body

@@ -6,30 +6,32 @@ use Rattle.tree_format.specs.Order.{listed_from, elements_in, tree_in_order, tre
 use Rattle.tree_format.specs.Changes.{without, with_child, part, HasNone}
 use Rattle.tree_format.specs.Standing.{IsSound, KeepsLimits, IsReadWithoutLimits}
 
--- Elements are listed one at a time: none if no byte is left, and otherwise the Element at the next byte.
+-- Elements are listed one at a time: none if no byte is left, and otherwise the Element at the next byte. It is the law `elements_are_listed`.
 pub record ElementsAreListed : Type 0 where
   pub end : (parent p : ℕ) → elements_in parent p [] ≡ record { trees = []; damage = None }
   pub more : (parent p : ℕ) (octets : List ℕ) → 0 < length octets
       → elements_in parent p octets ≡ listed_from elements_in parent p octets (header_at parent p octets)
 
--- Reading Element by Element gives the tree, or the first damage, that is defined over all Elements at once.
+-- Reading Element by Element gives the tree, or the first damage, that is defined over all Elements at once. The arguments are the ones of `tree_of`.
+-- It is the law `trees_are_in_order`.
 abbrev pub TreesAreInOrder : Type 0
 TreesAreInOrder =
     (id offset : ℕ) (body : List ℕ) (base nodes : ℕ) → tree_of id offset body base nodes ≡ tree_in_order id offset body base nodes
 
--- If reading with limits gives a tree, reading without limits gives the same tree.
+-- If reading with limits gives the tree `n`, reading without limits gives the same tree. The other arguments are the ones of `tree_of`. It is the law
+-- `limits_change_no_tree`.
 abbrev pub LimitsChangeNoTree : Type 0
 LimitsChangeNoTree =
     (id offset : ℕ) (body : List ℕ) (base nodes : ℕ) (n : Node) → tree_of id offset body base nodes ≡ Ok n
     → tree_without_limits id offset body base ≡ Ok n
 
 -- The written bytes of a valid master `n` are read back without limits. Its content must fit a size of eight bytes, and it must not be nested too
--- deep.
+-- deep. It is the law `sound_trees_are_read_again`.
 abbrev pub SoundTreesAreReadAgain : Type 0
 SoundTreesAreReadAgain = (n : Node) → IsMaster n → IsSound n → KeepsLimits n → IsReadWithoutLimits n
 
 -- A child `n` that is set takes the place of the first child with its ID, or the last place. It is the only child with its ID then. Children with
--- another ID stay.
+-- another ID stay. It is the law `children_change`.
 pub record ChildrenChange : Type 0 where
   pub at : (n m : Node) (front back : List Node) → id_of m ≡ id_of n → HasNone (id_of n) front
       → with_child n (front ++ m ∷ back) ≡ front ++ n ∷ without (id_of n) back

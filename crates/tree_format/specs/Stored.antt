@@ -47,6 +47,6 @@ mutual
   nodes_inj (node m ms) (node n ns) p =
       λ i. node (node_inj m n (ap (λ g. head (tail g)) p) i) (nodes_inj ms ns (ap (λ g. tail (tail g)) p) i)
 
--- the encoding of trees as codes, with the proof that different trees have different codes
+-- the encoding of trees as codes, with the proof that different trees have different codes. The logic needs it to store a `Tree`.
 abbrev pub coded_node : Coded Node
 coded_node = record { code = node_code; inj = node_inj }

@@ -15,11 +15,13 @@ use Rattle.word_laws.specs.Names.{IsInputName}
 use Rattle.mkv_io.specs.Octets.{lacks}
 use Rattle.word_laws.specs.Values.{HasFewDigits, is_in}
 
--- the numbers of the tracks in `list`, the pairs of a track and a value that an option gives, in its order
+-- the numbers of the tracks in `list`, the pairs of a track and a value that an option gives, in its order. For `named_tracks`, in the laws on
+-- canonical command lines.
 abbrev pub tracks_spoken_of : {X : Type 0} → List (ℕ × X) → List ℕ
 tracks_spoken_of {X} list = map (λ (p : ℕ × X). p.0) list
 
--- the tracks that the options for the file `f` name, in the order of the canonical command line, each once
+-- the tracks that the options for the file `f` name, in the order of the canonical command line, each once. For `IsMergeFile`, in the laws on
+-- canonical command lines.
 abbrev pub named_tracks : FileWords → List ℕ
 named_tracks f = once (flat_map (λ ids. ids) (
     ids_of_select f.video ∷ ids_of_select f.audio ∷ ids_of_select f.subtitles ∷ tracks_spoken_of f.syncs ∷ tracks_spoken_of f.names ∷ tracks_spoken_of f.languages ∷
@@ -27,41 +29,45 @@ named_tracks f = once (flat_map (λ ids. ids) (
     tracks_spoken_of f.flags.enabled ∷ tracks_spoken_of f.flags.hearing_impaired ∷ tracks_spoken_of f.flags.visual_impaired ∷
     tracks_spoken_of f.flags.text_descriptions ∷ tracks_spoken_of f.flags.original ∷ tracks_spoken_of f.flags.commentary ∷ tracks_spoken_of f.cues ∷ tracks_spoken_of f.times ∷ []))
 
--- The track IDs `ids` can be given as a list with commas: there is at least one, each of at most 18 digits.
+-- The track IDs `ids` can be given as a list with commas: there is at least one, each of at most 18 digits. For selections of tracks and for
+-- `--split`.
 pub record AreIds (ids : List ℕ) : Type 0 where
   pub some : 0 < length ids
   pub short : All HasFewDigits ids
 
--- The selection of tracks can be given on a command line: all, none, or some that are selected or left out.
+-- The selection of tracks can be given on a command line: all, none, or some that are selected or left out. For `IsMergeFile`, in the laws on
+-- canonical command lines.
 abbrev pub IsSelect : Select → Type 0
 IsSelect select.All = ⊤
 IsSelect (select.These ids) = AreIds ids
 IsSelect (select.AllBut ids) = AreIds ids
 IsSelect select.Off = ⊤
 
--- The option can be given for the tracks in `list`. Each has a number of at most 18 digits, occurs once, and has a value that satisfies `Is`.
+-- The option can be given for the tracks in `list`. Each has a number of at most 18 digits, occurs once, and has a value that satisfies `Is`. For
+-- `IsMergeFile`, in the laws on canonical command lines.
 pub record AreOfTracks {X : Type 0} (Is : X → Type 0) (list : List (ℕ × X)) : Type 0 where
   pub apart : differ (tracks_spoken_of list) ≡ true
   pub short : All (λ (p : ℕ × X). HasFewDigits p.0) list
   pub each : All (λ (p : ℕ × X). Is p.1) list
 
--- The delay `delay`, in nanoseconds, is a whole number of milliseconds.
+-- The delay `delay`, in nanoseconds, is a whole number of milliseconds. For `IsMergeFile`, in the laws on canonical command lines.
 abbrev pub IsDelay : ℤ → Type 0
 IsDelay delay = nat_abs delay % 1000000 ≡ 0
 
--- The text `text` has no zero byte.
+-- The text `text` has no zero byte. For the title and the names of tracks.
 abbrev pub IsText : List ℕ → Type 0
 IsText text = lacks 0 text ≡ true
 
--- The language code `word` has three lower-case letters.
+-- The language code `word` has three lower-case letters. For `IsMergeFile`, in the laws on canonical command lines.
 abbrev pub IsLanguage : List ℕ → Type 0
 IsLanguage word = is_language word ≡ true
 
--- The language tag `word` has letters, digits and hyphens only.
+-- The language tag `word` has letters, digits and hyphens only. For `IsMergeFile`, in the laws on canonical command lines.
 abbrev pub IsLanguageTag : List ℕ → Type 0
 IsLanguageTag word = is_language_tag word ≡ true
 
--- The options for the file `f` can be given on a command line; the tracks that they name are in the canonical order.
+-- The options for the file `f` can be given on a command line; the tracks that they name are in the canonical order. For `IsSpellableMerge`, in the
+-- laws on canonical command lines.
 pub record IsMergeFile (f : FileWords) : Type 0 where
   pub name : IsInputName f.name
   pub video : IsSelect f.video
@@ -83,11 +89,13 @@ pub record IsMergeFile (f : FileWords) : Type 0 where
   pub times : AreOfTracks (λ name. ⊤) f.times
   pub named : f.named ≡ named_tracks f
 
--- The number of bytes `limit` can be given on a command line: as it is, as a multiple of a unit, or as 2^64 - 1.
+-- The number of bytes `limit` can be given on a command line: as it is, as a multiple of a unit, or as 2^64 - 1. For `IsSplit`, in the laws on
+-- canonical command lines.
 abbrev pub is_size : ℕ → Bool
 is_size limit = nat_lt limit (10 ^ 12) || (is_in 1024 limit || (is_in 1048576 limit || (is_in 1073741824 limit || limit == 2 ^ 64 - 1)))
 
--- The split can be given on a command line: it has at least one time, period or chapter, if it needs some.
+-- The split can be given on a command line: it has at least one time, period or chapter, if it needs some. For `IsSpellableMerge`, in the laws on
+-- canonical command lines.
 abbrev pub IsSplit : SplitWords → Type 0
 IsSplit (split.Duration by) = ⊤
 IsSplit (split.Times at) = 0 < length at
@@ -96,17 +104,17 @@ IsSplit split.AllChapters = ⊤
 IsSplit (split.Chapters numbers) = AreIds numbers
 IsSplit (split.Size limit) = is_size limit ≡ true
 
--- Parts may be linked, which needs their identifiers `uuids`, or aren't linked.
+-- Parts may be linked, which needs their identifiers `uuids`, or aren't linked. For `IsSpellableMerge`, in the laws on canonical command lines.
 abbrev pub IsLinkable : Bool → List ℕ → Type 0
 IsLinkable true uuids = 0 < length uuids
 IsLinkable false uuids = ⊤
 
 -- The limits of a Cluster, `blocks` blocks and `span` nanoseconds, can be given on a command line. One of the two is the default, since the option
--- can be given only once.
+-- can be given only once. For `IsSpellableMerge`, in the laws on canonical command lines.
 abbrev pub IsLength : ℕ → ℕ → Type 0
 IsLength blocks span = (blocks ≡ 65535) ⊎ (span ≡ 5000000000)
 
--- The merge `words` has a canonical command line: its options for the output and the files can be given.
+-- The merge `words` has a canonical command line: its options for the output and the files can be given. For `IsSpellable`.
 pub record IsSpellableMerge (words : MergeWords) : Type 0 where
   pub title : IfSome words.title IsText
   pub length : IsLength words.blocks words.span

@@ -18,69 +18,72 @@ use Rattle.requests.specs.Decimal.{below, number}
 use Rattle.requests.specs.Language.{is_language_tag}
 use Rattle.word_values.specs.Lists.{ids, split, uuids}
 
--- the value of an option of this form that takes no argument; none if its form needs one
+-- the value of an option of this form that takes no argument, or None if its form needs one. The contract of the function with this name promises it.
+-- Used by `said` of `merge_words`.
 abbrev pub flag_of : ValueForm → Option Value
 flag_of form.Flag = Some Flag
 flag_of form.Exclusion = Some (Tracks select.Off)
 flag_of _ = None
 
--- the text `word`, if it has no zero byte
+-- the text `word`, if it has no zero byte, or else None, for titles and names of tracks. Used by `track_value` and `value_of`.
 unfoldable pub text : List ℕ → Option (List ℕ)
 text word = if list_any (λ b. b == 0) word then None else Some word
 
--- The word `word` consists of three lower-case letters.
+-- The word `word`, the value of `merge --language`, is a language code: it consists of three lower-case letters. Used by `language`.
 abbrev pub is_language : List ℕ → Bool
 is_language word = length word == 3 && list_all is_ascii_lowercase word
 
--- the language code `word`, if it has three lower-case letters
+-- the language code `word`, if it has three lower-case letters, or else None, for `--language`
 unfoldable pub language : List ℕ → Option (List ℕ)
 language word = if is_language word then Some word else None
 
--- the language tag `word`, if it has the form of one
+-- the language tag `word`, if it has the form of one, or else None, for the LanguageBCP47 of a track. Used by `track_value` and others.
 unfoldable pub language_tag : List ℕ → Option (List ℕ)
 language_tag word = if is_language_tag word then Some word else None
 
--- the value `word` of `--timestamp-scale`: 1000 to 10000000 nanoseconds per tick
+-- the value `word` of `--timestamp-scale`: 1000 to 10000000 nanoseconds per tick, or None
 unfoldable pub scale : List ℕ → Option Value
 scale word = option_map Scale (below 10000001 (from 1000 (number word)))
 
--- the value `word` of `--cluster-length`: 100 to 32000 milliseconds followed by `ms`, or 1 to 65535 blocks
+-- the value `word` of `--cluster-length`: 100 to 32000 milliseconds followed by `ms`, in nanoseconds, or 1 to 65535 blocks; or None
 unfoldable pub cluster_length : List ℕ → Option Value
 cluster_length word =
     if ends word (char "s") && ends (front word) (char "m")
     then option_map (λ n. Span (n * 1000000)) (below 32001 (from 100 (number (front (front word)))))
     else option_map Blocks (below 65536 (from 1 (number word)))
 
--- the argument `word` split at the first `:`: the track's number, and the part after it
+-- the argument `word` of an option of a track, split at the first `:`: the track's number, and the part after it; or None. Used by `track_flag`,
+-- `value_of` and others.
 unfoldable pub track_and_rest : List ℕ → Option (ℕ × List ℕ)
 track_and_rest word = do
   p ← cut COLON word
   id ← number p.0
   Some (id, p.1)
 
--- the flag of the track `id` that `word`, 0 or 1, gives
+-- the flag of the track `id`, from 0, that `word`, 0 or 1, gives, or None for any other. `flag_in` uses it.
 abbrev pub flag_digit : ℕ → List ℕ → Option Value
 flag_digit id word =
     if bytes_eq word (codes "0") then Some (TrackFlag id false)
     else if bytes_eq word (codes "1") then Some (TrackFlag id true) else None
 
--- the flag of a track: 0 or 1 after the track's number if the argument was split, or else only the number `word`, which means 1
+-- the flag of a track: 0 or 1 after the track's number if the argument was split, or else only the number `word`, which means 1. It is None for any
+-- other. `track_flag` uses it.
 abbrev pub flag_in : List ℕ → Option (ℕ × List ℕ) → Option Value
 flag_in word None = option_map (λ id. TrackFlag id true) (number word)
 flag_in word (Some p) = flag_digit p.0 p.1
 
--- the value `word` of a track's flag: a track and 0 or 1, or only a track, which means 1
+-- the value `word` of a track's flag: a track and 0 or 1, or only a track, which means 1; or None. Used by `value_of`.
 unfoldable pub track_flag : List ℕ → Option Value
 track_flag word = flag_in word (track_and_rest word)
 
--- the rule for the blocks of a track that get a cue point, by the value `word` of `--cues` after the track
+-- the rule for the blocks of a track that get a cue point, by the value `word` of `--cues` after the track, or None
 unfoldable pub cue_word : List ℕ → Option CueWord
 cue_word word =
     if bytes_eq word (codes "none") then Some cue.Never
     else if bytes_eq word (codes "iframes") then Some cue.Key
     else if bytes_eq word (codes "all") then Some cue.All else None
 
--- the value of this form for the track `id`; `rest` is the part of the argument after the track ID and `:`
+-- the value of this form for the track `id`, from 0, or None; `rest` is the part of the argument after the track ID and `:`. `value_of` uses it.
 unfoldable pub track_value : ValueForm → ℕ → List ℕ → Option Value
 track_value form.TrackDelay id rest = option_map (λ t. TrackDelay id t) (delay rest)
 track_value form.TrackText id rest = option_map (λ t. TrackText id t) (text rest)
@@ -90,7 +93,8 @@ track_value form.TrackCues id rest = option_map (λ t. TrackCues id t) (cue_word
 track_value form.TrackFile id rest = Some (TrackFile id rest)
 track_value _ id rest = None
 
--- the value of this form that the argument `word` gives
+-- the value of this form that the argument `word` gives, or None if it doesn't have the form. The contract of the function with this name promises
+-- it. The contract of the function of the same name states it.
 unfoldable pub value_of : ValueForm → List ℕ → Option Value
 value_of form.Flag word = None
 value_of form.Exclusion word = None

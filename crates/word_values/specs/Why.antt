@@ -3,7 +3,7 @@ use Rattle.std.specs.Prelude.{ℕ, List, codes}
 use Rattle.word_values.specs.declared.usage.Why.{Why}
 use Rattle.word_values.specs.declared.usage.Why.TheVariants.{NoCommand, UnknownCommand, UnknownOption, MissingValue, BadValue, RepeatedOption, ExtraWord, NoOutput, NoInput, DanglingOption, AppendFirst, RepeatedOutput, TooManyInputs, NeedsUuids}
 
--- the name of the reason why an argument is refused, as a message prints it
+-- the name of the reason why an argument is refused, as a message prints it. The contract of `Why::name` promises it.
 unfoldable pub why_name : Why → List ℕ
 why_name NoCommand = codes "NoCommand"
 why_name UnknownCommand = codes "UnknownCommand"

@@ -22,7 +22,8 @@ trait Piece {
 
     ghost spelled: { List ℕ → Option Self.Value };
 
-    /// Returns the value of the item `word`, if it has this form.
+    /// Returns the value of the item `word`, or None if it doesn't have this form. `list_of` reads each item of a list
+    /// so.
     fn read(word: &[u8]) -> Option<Self::Value>
         ensures { result ≡ spelled word.now };
 }
@@ -35,7 +36,7 @@ impl Piece for NumberPiece {
 
     ghost spelled = { numbers.number };
 
-    /// Reads the item `word`, a decimal number.
+    /// Reads the item `word`, a decimal number, for `numbers`; None if it isn't one.
     fn read(word: &[u8]) -> Option<u64> {
         number(word)
     }
@@ -49,7 +50,7 @@ impl Piece for TimePiece {
 
     ghost spelled = { numbers.time };
 
-    /// Reads the item `word`, a time, as nanoseconds.
+    /// Reads the item `word`, a time, as nanoseconds, for `times`; None if it isn't one.
     fn read(word: &[u8]) -> Option<u64> {
         time(word)
     }
@@ -63,7 +64,7 @@ impl Piece for UuidPiece {
 
     ghost spelled = { numbers.uuid };
 
-    /// Reads the item `word`, an identifier of 32 hexadecimal digits.
+    /// Reads the item `word`, an identifier of 32 hexadecimal digits, for `uuids`; None if it isn't one.
     fn read(word: &[u8]) -> Option<u128> {
         uuid(word)
     }
@@ -77,14 +78,14 @@ impl Piece for SpanPiece {
 
     ghost spelled = { spec.span };
 
-    /// Reads the item `word`, a period, `a-b` or `a-`.
+    /// Reads the item `word`, a period, `a-b` or `a-`, for `spans`; None if it isn't one.
     fn read(word: &[u8]) -> Option<SpanWords> {
         span(word)
     }
 }
 
-/// Reads the items of `word` that its commas separate, at least one. Fails with `Bad` if one of them doesn't have the
-/// form.
+/// Reads the items of `word` that its commas separate, at least one, for each option whose value is a list. Fails with
+/// `Bad` if one of them doesn't have the form. Used by `numbers`, `times` and others.
 fn list_of<P: Piece>(alloc: Global, word: &[u8]) -> Result<List<P::Value>, ValueEnd>
     ensures { ReadsValue result (each P.spelled (pieces word.now)) }
 {
@@ -104,7 +105,8 @@ fn list_of<P: Piece>(alloc: Global, word: &[u8]) -> Result<List<P::Value>, Value
     Ok(list)
 }
 
-/// Reads `word`, a list of decimal numbers with commas between them, at least one.
+/// Reads `word`, a list of decimal numbers with commas between them, at least one: track IDs, or the numbers of
+/// chapters. Fails with `Bad` if it isn't one. `ids` and `chapters` call it.
 #[tactic(auto, unfolding(crate::specs::Lists::numbers))]
 pub(crate) fn numbers(alloc: Global, word: &[u8]) -> Result<List<u64>, ValueEnd>
     ensures { ReadsValue result (spec.numbers word.now) }
@@ -113,7 +115,7 @@ pub(crate) fn numbers(alloc: Global, word: &[u8]) -> Result<List<u64>, ValueEnd>
 }
 
 /// Reads `word`, the value of `--video-tracks` and its like: track IDs with commas, or `!` and the IDs that are
-/// excluded.
+/// excluded. `value_of` calls it. Fails with `Bad` if it is neither.
 #[tactic(auto, unfolding(crate::specs::Lists::ids))]
 pub(crate) fn ids(alloc: Global, word: &[u8]) -> Result<Select, ValueEnd>
     ensures { ReadsValue result (spec.ids word.now) }
@@ -128,7 +130,8 @@ pub(crate) fn ids(alloc: Global, word: &[u8]) -> Result<Select, ValueEnd>
     }
 }
 
-/// Reads `word`, times with commas between them, at least one, as nanoseconds. Each must be above the previous one.
+/// Reads `word`, times with commas between them, at least one, as nanoseconds, for `--split timestamps:`. Each must be
+/// above the previous one, or it fails with `Bad`. `split` calls it.
 #[tactic(auto, unfolding(crate::specs::Lists::times))]
 fn times(alloc: Global, word: &[u8]) -> Result<List<u64>, ValueEnd>
     ensures { ReadsValue result (spec.times word.now) }
@@ -141,7 +144,7 @@ fn times(alloc: Global, word: &[u8]) -> Result<List<u64>, ValueEnd>
     }
 }
 
-/// Checks whether each of `times` is above the previous one.
+/// Checks whether each of `times`, in nanoseconds, is above the previous one, for `times`.
 fn ascend(times: &[u64]) -> bool
     ensures { result ≡ spec.ascend times.now }
 {
@@ -153,8 +156,8 @@ fn ascend(times: &[u64]) -> bool
     true
 }
 
-/// Reads `word`, periods with commas between them, at least one. No period may begin before the end of the previous
-/// one.
+/// Reads `word`, periods with commas between them, at least one, for `--split parts:`. No period may begin before the
+/// end of the previous one, or it fails with `Bad`. `split` calls it.
 #[tactic(auto, unfolding(crate::specs::Lists::spans))]
 fn spans(alloc: Global, word: &[u8]) -> Result<List<SpanWords>, ValueEnd>
     ensures { ReadsValue result (spec.spans word.now) }
@@ -167,7 +170,8 @@ fn spans(alloc: Global, word: &[u8]) -> Result<List<SpanWords>, ValueEnd>
     }
 }
 
-/// Reads the period `word`: `a-b`, or `a-` for one without an end; both are times.
+/// Reads the period `word`, an item of `--split parts:`: `a-b`, or `a-` for one without an end; both are times. Returns
+/// nanoseconds, or None if it isn't one.
 #[tactic(auto, unfolding(crate::specs::Lists::span))]
 fn span(word: &[u8]) -> Option<SpanWords>
     ensures { result ≡ spec.span word.now }
@@ -184,8 +188,8 @@ fn span(word: &[u8]) -> Option<SpanWords>
     })
 }
 
-/// Checks whether each of `spans` begins before its end and not before the end of the previous one. Only the last may
-/// have no end.
+/// Checks whether each of `spans` begins before its end and not before the end of the previous one, for `spans`. Only
+/// the last may have no end.
 fn follow(spans: &[SpanWords]) -> bool
     ensures { result ≡ spec.follow 0 spans.now }
 {
@@ -207,7 +211,8 @@ fn follow(spans: &[SpanWords]) -> bool
     true
 }
 
-/// Reads `word`, the value of `--segment-uid`: identifiers with commas between them, 1 to 1024, all different.
+/// Reads `word`, the value of `--segment-uid`: identifiers with commas between them, 1 to 1024, all different. Fails
+/// with `Bad` if it isn't so.
 #[tactic(auto, unfolding(crate::specs::Lists::uuids))]
 pub(crate) fn uuids(alloc: Global, word: &[u8]) -> Result<List<u128>, ValueEnd>
     ensures { ReadsValue result (spec.uuids word.now) }
@@ -220,7 +225,7 @@ pub(crate) fn uuids(alloc: Global, word: &[u8]) -> Result<List<u128>, ValueEnd>
     }
 }
 
-/// Checks whether all of `numbers` are different.
+/// Checks whether all of `numbers`, the identifiers of `--segment-uid`, are different. `uuids` calls it.
 fn differ(numbers: &[u128]) -> bool
     ensures { result ≡ spec.differ numbers.now }
 {
@@ -233,7 +238,7 @@ fn differ(numbers: &[u128]) -> bool
 }
 
 /// Reads `word`, the value of `--split`: `duration:`, `timestamps:`, `chapters:`, `parts:` or `size:`, followed by its
-/// own value.
+/// own value. `value_of` calls it. Fails with `Bad` for any other.
 #[tactic(auto, unfolding(crate::specs::Lists::split, crate::specs::Lists::split_of))]
 pub(crate) fn split(alloc: Global, word: &str) -> Result<SplitWords, ValueEnd>
     ensures { ReadsValue result (spec.split word.now) }
@@ -261,7 +266,8 @@ pub(crate) fn split(alloc: Global, word: &str) -> Result<SplitWords, ValueEnd>
     }
 }
 
-/// Reads `word`, the value after `duration:`, a time above 0: the split into parts of that duration.
+/// Reads `word`, the value after `--split duration:`, a time above 0: the split into parts of that duration in
+/// nanoseconds. It is None for any other. `split` calls it.
 #[tactic(auto, unfolding(crate::specs::Lists::duration))]
 fn duration(word: &[u8]) -> Option<SplitWords>
     ensures { result ≡ spec.duration word.now }
@@ -274,7 +280,8 @@ fn duration(word: &[u8]) -> Option<SplitWords>
     }
 }
 
-/// Reads `word`, the value after `chapters:`: `all`, or the numbers of chapters with commas between them.
+/// Reads `word`, the value after `--split chapters:`: `all`, or the numbers of chapters, from 1, with commas between
+/// them. `split` calls it.
 #[tactic(auto, unfolding(crate::specs::Lists::chapters))]
 fn chapters(alloc: Global, word: &[u8]) -> Result<SplitWords, ValueEnd>
     ensures { ReadsValue result (spec.chapters word.now) }

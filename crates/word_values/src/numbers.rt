@@ -20,8 +20,8 @@ const TIME_LIMIT: u64 = 1 << 63;
 /// Delays of at least this number of nanoseconds are refused as too large, in either direction.
 const DELAY_LIMIT: u64 = 1 << 55;
 
-/// Splits `word` at the first byte that is `octet`; returns the parts before and after it, or None if there is no such
-/// byte.
+/// Splits `word` at the first byte that is `octet`, such as a comma or a colon; returns the parts before and after it,
+/// or None if there is no such byte. Used by all readers of an option's value.
 #[tactic(auto, unfolding(mkv_io::specs::Octets::cut))]
 pub(crate) fn cut(word: &[u8], octet: u8) -> Option<(&[u8], &[u8])>
     ensures { option_map (λ p. (p.0.now, p.1.now)) result ≡ octets.cut octet word.now }
@@ -31,7 +31,7 @@ pub(crate) fn cut(word: &[u8], octet: u8) -> Option<(&[u8], &[u8])>
 }
 
 /// Splits `word` at the first `mark`, an ASCII character; returns the parts before and after it, or None if it has no
-/// `mark`.
+/// `mark`. `--split` and track options are divided at `:`, and edits of `propedit` at `=`.
 pub fn cut_text(word: &str, mark: char) -> Option<(&str, &str)>
     requires { mark < 128 }
     ensures { option_map (λ p. (p.0.now, p.1.now)) result ≡ octets.cut mark word.now }
@@ -39,14 +39,15 @@ pub fn cut_text(word: &str, mark: char) -> Option<(&str, &str)>
     word.split_once(mark)
 }
 
-/// Returns the index, from 0, of the first byte of `word` that is `octet`.
+/// Returns the index, from 0, of the first byte of `word` that is `octet`, or None, for `cut`.
 fn place_of(word: &[u8], octet: u8) -> Option<usize>
     ensures { result ≡ position (λ b. b == octet) word.now }
 {
     word.iter().position(|b| *b == octet)
 }
 
-/// Reads `word`, the value of `--sync` after the track: milliseconds with or without `-`. Returns nanoseconds.
+/// Reads `word`, the value of `--sync` after the track: milliseconds with or without `-`. Returns nanoseconds, or None
+/// if it isn't one. `track_value` calls it.
 #[tactic(auto, unfolding(crate::specs::Numbers::delay))]
 pub(crate) fn delay(word: &[u8]) -> Option<i64>
     ensures { result ≡ spec.delay word.now }
@@ -57,7 +58,8 @@ pub(crate) fn delay(word: &[u8]) -> Option<i64>
     }
 }
 
-/// Reads `word`, a delay in milliseconds without its sign, and returns it in nanoseconds. It must be below 2^55 ns.
+/// Reads `word`, a delay in milliseconds without its sign, and returns it in nanoseconds, for `delay`. It must be below
+/// 2^55 ns, or it is None.
 #[tactic(auto, unfolding(crate::specs::Numbers::delay_size))]
 fn delay_size(word: &[u8]) -> Option<u64>
     ensures same { result ≡ spec.delay_size word.now }
@@ -67,8 +69,8 @@ fn delay_size(word: &[u8]) -> Option<u64>
     if time < DELAY_LIMIT { Some(time) } else { None }
 }
 
-/// Reads the time `word`: `H:MM:SS`, with or without a fraction of up to nine digits, or digits followed by `s`.
-/// Returns nanoseconds, below 2^63.
+/// Reads the time `word` of an option: `H:MM:SS`, with or without a fraction of up to nine digits, or digits followed
+/// by `s`. Returns nanoseconds, below 2^63, or None if it isn't one. Used by `read`, `span` and others.
 #[tactic(auto, unfolding(crate::specs::Numbers::time))]
 pub(crate) fn time(word: &[u8]) -> Option<u64>
     ensures { result ≡ spec.time word.now }
@@ -80,7 +82,8 @@ pub(crate) fn time(word: &[u8]) -> Option<u64>
     if time < TIME_LIMIT { Some(time) } else { None }
 }
 
-/// Reads the time `word`, `H:MM:SS` with or without a fraction, and returns nanoseconds.
+/// Reads the time `word`, `H:MM:SS` with or without a fraction, and returns nanoseconds, or None if it isn't one, for
+/// `time`.
 #[tactic(auto, unfolding(crate::specs::Numbers::clock))]
 fn clock(word: &[u8]) -> Option<u64>
     ensures { result ≡ below (2 ^ 64) (spec.clock word.now) }
@@ -97,7 +100,8 @@ fn clock(word: &[u8]) -> Option<u64>
         .checked_add(rest)
 }
 
-/// Reads `word`, the two digits of minutes or seconds in a time, which must be below 60.
+/// Reads `word`, the two digits of minutes or seconds in a time, which must be below 60, for `clock`. Returns None if
+/// they aren't so.
 #[tactic(auto, unfolding(crate::specs::Numbers::minutes_or_seconds))]
 fn minutes_or_seconds(word: &[u8]) -> Option<u64>
     ensures same { result ≡ spec.minutes_or_seconds word.now }
@@ -110,7 +114,7 @@ fn minutes_or_seconds(word: &[u8]) -> Option<u64>
     if value < 60 { Some(value) } else { None }
 }
 
-/// Reads `word`, the seconds of a time, `SS` with or without a fraction; returns nanoseconds.
+/// Reads `word`, the seconds of a time, `SS` with or without a fraction, for `clock`; returns nanoseconds, or None.
 #[tactic(auto, unfolding(crate::specs::Numbers::seconds))]
 fn seconds(word: &[u8]) -> Option<u64>
     ensures same { result ≡ spec.seconds word.now }
@@ -125,7 +129,7 @@ fn seconds(word: &[u8]) -> Option<u64>
     }
 }
 
-/// Reads `word`, the 1 to 9 digits after the point of a time; returns nanoseconds.
+/// Reads `word`, the 1 to 9 digits after the point of a time, for `seconds`; returns nanoseconds, or None.
 #[tactic(auto, using(requests::proofs::DecimalLemmas::whole_short, crate::proofs::NumbersLemmas::fraction_small), unfolding(crate::specs::Numbers::fraction))]
 fn fraction(word: &[u8]) -> Option<u64>
     ensures same { result ≡ spec.fraction word.now }
@@ -138,8 +142,9 @@ fn fraction(word: &[u8]) -> Option<u64>
     Some(value * 10u64.pow(9 - word.len() as u32))
 }
 
-/// Reads `word`, a size in bytes: a number, with or without the unit `k`, `m` or `g` (1024, its square and its cube). A
-/// product that is too large for 64 bits is 2^64 - 1.
+/// Reads `word`, the value after `--split size:`, in bytes: a number, with or without the unit `k`, `m` or `g` (1024,
+/// its square and its cube). A product that is too large for 64 bits is 2^64 - 1. Returns None if it isn't one. `split`
+/// calls it.
 #[tactic(auto, unfolding(crate::specs::Numbers::size))]
 pub(crate) fn size(word: &[u8]) -> Option<u64>
     ensures { result ≡ spec.size word.now }
@@ -152,7 +157,7 @@ pub(crate) fn size(word: &[u8]) -> Option<u64>
     }
 }
 
-/// Reads `word`, the number of a size: 1 to 12 digits, at least 1.
+/// Reads `word`, the number of a size: 1 to 12 digits, at least 1, for `size`. Returns None if it isn't so.
 #[tactic(auto, using(requests::proofs::DecimalLemmas::whole_short), unfolding(crate::specs::Numbers::amount))]
 fn amount(word: &[u8]) -> Option<u64>
     ensures { result ≡ spec.amount word.now }
@@ -164,7 +169,8 @@ fn amount(word: &[u8]) -> Option<u64>
     if value >= 1 { Some(value) } else { None }
 }
 
-/// Reads `word`, an identifier of 32 hexadecimal digits, as a number, the highest digit first.
+/// Reads `word`, an identifier of 32 hexadecimal digits of `--segment-uid`, as a number, the highest digit first.
+/// Returns None if it isn't one.
 #[tactic(auto, using(crate::proofs::NumbersLemmas::hex_more), unfolding(crate::specs::Numbers::uuid))]
 pub(crate) fn uuid(word: &[u8]) -> Option<u128>
     ensures { result ≡ spec.uuid word.now }

@@ -8,6 +8,7 @@ ghost use Rattle.word_values.specs.Place.{texts, IsWordAt};
 use crate::usage::{ArgsEnd, Usage, Why};
 
 /// Returns the argument of `words` with the index `at`, counted from 0, or None if the command line ends before it.
+/// Parsers of all commands go through the arguments with it.
 pub fn word_at(words: &[String], at: usize) -> Option<&str>
     ensures same { option_map (λ w. w.now) result ≡ slice_get (texts words.now) at }
     ensures rest { MatchOption result (drop at (texts words.now) ≡ []) (λ word. IsWordAt (texts words.now) at word.now) }
@@ -19,15 +20,15 @@ pub fn word_at(words: &[String], at: usize) -> Option<&str>
     }
 }
 
-// Returns the argument with the index `at`, counted from 0, if there is one.
+// Returns the argument of `words` with the index `at`, counted from 0, if there is one, for `word_at`.
 fn text_at(words: &[String], at: usize) -> Option<&str>
     ensures { option_map (λ w. w.now) result ≡ slice_get (texts words.now) at }
 {
     Some(words.get(at)?.as_str())
 }
 
-/// Returns the argument of `words` with the index `at`, counted from 0. If it is missing, the command line is refused
-/// (`MissingValue`).
+/// Returns the argument of `words` with the index `at`, counted from 0, that a command needs, such as a file of
+/// `extract`. If it is missing, the command line is refused (`MissingValue`).
 pub fn due_at(words: &[String], at: usize) -> Result<&str, ArgsEnd>
     ensures { TellsOf (λ w. w.now) result (place.due_at (texts words.now) at) }
 {
@@ -37,8 +38,8 @@ pub fn due_at(words: &[String], at: usize) -> Result<&str, ArgsEnd>
     }
 }
 
-/// Returns the argument of `words` with the index `at`, the name of a file that is read. A missing one is refused, and
-/// one that looks like an option.
+/// Returns the argument of `words` with the index `at`, from 0, the name of a file that is read, for all commands with
+/// one. A missing one is refused, and one that looks like an option.
 pub fn file_at(words: &[String], at: usize) -> Result<&str, ArgsEnd>
     ensures { TellsOf (λ w. w.now) result (place.file_at (texts words.now) at) }
 {
@@ -49,7 +50,8 @@ pub fn file_at(words: &[String], at: usize) -> Result<&str, ArgsEnd>
     Ok(file)
 }
 
-/// Refuses the command line `words` if it has an argument with the index `at`, after a complete command (`ExtraWord`).
+/// Refuses the command line `words` if it has an argument with the index `at`, from 0, after a complete command
+/// (`ExtraWord`). Parsers of commands end with it.
 pub fn end_at(words: &[String], at: usize) -> Result<(), ArgsEnd>
     ensures { Tells result (place.end_at (texts words.now) at) }
 {
@@ -59,14 +61,16 @@ pub fn end_at(words: &[String], at: usize) -> Result<(), ArgsEnd>
     Ok(())
 }
 
-/// Returns the refusal of the argument with the index `word`, counted from 0, for the reason `why`.
+/// Returns the refusal of the argument with the index `word`, counted from 0, for the reason `why`. Parsers of all
+/// commands refuse with it. Used by `due_at`, `file_at` and others.
 pub fn refused<T>(word: usize, why: Why) -> Result<T, ArgsEnd>
     ensures { result ≡ refuses word why }
 {
     Err(ArgsEnd::Usage(Usage { word, why }))
 }
 
-/// Checks whether the argument `word` looks like an option: it begins with `-` and has more than one character.
+/// Checks whether the argument `word` looks like an option: it begins with `-` and has more than one character. Parsers
+/// distinguish options from files by it. Used by `file_at` and others.
 pub fn is_option(word: &str) -> bool
     ensures { result ≡ place.is_option word.now }
 {

@@ -43,7 +43,7 @@ pub enum Why {
 impl Why {
     ghost use Rattle.word_values.specs.Why.{why_name};
 
-    /// Returns the name of the reason, as a message prints it.
+    /// Returns the name of the reason, as the message of a refused command line prints it.
     #[tactic(auto, unfolding(crate::specs::Why::why_name))]
     pub fn name(self) -> &'static str
         ensures { result.now ≡ why_name self }
@@ -89,6 +89,7 @@ pub enum ArgsEnd {
 impl From<Usage> for ArgsEnd {
     ghost from_gives = { λ usage end. end ≡ args_end.Usage usage };
 
+    /// Converts `usage`, the first wrong argument, for `?` in the parser of a command.
     fn from(usage: Usage) -> ArgsEnd {
         ArgsEnd::Usage(usage)
     }
@@ -97,6 +98,7 @@ impl From<Usage> for ArgsEnd {
 impl From<AllocError> for ArgsEnd {
     ghost from_gives = { λ _ end. end ≡ args_end.Memory };
 
+    /// Converts a failed allocation, for `?` in the parser of a command.
     fn from(_error: AllocError) -> ArgsEnd {
         ArgsEnd::Memory
     }
@@ -114,6 +116,7 @@ pub enum ValueEnd {
 impl From<AllocError> for ValueEnd {
     ghost from_gives = { λ _ end. end ≡ value_end.Memory };
 
+    /// Converts a failed allocation, for `?` in the readers of an option's value.
     fn from(_error: AllocError) -> ValueEnd {
         ValueEnd::Memory
     }

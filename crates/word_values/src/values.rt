@@ -76,7 +76,8 @@ pub enum Value {
     TrackFile(u64, Text),
 }
 
-/// Returns the value of an option of the form `form` that takes no argument, or None if the form needs one.
+/// Returns the value of an option of the form `form` that takes no argument, or None if the form needs one. The parser
+/// of `merge` asks before it reads the next argument.
 pub fn flag_of(form: ValueForm) -> Option<Value>
     ensures { result ≡ spec.flag_of form }
 {
@@ -87,8 +88,8 @@ pub fn flag_of(form: ValueForm) -> Option<Value>
     }
 }
 
-/// Reads the argument `word` as a value of the form `form`. Fails with `Bad` if it doesn't have the form or is out of
-/// range.
+/// Reads the argument `word` as a value of the form `form`, for each option of `merge` that has one. Fails with `Bad`
+/// if it doesn't have the form or is out of range.
 #[tactic(auto, unfolding(crate::specs::Values::value_of))]
 pub fn value_of(alloc: Global, form: ValueForm, word: &str) -> Result<Value, ValueEnd>
     ensures { ReadsValue result (spec.value_of form word.now) }
@@ -115,7 +116,8 @@ pub fn value_of(alloc: Global, form: ValueForm, word: &str) -> Result<Value, Val
     }
 }
 
-/// Reads `rest`, the part of an argument after the track ID and `:`, as a value of the form `form` for the track `id`.
+/// Reads `rest`, the part of an argument after the track ID and `:`, for `value_of`. It is a value of the form `form`
+/// for the track `id`, from 0. Fails with `Bad` if it doesn't have the form.
 #[tactic(auto, unfolding(crate::specs::Values::track_value))]
 fn track_value(alloc: Global, form: ValueForm, id: u64, rest: &str) -> Result<Value, ValueEnd>
     ensures { ReadsValue result (spec.track_value form id rest.now) }
@@ -139,8 +141,8 @@ fn track_value(alloc: Global, form: ValueForm, id: u64, rest: &str) -> Result<Va
     }
 }
 
-/// Splits the argument `word` at the first `:` into the track's number and the part after it; None if it doesn't begin
-/// so.
+/// Splits the argument `word` at the first `:` into the track's number and the part after it, for an option of a track;
+/// None if it doesn't begin so. Used by `value_of`, `track_flag` and others.
 #[tactic(auto, unfolding(crate::specs::Values::track_and_rest))]
 pub fn track_and_rest(word: &str) -> Option<(u64, &str)>
     ensures { option_map (λ p. (p.0, p.1.now)) result ≡ spec.track_and_rest word.now }
@@ -150,7 +152,7 @@ pub fn track_and_rest(word: &str) -> Option<(u64, &str)>
     Some((id, rest))
 }
 
-/// Returns a copy of `word`, which may be any text: the name of a file.
+/// Returns a copy of `word`, which may be any text: the name of a file in an option. Fails only if memory runs out.
 pub fn name(alloc: Global, word: &str) -> Result<Text, AllocError>
     ensures { IfOk result (λ name. name ≡ word.now) }
 {
@@ -159,7 +161,8 @@ pub fn name(alloc: Global, word: &str) -> Result<Text, AllocError>
     Ok(name)
 }
 
-/// Returns a copy of `word`, a title or a track's name; fails with `Bad` if it has a zero byte.
+/// Returns a copy of `word`, a title or a track's name, for `value_of` and `track_value`; fails with `Bad` if it has a
+/// zero byte.
 #[tactic(auto, unfolding(crate::specs::Values::text))]
 fn text(alloc: Global, word: &str) -> Result<Text, ValueEnd>
     ensures { ReadsValue result (spec.text word.now) }
@@ -170,7 +173,8 @@ fn text(alloc: Global, word: &str) -> Result<Text, ValueEnd>
     Ok(name(alloc, word)?)
 }
 
-/// Returns a copy of `word`, a language code; fails with `Bad` unless it has three lower-case letters.
+/// Returns a copy of `word`, a language code, for `track_value`; fails with `Bad` unless it has three lower-case
+/// letters.
 #[tactic(auto, unfolding(crate::specs::Values::language))]
 fn language(alloc: Global, word: &str) -> Result<Text, ValueEnd>
     ensures { ReadsValue result (spec.language word.now) }
@@ -181,7 +185,7 @@ fn language(alloc: Global, word: &str) -> Result<Text, ValueEnd>
     Ok(name(alloc, word)?)
 }
 
-/// Returns a copy of `word`, a language tag; fails with `Bad` unless it has the form of one.
+/// Returns a copy of `word`, a language tag, for `track_value`; fails with `Bad` unless it has the form of one.
 #[tactic(auto, unfolding(crate::specs::Values::language_tag))]
 fn language_tag(alloc: Global, word: &str) -> Result<Text, ValueEnd>
     ensures { ReadsValue result (spec.language_tag word.now) }
@@ -192,21 +196,22 @@ fn language_tag(alloc: Global, word: &str) -> Result<Text, ValueEnd>
     Ok(name(alloc, word)?)
 }
 
-/// Checks whether `word` is a language code of three lower-case letters.
+/// Checks whether `word` is a language code of three lower-case letters, for `language`.
 fn is_language(word: &[u8]) -> bool
     ensures { result ≡ spec.is_language word.now }
 {
     word.len() == 3 && are_lowercase(word)
 }
 
-/// Checks whether all bytes of `word` are lower-case letters of ASCII.
+/// Checks whether all bytes of `word` are lower-case letters of ASCII, for `is_language`.
 fn are_lowercase(word: &[u8]) -> bool
     ensures { result ≡ list_all is_ascii_lowercase word.now }
 {
     word.iter().all(|b| b.is_ascii_lowercase())
 }
 
-/// Reads `word`, the value of `--timestamp-scale`: 1000 to 10000000 nanoseconds per tick.
+/// Reads `word`, the value of `--timestamp-scale`: 1000 to 10000000 nanoseconds per tick. It is None for any other.
+/// `value_of` calls it.
 #[tactic(auto, unfolding(crate::specs::Values::scale))]
 fn scale(word: &[u8]) -> Option<Value>
     ensures { result ≡ spec.scale word.now }
@@ -219,7 +224,8 @@ fn scale(word: &[u8]) -> Option<Value>
     }
 }
 
-/// Reads `word`, the value of `--cluster-length`: 1 to 65535 blocks, or 100 to 32000 milliseconds followed by `ms`.
+/// Reads `word`, the value of `--cluster-length`: 1 to 65535 blocks, or 100 to 32000 milliseconds followed by `ms`,
+/// which become nanoseconds. It is None for any other. `value_of` calls it.
 #[tactic(auto, unfolding(crate::specs::Values::cluster_length))]
 fn cluster_length(word: &[u8]) -> Option<Value>
     ensures { result ≡ spec.cluster_length word.now }
@@ -240,7 +246,8 @@ fn cluster_length(word: &[u8]) -> Option<Value>
     }
 }
 
-/// Reads `word`, the value of a track's flag: only a track, which means 1, or a track and 0 or 1.
+/// Reads `word`, the value of a track's flag, for `value_of`: only a track, which means 1, or a track and 0 or 1. It is
+/// None for any other.
 #[tactic(auto, unfolding(crate::specs::Values::track_flag))]
 fn track_flag(word: &str) -> Option<Value>
     ensures { result ≡ spec.track_flag word.now }
@@ -256,7 +263,8 @@ fn track_flag(word: &str) -> Option<Value>
     }
 }
 
-/// Returns which blocks of a track get a cue point, by `word`, the value of `--cues` after the track.
+/// Returns which blocks of a track get a cue point, by `word`, the value of `--cues` after the track; None for any
+/// other. `track_value` calls it.
 #[tactic(auto, unfolding(crate::specs::Values::cue_word))]
 fn cue_word(word: &str) -> Option<CueWord>
     ensures { result ≡ spec.cue_word word.now }

@@ -33,14 +33,16 @@ const SHORT: LinkDamage = LinkDamage {
     },
 };
 
-/// Makes the call with the number `call` fail; the files are unchanged.
+/// Makes the call with the number `call`, counted from 0, of `files` fail; the files are unchanged. `told_behind` does
+/// this before it merges.
 fn let_fail(files: &mut MemFiles, call: u64) -> Result<(), AllocError>
     ensures { (seen files.new).stored ≡ (seen files.old).stored }
 {
     files.fail_at(call, 0)
 }
 
-/// Returns the blocks of the merge while the call with the number `call` fails.
+/// Returns the blocks of a merge of two files while the call with the number `call` fails. The test of failed reads
+/// compares it with the blocks without a failure.
 fn told_behind(alloc: Global, call: u64) -> Result<Told, Fail> {
     let first = damaged(alloc)?;
     let mut files = files_of(alloc, [first.as_slice(), SMALL])?;

@@ -49,7 +49,8 @@ const EARLY: Taken = Taken {
     shift: 0,
 };
 
-/// Returns the link to the track `taken` of one of `files`.
+/// Returns the link to the track `taken` of one of the open files `files`, for `lane_of`. It fails if `files` has no
+/// file with that index.
 fn link_of<R: Reads>(
     alloc: Global,
     src: &mut R,
@@ -77,7 +78,7 @@ fn link_of<R: Reads>(
     }))
 }
 
-/// Returns an output track of `tracks` in sequence.
+/// Returns an output track of the tracks `tracks` in sequence, over the open files `files`, for `merge_of`.
 fn lane_of<R: Reads>(
     alloc: Global,
     src: &mut R,
@@ -96,7 +97,8 @@ fn lane_of<R: Reads>(
     Ok(Lane::start(alloc, LaneSpec { links }, SCALE)?)
 }
 
-/// Returns the merge of two output tracks: the first file followed by the second, and the second file.
+/// Returns the merge of two output tracks of the open files `files`: the first file followed by the second, and the
+/// second file. The test of failed reads steps through it.
 pub fn merge_of<R: Reads>(alloc: Global, src: &mut R, files: &[FileId]) -> Result<Merge, Fail>
     requires { All (λ file. IsLive R.Reads src.old file) files.now }
     ensures { IfOk result (merges.IsReady (live_files R.Reads src.new)) }

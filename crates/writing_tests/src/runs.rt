@@ -12,7 +12,8 @@ use std::test::Fail;
 /// Names of the two files.
 const NAMES: [&str; 2] = ["a.mkv", "b.mkv"];
 
-/// Makes two files with the bytes `contents`.
+/// Makes two files in memory with the bytes `contents`. It fails if one has more than 100,000 bytes. The test of failed
+/// reads uses it.
 pub fn files_of(alloc: Global, contents: [&[u8]; 2]) -> Result<MemFiles, Fail> {
     let mut files = MemFiles::new(alloc)?;
     for (name, content) in NAMES.iter().zip(contents) {
@@ -24,7 +25,7 @@ pub fn files_of(alloc: Global, contents: [&[u8]; 2]) -> Result<MemFiles, Fail> {
     Ok(files)
 }
 
-/// Opens both files.
+/// Opens both files of `files_of`, and returns their file numbers in order. The test of failed reads uses it.
 pub fn open_both<F: Files>(alloc: Global, files: &mut F) -> Result<Vec<FileId>, Fail>
     ensures { IfOk result (λ opened. All (λ file. IsLive F.Reads files.new file) opened.items) }
 {

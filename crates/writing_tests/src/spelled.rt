@@ -15,7 +15,8 @@ const FRONT: &[u8] =
 /// Cluster at 0 with a SimpleBlock of one byte at 20.
 const LAST: &[u8] = b"\x1F\x43\xB6\x75\x8A\xE7\x81\x00\xA3\x85\x81\x00\x14\x80\x02";
 
-/// Returns a file with a SimpleBlock that is cut short, one of 70,000 bytes, and a small one.
+/// Returns a file with a SimpleBlock that is cut short, one of 70,000 bytes, and a small one. It is the first input of
+/// the test of failed reads.
 pub fn damaged(alloc: Global) -> Result<Vec<u8>, AllocError> {
     let frame = vec![in alloc; 0; 70_000]?;
     let mut file = FRONT.to_vec(alloc)?;

@@ -19,13 +19,14 @@ pub struct Told {
     pub faults: u64,
 }
 
-/// Returns the current block of `lane`, the output track with the index `k`.
+/// Returns the current block of `lane`, the output track with the index `k`, as `tell_merge` records it.
 fn given(k: usize, lane: &Lane) -> Given {
     let body = lane.lent().body;
     (k, lane.head().tick, body.len(), body.last().copied())
 }
 
-/// Returns the blocks of a merge, which goes on after a call that fails.
+/// Returns the blocks of `merge`, which goes on after a call that fails, with the first damage of the last output track
+/// and the number of failed calls. The test of failed reads uses it; it stops after 1000 steps.
 pub fn tell_merge<R: Reads>(
     alloc: Global,
     merge: &mut Merge,

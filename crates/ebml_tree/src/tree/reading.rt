@@ -26,11 +26,12 @@ impl Tree {
     ghost use Rattle.tree_format.specs.Reading.{tree_of};
     ghost use Rattle.ebml_tree.specs.Outcome.{ReadsTree};
 
-    /// Reads a master with the ID `id` as a tree, from its content `body` (RFC 8794, section 7.7, Master Element).
+    /// Reads a master with the ID `id` as a tree, from its content `body` (RFC 8794, section 7.7, Master Element). Used
+    /// for each Element that is loaded whole, such as Tracks, Info or a SeekHead.
     ///
-    /// The header is at the offset `offset` of the file, and the content at the offset `base`. The tree may have
-    /// `nodes` Elements, including the master, Void and CRC-32, and 32 masters may be nested. Damage is the first one
-    /// in the order of the Elements.
+    /// The header is at the offset `offset` of the file, and the content at the offset `base`, both in bytes. The tree
+    /// may have `nodes` Elements, including the master, Void and CRC-32, and 32 masters may be nested. Damage is the
+    /// first one in the order of the Elements.
     pub fn parse(
         alloc: Global,
         id: u32,
@@ -54,7 +55,7 @@ impl Tree {
         Tree::read(alloc, id, offset, body, base, nodes)
     }
 
-    // Reads the tree for `parse`, which promises more about it.
+    // Reads the tree for `parse`, which promises more about it; the parameters are the ones of `parse`.
     #[tactic(auto, using(crate::proofs::EndLemmas::masters))]
     fn read(
         alloc: Global,
@@ -77,7 +78,8 @@ impl Tree {
         Tree::of_children(id, offset, trees)
     }
 
-    // Returns a leaf with the ID `id` and the bytes `bytes`, whose header is at the offset `offset` of a file.
+    // Returns a leaf with the ID `id` and the bytes `bytes`, whose header is at the offset `offset` of a file. Called
+    // for each leaf that is read or made. Fails if memory runs out or `bytes` is too long for an Element.
     pub(super) fn of_body(
         alloc: Global,
         id: u32,
@@ -101,7 +103,7 @@ impl Tree {
     }
 
     // Returns a master with the ID `id` and the children `trees`, whose header is at the offset `offset` of a file.
-    // Fails as if memory ran out if the children are too long together.
+    // Called for each master that is read. Fails as if memory ran out if the children are too long together.
     fn of_children(id: u32, offset: u64, trees: Vec<Tree>) -> Result<Tree, TreeEnd>
         requires id { IsTrue (is_written_id id) }
         requires room { depth_all (nodes_of trees.items) < deepest }
@@ -123,7 +125,7 @@ impl Tree {
 }
 
 // Returns the refusal of a tree with too many Elements or nested masters. The first that is too many has the ID `id`
-// and the offset `offset`.
+// and the offset `offset` in bytes. Called before an Element is read that exceeds the limit.
 fn too_many(id: u32, offset: u64) -> TreeEnd
     ensures { result ≡ TreeEnd.Damage (record { kind = Kind.TooMany; id = id; offset = offset }) }
 {
@@ -134,15 +136,16 @@ fn too_many(id: u32, offset: u64) -> TreeEnd
     })
 }
 
-// Checks whether the schema has `id` as a master under `parent`; any other Element is read as a leaf.
+// Checks whether the schema has `id` as a master under `parent`; any other Element is read as a leaf. `tree_in` does
+// this for each Element.
 fn is_master_in(parent: u32, id: u32) -> bool
     ensures { result ≡ is_master_in parent id }
 {
     may_stand(id, parent) && is_master(id)
 }
 
-// Reads the Element with the header `header` and the content `body` under `parent` as a tree. It may have `room` nested
-// masters, and `left` is the number of Elements that may still follow.
+// Reads the Element with the header `header` and the content `body` under `parent` as a tree, for `trees_in`. It may
+// have `room` nested masters, and `left` is the number of Elements that may still follow.
 #[cycle(reading)]
 fn tree_in(
     alloc: Global,
@@ -180,8 +183,9 @@ fn tree_in(
     Ok(Tree::of_body(alloc, header.id, header.offset, body)?)
 }
 
-// Reads the Elements in `body`, the content of a master with the ID `parent`, as trees. It is at the offset `place` of
-// the file. The trees may have `room` nested masters, and `left` is the number of Elements that may still follow.
+// Reads the Elements in `body`, the content of a master with the ID `parent`, as trees, for `read` and for each nested
+// master. It is at the offset `place` of the file. The trees may have `room` nested masters, and `left` is the number
+// of Elements that may still follow.
 #[cycle(reading)]
 fn trees_in(
     alloc: Global,
@@ -211,8 +215,8 @@ fn trees_in(
     Ok(trees)
 }
 
-// Returns the header of the Element at the start of `rest`. They are the unread bytes of a master with the ID `parent`,
-// at the offset `at` of the file.
+// Returns the header of the Element at the start of `rest`, for `header_in`. They are the unread bytes of a master with
+// the ID `parent`, at the offset `at` of the file. An Element that exceeds them, or has an unknown size, is damage.
 fn front_header(parent: u32, at: u64, rest: &[u8]) -> Result<Header, Damage>
     requires { at + length rest.now ≤ 2 ^ 63 }
     ensures { result ≡ header_at parent at rest.now }
@@ -222,7 +226,7 @@ fn front_header(parent: u32, at: u64, rest: &[u8]) -> Result<Header, Damage>
 }
 
 // Returns the header of the Element at the start of `rest`, and the length of its content in bytes. `rest` are the
-// unread bytes of a master with the ID `parent`, at the offset `at` of the file.
+// unread bytes of a master with the ID `parent`, at the offset `at` of the file. `trees_in` does this for each Element.
 fn header_in(parent: u32, at: u64, rest: &[u8]) -> Result<(Header, u64), Damage>
     requires { at + length rest.now ≤ 2 ^ 63 }
     ensures ok { IfOk result (λ found. header_at parent at rest.now ≡ Ok found.0) }
@@ -239,7 +243,7 @@ fn header_in(parent: u32, at: u64, rest: &[u8]) -> Result<(Header, u64), Damage>
 }
 
 // Splits `rest`, the unread bytes of a master at the offset `at` of the file. Returns the content of its first Element,
-// `size` bytes after `header`, and the bytes after the Element.
+// `size` bytes after `header`, and the bytes after the Element, which `trees_in` reads next.
 fn cut<'a>(rest: &'a [u8], at: u64, header: &Header, size: u64) -> (&'a [u8], &'a [u8])
     requires fits { Fits at (at + length rest.now) header.now }
     requires size { size ≡ known header.now.size }

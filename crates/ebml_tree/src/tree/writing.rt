@@ -11,7 +11,8 @@ use std::alloc::AllocError;
 // Maximum number of bytes after an Element's header (RFC 8794, section 6.2, Unknown Data Size).
 pub(super) const LONGEST: u64 = 0xFF_FFFF_FFFF_FFFE;
 
-// Checks whether Elements with the ID `id` are left out: Void, and CRC-32 (RFC 8794, section 11.3, Global Elements).
+// Checks whether Elements with the ID `id` are left out when a tree is written: Void, and CRC-32 (RFC 8794, section
+// 11.3, Global Elements). `write` and `element_len` call it.
 pub(super) fn is_filler(id: u32) -> bool
     ensures { result ≡ is_filler id }
 {
@@ -19,6 +20,7 @@ pub(super) fn is_filler(id: u32) -> bool
 }
 
 // Returns the length in bytes of an Element with the ID `id` and `written` bytes of content, or 0 if it is left out.
+// `written_len` adds them up.
 #[tactic(auto, using(crate::proofs::ContentLemmas::lengths))]
 pub(super) fn element_len(id: u32, written: u64) -> u64
     requires id { IsTrue (is_written_id id) }
@@ -32,7 +34,8 @@ pub(super) fn element_len(id: u32, written: u64) -> u64
     u64::from(put_id(id).len) + u64::from(size_width(written)) + written
 }
 
-// Appends the header of an Element with the ID `id` and `written` bytes of content to `out`.
+// Appends the header of an Element with the ID `id` and `written` bytes of content to `out`, before a tree's content.
+// If memory runs out, `out` may have gained a part of it. `write` begins with it.
 #[tactic(auto, using(crate::proofs::ContentLemmas::lengths))]
 pub(super) fn write_header(id: u32, written: u64, out: &mut Vec<u8>) -> Result<(), AllocError>
     requires id { IsTrue (is_written_id id) }
