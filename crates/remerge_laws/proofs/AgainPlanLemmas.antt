@@ -177,7 +177,7 @@ entries-whole (master id at kids) is = λ k d inside. of _ (each k d inside) (st
     of e entry stands fits = record { id = entry.id; master = entry-master e entry.id stands; sound = entry.sound; room = fits }
 
 -- They stay valid with a number and an identifier.
-all-whole : (number : ℕ) (uids : List ℕ) (es : List Node) → 0 < number → number + length uids ≤ 2 ^ 64 → All Small uids → All IsWholeEntry es
+pub all-whole : (number : ℕ) (uids : List ℕ) (es : List Node) → 0 < number → number + length uids ≤ 2 ^ 64 → All Small uids → All IsWholeEntry es
     → All IsWholeEntry (written_entries (plain_changes number uids) es)
 all-whole number [] es some few small whole = All-nil IsWholeEntry
 all-whole number (uid ∷ uids) [] some few small whole = All-nil IsWholeEntry
@@ -190,15 +190,20 @@ all-whole number (uid ∷ uids) (e ∷ es) some few small whole =
 tree-entries : (es : List Node) → All IsWholeEntry es → IsTree TRACKS (output_tracks es)
 tree-entries es whole = let low = all-low es whole in record { read = record { id = refl; master = refl; sound = all-stand es whole }; low = omega arith }
 
+-- The entries that are read from an output are valid.
+pub read-whole : (tracks : Node) (read : List Track) → IsRecord TRACKS tracks → AreTracksOf tracks read → All IsWholeEntry (map (λ (t : Track). t.entry) read)
+read-whole tracks read is are =
+    let there : Node = placed are.place tracks in
+    let entries_are : map (λ (t : Track). t.entry) read ≡ entries_of there = ap (map (λ (t : Track). t.entry)) are.stand ∙ map-entries (entries_of there) in
+    subst (All IsWholeEntry) (sym entries_are) (entries-whole there (tree-placed TRACKS are.place tracks is))
+
 -- The Tracks of an output, as they are merged again.
 pub tracks-tree : (name : List ℕ) (tracks : Node) (read : List Track) → IsRecord TRACKS tracks → ArePlainTracks tracks → AreTracksOf tracks read
     → length (taken_from (plain_file name) 0 read) ≤ MAX_LANES → All Small (uids_of (taken_from (plain_file name) 0 read))
     → IsTree TRACKS (output_tracks (entries_given (taken_from (plain_file name) 0 read)))
 tracks-tree name tracks read is plain_tracks are few small =
     let taken : List TakenTrack = taken_from (plain_file name) 0 read in
-    let there : Node = placed are.place tracks in
-    let entries_are : map (λ (t : Track). t.entry) read ≡ entries_of there = ap (map (λ (t : Track). t.entry)) are.stand ∙ map-entries (entries_of there) in
-    let whole : All IsWholeEntry (map (λ (t : Track). t.entry) read) = subst (All IsWholeEntry) (sym entries_are) (entries-whole there (tree-placed TRACKS are.place tracks is)) in
+    let whole = read-whole tracks read is are in
     let long = length-uids taken in
     subst (λ (es : List Node). IsTree TRACKS (output_tracks es)) (sym (entries-plain name tracks read plain_tracks are))
     (tree-entries (written_entries (plain_changes 1 (uids_of taken)) (map (λ (t : Track). t.entry) read))

@@ -34,7 +34,7 @@ use Rattle.mkv_merge.specs.Texts.{missing_text, timed_from, times_refusal}
 use Rattle.mkv_merge.specs.declared.refusal.Refusal.{Refusal}
 use Rattle.mkv_merge.specs.declared.refusal.Refusal.TheVariants.{Differs, Missing, OutputIsInput, Plan}
 use Rattle.remerge_laws.specs.AgainSources.{CanBegin, MergeIsDone, OutputsAreSources}
-use Rattle.remerge_laws.specs.Plain.{plain_merge}
+use Rattle.remerge_laws.specs.Plain.{merge_again}
 use Rattle.remerge_laws.specs.Repeat.{source_again}
 
 -- ---- an output isn't a SubRip text
@@ -52,9 +52,9 @@ not-text name d = by_name (is_srt_name name)
 
 -- ---- result of reading it
 
-module _ (world : List ℕ → Option (List ℕ)) (out name : List ℕ) (d : Document) (r : FileRecords) where
+module _ (world : List ℕ → Option (List ℕ)) (duration : Bool) (out name : List ℕ) (d : Document) (r : FileRecords) where
   abbrev words : MergeWords
-  words = plain_merge out name
+  words = merge_again duration out name
 
   abbrev texts : TextFiles
   texts = text_files world None words.files
@@ -107,10 +107,11 @@ module _ (world : List ℕ → Option (List ℕ)) (out name : List ℕ) (d : Doc
       ∙ ap (λ (why : Option PlanRefusal). unless (first_cause (option_map Plan why ∷ [])) (source ∷ [])) planned
 
 pub outputs-sources : OutputsAreSources
-outputs-sources world out name d r begun outlined records usable planned = one-source world out name d r begun (read-again world out name d r outlined records usable) planned
+outputs-sources world duration out name d r begun outlined records usable planned =
+    one-source world duration out name d r begun (read-again world duration out name d r outlined records usable) planned
 
 -- ---- end of the merge
 
 pub merge-done : MergeIsDone
-merge-done world out name s are whole =
-    ap (λ (found : Result (List Source) Refusal). (verdict_of (plain_merge out name) found).status) are ∙ ap (λ (damaged : Bool). warned_if (damaged || false)) whole
+merge-done world duration out name s are whole =
+    ap (λ (found : Result (List Source) Refusal). (verdict_of (merge_again duration out name) found).status) are ∙ ap (λ (damaged : Bool). warned_if (damaged || false)) whole

@@ -16,6 +16,7 @@ pub mod OwnTrackLemmas
 pub mod OwnChapterLemmas
 pub mod OwnFileLemmas
 pub mod AlikeLemmas
+pub mod AsReadLemmas
 pub mod WholeLemmas
 pub mod NamedLemmas
 pub mod ContentLemmas
@@ -27,6 +28,7 @@ pub mod AgainChapterLemmas
 pub mod AgainInfoLemmas
 pub mod RepeatTrackLemmas
 pub mod AgainPlanLemmas
+pub mod AgainDurationLemmas
 pub mod RepeatLemmas
 pub mod RepeatSourceLemmas
 pub mod PlainSourceLemmas

@@ -1,5 +1,5 @@
 -- An output that is merged by itself is written as it was.
-use Rattle.std.proofs.Common.{◌≡◌, ◌<◌, ℕ, ◌+◌, ◌^◌, true, List, [], ◌∷◌, ◌++◌, length, map, flat_map, take, All, None, Ok, refl, sym, ap, ap₂, subst, ◌∙◌, append-nil, arith}
+use Rattle.std.proofs.Common.{◌≡◌, ◌<◌, ◌≤◌, ℕ, ◌+◌, ◌^◌, true, List, [], ◌∷◌, ◌++◌, length, map, flat_map, take, All, Option, None, Ok, IfSome, option_map, refl, sym, ap, ap₂, subst, ◌∙◌, append-nil, arith}
 use Rattle.std.specs.List.{AllZip}
 use Rattle.std.proofs.lemmas.List.{length-map, map-append}
 use Rattle.mkv_outputs.specs.Outputs.{Output}
@@ -11,9 +11,9 @@ use Rattle.output_laws.specs.Lanes.{HasNoLane}
 use Rattle.merge_inputs.specs.Taken.{IsTaken, first_unusable}
 use Rattle.mkv_merge.specs.Records.{HaveRecords}
 use Rattle.remerge_laws.specs.Records.{OutputKeepsLimits}
-use Rattle.tree_format.specs.Node.{Node, nodes_of}
-use Rattle.tree_format.specs.NormalForm.{kept_octets, octets, octets_all}
-use Rattle.file_format.specs.Entry.{entries_of, type_of, uid_of}
+use Rattle.tree_format.specs.Node.{Node, nodes_of, IsMaster}
+use Rattle.tree_format.specs.NormalForm.{is_filler, kept_octets, octets, octets_all}
+use Rattle.file_format.specs.Entry.{default_duration_of, entries_of, type_of, uid_of}
 use Rattle.file_format.specs.Info.{scale_of}
 use Rattle.block_format.specs.Elements.{with_limits}
 use Rattle.block_format.specs.Events.{events_of}
@@ -23,11 +23,15 @@ use Rattle.output_model.specs.declared.TheConstants.{AREA, MAX_CUES}
 use Rattle.output_model.specs.Cluster.{OutputCluster, clusters}
 use Rattle.output_model.specs.Cued.{is_cue}
 use Rattle.output_model.specs.Cues.{points_from}
-use Rattle.output_model.specs.Document.{Document, front_elements, layout}
+use Rattle.output_model.specs.declared.durations.Durations.{Durations}
+use Rattle.output_model.specs.Duration.{durations_of, end_of_blocks}
+use Rattle.output_model.specs.OutputBlock.{OutputBlock}
+use Rattle.output_model.specs.Document.{Document, front_elements, info_told, lasting_if, layout}
 use Rattle.output_model.specs.Element.{joined}
 use Rattle.output_model.specs.declared.attachment.Attachment.{Attachment}
 use Rattle.output_laws.specs.Merges.{LanesAreReadAgain}
 use Rattle.output_laws.specs.Reading.{header_of_segment}
+use Rattle.output_laws.proofs.InfoLemmas.{told-id, told-scale}
 use Rattle.meta_records.specs.Attached.{AttachedFile}
 use Rattle.meta_records.specs.Records.{FileRecords, file_records}
 use Rattle.record_changes.specs.Identifiers.{renumbered}
@@ -58,12 +62,14 @@ use Rattle.remerge_laws.specs.AgainFiles.{HaveFiles}
 use Rattle.remerge_laws.specs.AgainLanes.{IsReadOfOutput}
 use Rattle.remerge_laws.specs.AgainTracks.{ArePlainTracks, AreTakenOf}
 use Rattle.remerge_laws.specs.Alike.{AreAlike, AreAlikeDocuments, MayBeAlike}
-use Rattle.remerge_laws.specs.Plain.{plain_merge}
+use Rattle.remerge_laws.specs.AsRead.{EndsAfterStart, as_read}
+use Rattle.remerge_laws.specs.Plain.{merge_again}
 use Rattle.remerge_laws.specs.Records.{IsReadWithLimits, RecordsOfOutput}
 use Rattle.remerge_laws.specs.Repeat.{IsRepeated, IsDefault, source_again}
 use Rattle.remerge_laws.specs.Tracks.{IsTrackOf}
 use Rattle.remerge_laws.specs.Whole.{whole_document}
 use Rattle.remerge_laws.proofs.AgainChapterLemmas.{chapters-again}
+use Rattle.remerge_laws.proofs.AgainDurationLemmas.{durations-again}
 use Rattle.remerge_laws.proofs.AgainFileLemmas.{files-stay}
 use Rattle.remerge_laws.proofs.AgainInfoLemmas.{info-again}
 use Rattle.merge_laws.proofs.LaneLemmas.{lanes-as_many}
@@ -73,6 +79,7 @@ use Rattle.remerge_laws.proofs.AgainPlanLemmas.{IsTree, again-small, plan-again,
 use Rattle.remerge_laws.proofs.AgainTagLemmas.{tags-again}
 use Rattle.remerge_laws.proofs.AgainTrackLemmas.{IsBare, entries-again, tracks-taken}
 use Rattle.remerge_laws.proofs.AlikeLemmas.{alike-one, fronts-same}
+use Rattle.remerge_laws.proofs.AsReadLemmas.{fronts-told, layout-told}
 use Rattle.remerge_laws.proofs.BlockLemmas.{own-scale}
 use Rattle.remerge_laws.proofs.RecordLemmas.{outputs-read}
 use Rattle.remerge_laws.proofs.RepeatTrackLemmas.{entries-are, rules-given, types-from, uids-given}
@@ -92,11 +99,12 @@ pub record ArePlain (words : MergeWords) (sources : List Source) : Type 0 where
 
 -- the facts about their document
 pub record HavePlainDocument (words : MergeWords) (sources : List Source) : Type 0 where
-  pub sound : IsSoundDocument (whole_document words sources)
+  pub later : EndsAfterStart (whole_document words sources)
+  pub sound : IsSoundDocument (as_read (whole_document words sources))
   pub lanes : length (lanes_given sources) ≡ length (entries_of (whole_document words sources).front.tracks)
   pub unnumbered : All (All HasNoLane) (map (lane_blocks words.scale) (lanes_taken words sources))
   pub plain : All (λ (entry : Node). first_child CONTENT_ENCODINGS entry ≡ None) (entries_of (whole_document words sources).front.tracks)
-  pub limits : OutputKeepsLimits (whole_document words sources)
+  pub limits : OutputKeepsLimits (as_read (whole_document words sources))
 
 -- ---- lists of bytes
 
@@ -130,8 +138,12 @@ files-numbers reads = ap renumbered (sym (uids-from [] (uids_of (tracks_taken re
 -- ---- result of reading
 
 module _ (tracks_stay : TracksStay) (chapters_stay : ChaptersStay) (tags_stay : TagsStay) (lanes_stay : LanesAreReadAgain) (words : MergeWords) (sources : List Source) (out name : List ℕ) (usual : IsDefault words) (are : ArePlain words sources) (has : HavePlainDocument words sources) where
+  abbrev w : Document
+  w = whole_document words sources
+
+  -- as a reader finds it
   abbrev d : Document
-  d = whole_document words sources
+  d = as_read w
 
   abbrev reads : List InputRead
   reads = reads_of sources
@@ -153,7 +165,7 @@ module _ (tracks_stay : TracksStay) (chapters_stay : ChaptersStay) (tags_stay : 
   }
 
   scale-is : scale_of d.front.info ≡ words.scale
-  scale-is = info-scale words.scale (title_of words reads) (subst (λ (n : ℕ). n < 2 ^ 64) (sym usual.scale) (omega arith))
+  scale-is = told-scale w.front.info w.front.lasting ∙ info-scale words.scale (title_of words reads) (subst (λ (n : ℕ). n < 2 ^ 64) (sym usual.scale) (omega arith))
 
   files : HaveFiles sources
   files = record { filled = are.records.attachments; small = subst (All (λ n. n < 2 ^ 64)) (sym (files-numbers reads)) are.short.files }
@@ -190,22 +202,22 @@ module _ (tracks_stay : TracksStay) (chapters_stay : ChaptersStay) (tags_stay : 
       keep = refl;
     }
 
-    lanes-again : map (lane_blocks 1000000) (lanes_taken (plain_merge out name) (s ∷ [])) ≡ map (lane_blocks words.scale) (lanes_taken words sources)
+    lanes-again : map (lane_blocks 1000000) (lanes_taken (merge_again words.duration out name) (s ∷ [])) ≡ map (lane_blocks words.scale) (lanes_taken words sources)
     lanes-again =
         ap (map (lane_blocks 1000000)) (lanes-same (lanes_given (s ∷ [])))
         ∙ ap (λ (n : ℕ). map (lane_blocks n) (lanes_given (s ∷ []))) (sym (scale-is ∙ usual.scale))
         ∙ (lanes-merged lanes_stay).lanes d (limits_of words) (map (lane_blocks words.scale) (lanes_taken words sources)) s.1 has.sound refl has.unnumbered
         (taken-of.many ∙ sym has.lanes ∙ sym (length-map (lanes_taken words sources) (lane_blocks words.scale) ∙ lanes-as_many words sources)) output-read
 
-    blocks-again : blocks_of (plain_merge out name) (s ∷ []) ≡ blocks_of words sources
+    blocks-again : blocks_of (merge_again words.duration out name) (s ∷ []) ≡ blocks_of words sources
     blocks-again = ap merged lanes-again
 
-    limits-same : limits_of (plain_merge out name) ≡ limits_of words
+    limits-same : limits_of (merge_again words.duration out name) ≡ limits_of words
     limits-same = sym
         (ap (λ (n : ℕ). limits_of (record words { blocks = n })) usual.blocks ∙ ap (λ (n : ℕ). limits_of (record words { blocks = 65535; span = n })) usual.span
         ∙ ap (λ (n : ℕ). limits_of (record words { blocks = 65535; span = 5000000000; scale = n })) usual.scale)
 
-    clusters-same : clusters (limits_of words) (blocks_of words sources) ≡ clusters (limits_of (plain_merge out name)) (blocks_of (plain_merge out name) (s ∷ []))
+    clusters-same : clusters (limits_of words) (blocks_of words sources) ≡ clusters (limits_of (merge_again words.duration out name)) (blocks_of (merge_again words.duration out name) (s ∷ []))
     clusters-same = sym (ap₂ clusters limits-same blocks-again)
 
     rules-same : rules_given reads ≡ rules_given (s.1 ∷ [])
@@ -215,8 +227,26 @@ module _ (tracks_stay : TracksStay) (chapters_stay : ChaptersStay) (tags_stay : 
 
     -- ---- the records
 
-    info-alike : AreAlike d.front.info (info_of (plain_merge out name) (s.1 ∷ []))
-    info-alike = subst (AreAlike d.front.info) (sym (info-again words reads out name r.info s.1 usual.scale are.title of_d.info refl)) (record { id = refl; some = refl; same = refl })
+    info-same : info_of (merge_again words.duration out name) (s.1 ∷ []) ≡ info_of words reads
+    info-same = info-again words reads w.front.lasting out name r.info s.1 usual.scale are.title of_d.info refl
+
+    durations-same : durations_of 1000000 (tracks_of_output (s.1 ∷ [])) ≡ durations_of words.scale (tracks_of_output reads)
+    durations-same =
+        let few = has.sound.tracks.few in
+        let many = taken-of.many in
+        ap₂ (λ (scale : ℕ) (frames : List (Option ℕ)). let ds : Durations = record { scale = scale; frames = frames } in ds) (sym usual.scale)
+        (ap (λ (ts : List TakenTrack). map default_duration_of (entries_of (output_tracks (entries_given ts)))) (append-nil s.1.taken)
+        ∙ durations-again name d.front.tracks r.tracks has.sound.tracks.is plain-tracks of_d.tracks (omega arith) (again-small reads s.1 are.short identifiers))
+
+    -- Both outputs end at the same tick.
+    lasting-same : (whole_document (merge_again words.duration out name) (s ∷ [])).front.lasting ≡ w.front.lasting
+    lasting-same = ap₂ (λ (ds : Durations) (bs : List OutputBlock). option_map (λ known. end_of_blocks ds bs) (lasting_if words.duration)) durations-same blocks-again
+
+    told-same : info_told w.front.info w.front.lasting ≡ info_told (info_of (merge_again words.duration out name) (s.1 ∷ [])) (whole_document (merge_again words.duration out name) (s ∷ [])).front.lasting
+    told-same = sym (ap₂ info_told info-same lasting-same)
+
+    info-alike : AreAlike d.front.info (info_told (info_of (merge_again words.duration out name) (s.1 ∷ [])) (whole_document (merge_again words.duration out name) (s ∷ [])).front.lasting)
+    info-alike = subst (AreAlike d.front.info) told-same (record { id = refl; some = ap is_filler (told-id w.front.info w.front.lasting); same = refl })
 
     entries-alike : map octets (entries_given (s.1.taken ++ [])) ≡ map octets (entries_given taken)
     entries-alike =
@@ -238,21 +268,32 @@ module _ (tracks_stay : TracksStay) (chapters_stay : ChaptersStay) (tags_stay : 
     -- ---- the document
 
     abbrev e : Document
-    e = whole_document (plain_merge out name) (s ∷ [])
+    e = whole_document (merge_again words.duration out name) (s ∷ [])
 
     abbrev points : List CueRule → ℕ → List OutputCluster → List CuePoint
     points rules place cs = take MAX_CUES (points_from (is_cue rules) place cs)
 
+    master-again : IsMaster (info_told e.front.info e.front.lasting)
+    master-again = subst IsMaster told-same has.sound.info.master
+
+    later-again : EndsAfterStart e
+    later-again = subst (λ (lasting : Option ℕ). IfSome lasting (λ end. 1 ≤ end)) (sym lasting-same) has.later
+
+    fronts-alike : joined (front_elements w.front) ≡ joined (front_elements e.front)
+    fronts-alike =
+        sym (fronts-told w has.sound.info.master has.later) ∙ fronts-same d.front (as_read e).front refl refl info-alike tracks-alike files-alike
+        ∙ fronts-told e master-again later-again
+
     cues-same : d.cues ≡ e.cues
     cues-same =
-        ap (λ (rules : List CueRule). points rules (AREA + length (joined (front_elements d.front))) d.clusters) rules-same
+        ap (λ (rules : List CueRule). points rules (AREA + length (joined (front_elements w.front))) d.clusters) rules-same
         ∙ ap₂ (λ (octets : List ℕ) (cs : List OutputCluster). points (rules_given (s.1 ∷ [])) (AREA + length octets) cs)
-        (fronts-same d.front e.front has.limits.records.lasting refl info-alike tracks-alike files-alike) clusters-same
+        fronts-alike clusters-same
 
-    documents-alike : AreAlikeDocuments d e
+    documents-alike : AreAlikeDocuments d (as_read e)
     documents-alike = record {
       webm = usual.webm;
-      lasting = has.limits.records.lasting;
+      lasting = refl;
       lasting_too = refl;
       info = info-alike;
       tracks = tracks-alike;
@@ -277,7 +318,7 @@ module _ (tracks_stay : TracksStay) (chapters_stay : ChaptersStay) (tags_stay : 
         subst (λ (ts : List TakenTrack). IsTree TRACKS (output_tracks (entries_given ts))) (sym (append-nil s.1.taken))
         (tracks-tree name d.front.tracks r.tracks has.sound.tracks.is plain-tracks of_d.tracks (omega arith) (again-small reads s.1 are.short identifiers))
 
-    planned : plan_refusal (plain_merge out name) (s.1 ∷ []) ≡ None
+    planned : plan_refusal (merge_again words.duration out name) (s.1 ∷ []) ≡ None
     planned =
         plan-again reads s.1 are.short identifiers words out name (record {
           tracks = has.sound.tracks.is;
@@ -293,17 +334,17 @@ module _ (tracks_stay : TracksStay) (chapters_stay : ChaptersStay) (tags_stay : 
 
     -- ---- together
 
-    is-repeated : file_records (layout d) (header_of_segment d) ≡ Ok r → IsRepeated out name d r
+    is-repeated : file_records (layout d) (header_of_segment d) ≡ Ok r → IsRepeated words.duration out name d r
     is-repeated found = record {
       outline = read.outline;
       read = found;
       usable = usable;
       planned = planned;
       outputs =
-          ap (map laid_out) (one-document (plain_merge out name) (s ∷ []) refl refl)
-          ∙ ap (λ (bytes : List ℕ). let o : Output = record { name = out; content = bytes } in o ∷ []) (sym (alike-one d e documents-alike));
-      undamaged = (lanes-merged lanes_stay).undamaged (plain_merge out name) d s.1 output-read;
+          ap (map laid_out) (one-document (merge_again words.duration out name) (s ∷ []) refl refl)
+          ∙ ap (λ (bytes : List ℕ). let o : Output = record { name = out; content = bytes } in o ∷ []) (sym (alike-one d (as_read e) documents-alike ∙ layout-told e master-again later-again));
+      undamaged = (lanes-merged lanes_stay).undamaged (merge_again words.duration out name) d s.1 output-read;
     }
 
-  pub repeated : (r : FileRecords) × IsRepeated out name d r
+  pub repeated : (r : FileRecords) × IsRepeated words.duration out name d r
   repeated = (read.records.0, is-repeated read.records.0 read.records.2 read.records.1)

@@ -29,9 +29,11 @@ use Rattle.merge_laws.specs.Sources.{AreSources, IsReadSource, IsReadTrack}
 use Rattle.merge_laws.proofs.DocumentLemmas.{all-tracks}
 use Rattle.merge_laws.proofs.LaneLemmas.{lanes-count, lanes-free}
 use Rattle.merge_laws.proofs.TracksLemmas.{entries-count}
+use Rattle.remerge_laws.specs.AsRead.{EndsAfterStart, as_read}
 use Rattle.remerge_laws.specs.Limits.{IsWithinLimits}
 use Rattle.remerge_laws.specs.Repeat.{IsDefault, OutputsAreRepeated}
 use Rattle.remerge_laws.specs.Whole.{whole_document}
+use Rattle.remerge_laws.proofs.AsReadLemmas.{as-read}
 use Rattle.remerge_laws.proofs.LimitLemmas.{octets-keep}
 use Rattle.remerge_laws.proofs.RepeatLemmas.{ArePlain, HavePlainDocument, repeated}
 use Rattle.remerge_laws.proofs.RepeatTrackLemmas.{IsOfTakenType, entries-are}
@@ -44,7 +46,7 @@ all-taken sources each = All-weaker IsReadTrack IsTaken (λ t read. read.taken) 
 
 -- ---- together
 
-module _ (documents_sound : MergedDocumentsAreSound) (layouts_hold : LayoutsHoldOutputs) (words : MergeWords) (sources : List Source) (usual : IsDefault words) (good : IsSoundMerge words) (texts : AreTexts words) (are : AreSources words sources) (records : HaveRecords sources) (within : IsWithinLimits (layout (whole_document words sources))) where
+module _ (documents_sound : MergedDocumentsAreSound) (layouts_hold : LayoutsHoldOutputs) (words : MergeWords) (sources : List Source) (usual : IsDefault words) (good : IsSoundMerge words) (texts : AreTexts words) (are : AreSources words sources) (records : HaveRecords sources) (later : EndsAfterStart (whole_document words sources)) (within : IsWithinLimits (layout (whole_document words sources))) where
   abbrev d : Document
   d = whole_document words sources
 
@@ -68,19 +70,22 @@ module _ (documents_sound : MergedDocumentsAreSound) (layouts_hold : LayoutsHold
 
   plain-document : HavePlainDocument words sources
   plain-document = record {
-    sound = document-sound;
+    later = later;
+    sound = (as-read d document-sound later).sound;
     lanes = lanes-count sources
         ∙ sym (ap length (entries-are (tracks_taken (reads_of sources)) taken) ∙ entries-count (tracks_taken (reads_of sources)));
     unnumbered = lanes-free words sources are.each;
     plain = plain_one holds;
-    limits = octets-keep d document-sound (whole-planned words sources usual.duration are.unrefused) within;
+    limits =
+        let written = as-read d document-sound later in
+        octets-keep (as_read d) written.sound (whole-planned words sources are.unrefused) (subst IsWithinLimits (sym written.same) within);
   }
     where
       plain_one : (o : PlannedOutput) × (o.document ≡ d) × HoldsOutput words o (layout d) → All (λ (entry : Node). first_child CONTENT_ENCODINGS entry ≡ None) (entries_of d.front.tracks)
       plain_one found = subst (λ (e : Document). All (λ (entry : Node). first_child CONTENT_ENCODINGS entry ≡ None) (entries_of e.front.tracks)) found.1 found.2.plain
 
 pub outputs-repeated : TracksStay → ChaptersStay → TagsStay → LanesAreReadAgain → MergedDocumentsAreSound → LayoutsHoldOutputs → OutputsAreRepeated
-outputs-repeated tracks_stay chapters_stay tags_stay lanes_stay documents_sound layouts_hold words sources out name usual good texts are records plain within =
+outputs-repeated tracks_stay chapters_stay tags_stay lanes_stay documents_sound layouts_hold words sources out name usual good texts are records plain later within =
     let known : ArePlain words sources = record {
       taken = all-taken sources are.each;
       types = All-weaker IsReadTrack IsOfTakenType (λ t read. read.kind) (tracks_taken (reads_of sources)) (all-tracks sources are.each);
@@ -91,4 +96,4 @@ outputs-repeated tracks_stay chapters_stay tags_stay lanes_stay documents_sound 
       unrefused = are.unrefused;
     } in
     repeated tracks_stay chapters_stay tags_stay lanes_stay words sources out name usual known
-    (plain-document documents_sound layouts_hold words sources usual good texts are records within)
+    (plain-document documents_sound layouts_hold words sources usual good texts are records later within)

@@ -21,7 +21,7 @@ use Rattle.remerge_laws.proofs.PlacedLemmas.{body-placed, integer-placed, first-
 
 -- ---- values of an entry
 
-integer-same : (id : ℕ) (n : Node) (p : ℕ) → is_filler id ≡ false → integer_in id (placed p n) ≡ integer_in id n
+pub integer-same : (id : ℕ) (n : Node) (p : ℕ) → is_filler id ≡ false → integer_in id (placed p n) ≡ integer_in id n
 integer-same id n p keeps = first-placed integer_of integer-placed id keeps n p
 
 uint-same : (id : ℕ) (n : Node) (p : ℕ) → is_filler id ≡ false → uint_in id (placed p n) ≡ uint_in id n

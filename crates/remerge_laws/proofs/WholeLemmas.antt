@@ -1,5 +1,5 @@
 -- The document of a merge that isn't split.
-use Rattle.std.proofs.Common.{◌≡◌, ◌≤◌, ℕ, nat_lt, Bool, true, false, ◌||◌, if◌then◌else◌, List, [], ◌∷◌, ◌++◌, length, map, Option, None, Some, IfSome, is_some, refl, ap, ◌∙◌, arith}
+use Rattle.std.proofs.Common.{◌≡◌, ◌≤◌, ℕ, zero, suc, nat_lt, Bool, true, false, ◌||◌, if◌then◌else◌, List, [], ◌∷◌, ◌++◌, length, map, Option, None, Some, IfSome, is_some, refl, ap, ◌∙◌, arith}
 use Rattle.std.specs.List.{enumerate_from}
 use Rattle.std.specs.Option.{option_map, option_or}
 use Rattle.std.proofs.lemmas.Bool.Decides.{nat_tests}
@@ -28,11 +28,10 @@ use Rattle.merge_plan.specs.Plan.{Source, limits_of, rules_given, starts_in}
 use Rattle.merge_plan.specs.Records.{chapters_of, tags_of, title_of, tracks_of_output, tracks_taken}
 use Rattle.merge_plan.specs.Refusal.{lanes_refusal, plan_refusal, records_refusal}
 use Rattle.merge_plan.specs.declared.refusal.PlanRefusal.TheVariants.{HeaderTooLarge}
-use Rattle.output_model.specs.Document.{lasting_if}
-use Rattle.output_model.specs.Duration.{durations_of, end_of_blocks}
+use Rattle.output_model.specs.Document.{info_told}
 use Rattle.mkv_merge.specs.Merge.{blocks_of, output_at, parts_of, split_of}
 use Rattle.remerge_laws.specs.Outline.{KeepsReaderLimits}
-use Rattle.remerge_laws.specs.Whole.{WholeMergesHaveSmallRecords, WholeMergesHaveOneDocument}
+use Rattle.remerge_laws.specs.Whole.{WholeMergesHaveSmallRecords, WholeMergesHaveOneDocument, whole_document}
 
 -- ---- one output
 
@@ -98,10 +97,14 @@ none-large : (id : ℕ) (o : Option Node) → too_large id o ≡ None → IfSome
 none-large id None none = tt
 none-large id (Some n) none = not-large id n none
 
--- An Info has a few Elements.
-few-info : (scale : ℕ) (title : List ℕ) → kept (output_info scale title) ≤ MAX_NODES
-few-info scale [] = omega arith
-few-info scale (octet ∷ octets) = omega arith
+-- An Info has a few Elements, also with a Duration.
+few-info : (scale : ℕ) (title : List ℕ) (lasting : Option ℕ) → kept (info_told (output_info scale title) lasting) ≤ MAX_NODES
+few-info scale [] None = omega arith
+few-info scale [] (Some zero) = omega arith
+few-info scale [] (Some (suc n)) = omega arith
+few-info scale (octet ∷ octets) None = omega arith
+few-info scale (octet ∷ octets) (Some zero) = omega arith
+few-info scale (octet ∷ octets) (Some (suc n)) = omega arith
 
 module _ (words : MergeWords) (reads : List InputRead) (unrefused : plan_refusal words reads ≡ None) where
   none-too-large : first_too_large (tracks_of_output reads) (chapters_of reads) (tags_of reads) ≡ None
@@ -113,11 +116,11 @@ module _ (words : MergeWords) (reads : List InputRead) (unrefused : plan_refusal
   large-behind = second-none (too_large TRACKS (Some (tracks_of_output reads))) (option_or (too_large CHAPTERS (chapters_of reads)) (too_large TAGS (tags_of reads))) none-too-large
 
 pub whole-planned : WholeMergesHaveSmallRecords
-whole-planned words sources usual unrefused =
+whole-planned words sources unrefused =
     let reads : List InputRead = reads_of sources in
     record {
-      lasting = ap (λ (asked : Bool). option_map (λ known. end_of_blocks (durations_of words.scale (tracks_of_output reads)) (blocks_of words sources)) (lasting_if asked)) usual;
-      info = few-info words.scale (title_of words reads);
+      lasting = refl;
+      info = few-info words.scale (title_of words reads) (whole_document words sources).front.lasting;
       tracks = not-large TRACKS (tracks_of_output reads) (first-none (too_large TRACKS (Some (tracks_of_output reads))) (option_or (too_large CHAPTERS (chapters_of reads)) (too_large TAGS (tags_of reads))) (none-too-large words reads unrefused));
       chapters = none-large CHAPTERS (chapters_of reads) (first-none (too_large CHAPTERS (chapters_of reads)) (too_large TAGS (tags_of reads)) (large-behind words reads unrefused));
       tags = none-large TAGS (tags_of reads) (second-none (too_large CHAPTERS (chapters_of reads)) (too_large TAGS (tags_of reads)) (large-behind words reads unrefused));

@@ -1,6 +1,7 @@
 pub mod Trees
 pub mod Placed
 pub mod Outline
+pub mod AsRead
 pub mod Tracks
 pub mod Files
 pub mod Records

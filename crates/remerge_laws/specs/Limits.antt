@@ -25,8 +25,8 @@ pub record IsWithinLimits (bytes : List ℕ) : Type 0 where
   pub attachments : (o : Outlined) → outline_without_limits bytes ≡ Ok o → IfSome (first_of ATTACHMENTS o.list) (AttachmentsKeepLimits bytes)
   pub blocks : (o : Outlined) → outline_without_limits bytes ≡ Ok o → file_events true bytes o.segment ≡ file_events false bytes o.segment
 
--- The records of the document `d` are small: its Info has no Duration and at most 65,536 Elements, and its Tracks, Chapters and Tags keep a reader's
--- limits. A condition of `OctetsKeepLimits`.
+-- The records of the document `d`, as a reader finds it, are small: its Info has at most 65,536 Elements, and its Tracks, Chapters and Tags keep a
+-- reader's limits. A condition of `OctetsKeepLimits`.
 pub record RecordsAreSmall (d : Document) : Type 0 where
   pub lasting : d.front.lasting ≡ None
   pub info : kept d.front.info ≤ MAX_NODES

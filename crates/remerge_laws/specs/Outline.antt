@@ -17,8 +17,8 @@ pub record KeepsReaderLimits (n : Node) : Type 0 where
   pub short : length (content n) ≤ MAX_MASTER_LEN
   pub few : kept n ≤ MAX_NODES
 
--- The document `d` has no Duration. A reader with limits can read its Info, Tracks, Chapters and Tags. A condition of the laws on an output that is
--- read. Used by `OutlinesAreRead`, `TreesAreRead` and others.
+-- The document `d` is as a reader finds it, with a Duration only as a child of its Info. A reader with limits can read its Info, Tracks, Chapters and
+-- Tags. A condition of the laws on an output that is read.
 pub record RecordsKeepLimits (d : Document) : Type 0 where
   pub lasting : d.front.lasting ≡ None
   pub info : KeepsReaderLimits d.front.info

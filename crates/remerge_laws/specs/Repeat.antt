@@ -1,6 +1,6 @@
 -- An output that is merged by itself and without options is written as it was: RFC 9559, section 5.1 (Segment Element). This is this project's
 -- promise.
-use Rattle.std.specs.Prelude.{◌≡◌, ℕ, false, List, [], ◌∷◌, length, map, All, None, Ok}
+use Rattle.std.specs.Prelude.{◌≡◌, ℕ, Bool, false, List, [], ◌∷◌, length, map, All, None, Ok}
 use Rattle.mkv_schema.specs.Outline.{outline_of}
 use Rattle.tree_format.specs.Text.{HasNoZero}
 use Rattle.meta_records.specs.Records.{FileRecords, file_records}
@@ -23,11 +23,12 @@ use Rattle.requests.specs.Plain.{plain_file}
 use Rattle.merge_laws.specs.Merge.{laid_out}
 use Rattle.merge_laws.specs.Sources.{AreSources}
 use Rattle.remerge_laws.specs.Limits.{IsWithinLimits}
-use Rattle.remerge_laws.specs.Plain.{plain_merge}
+use Rattle.remerge_laws.specs.AsRead.{EndsAfterStart, as_read}
+use Rattle.remerge_laws.specs.Plain.{merge_again}
 use Rattle.remerge_laws.specs.Whole.{whole_document}
 
--- The command line `words` asks for no WebM, cue points, parts, identifiers or Duration, and has the default ticks (1,000,000 ns) and Cluster limits
--- (65,535 blocks, 5 s). A condition on the first merge in the law that an output, merged by itself, is written as it was.
+-- The command line `words` asks for no WebM, cue points, parts or identifiers, and has the default ticks (1,000,000 ns) and Cluster limits (65,535
+-- blocks, 5 s). A condition on the first merge in the law that an output, merged by itself, is written as it was.
 pub record IsDefault (words : MergeWords) : Type 0 where
   pub webm : words.webm ≡ false
   pub scale : words.scale ≡ 1000000
@@ -35,7 +36,6 @@ pub record IsDefault (words : MergeWords) : Type 0 where
   pub span : words.span ≡ 5000000000
   pub split : words.split ≡ None
   pub uuids : words.uuids ≡ []
-  pub duration : words.duration ≡ false
   pub cues : All (λ (f : FileWords). f.cues ≡ []) words.files
 
 -- The sources `sources` of the merge `words` are plain. Only the types of their tracks decide on cue points, and the title of the output has no zero
@@ -49,21 +49,21 @@ pub record ArePlainSources (words : MergeWords) (sources : List Source) : Type 0
 abbrev pub source_again : List ℕ → Document → FileRecords → Source
 source_again name d r = (layout d, input_with (plain_file name) false (outline_of_document d (length (layout d))) r)
 
--- A merge of the file `name`, which is the output with the document `d`, without options and to `out`, repeats it. Its outline and its records `r`
--- are read, and each track can be used. The plan isn't refused. It has one output, which is as it was, byte for byte, and no damage is met. Used by
--- `OutputsAreRepeated`.
-pub record IsRepeated (out name : List ℕ) (d : Document) (r : FileRecords) : Type 0 where
+-- A merge of the file `name`, which is the output with the document `d`, to `out` and without options but `--duration`, if `duration` is true, repeats
+-- it. Its outline and its records `r` are read, and each track can be used. The plan isn't refused. It has one output, which is as it was, byte for
+-- byte, and no damage is met. Used by `OutputsAreRepeated`.
+pub record IsRepeated (duration : Bool) (out name : List ℕ) (d : Document) (r : FileRecords) : Type 0 where
   pub outline : outline_of 0 (layout d) ≡ Ok (outline_of_document d (length (layout d)))
   pub read : file_records (layout d) (header_of_segment d) ≡ Ok r
   pub usable : first_unusable (taken_from (plain_file name) 0 r.tracks) ≡ None
-  pub planned : plan_refusal (plain_merge out name) (reads_of (source_again name d r ∷ [])) ≡ None
-  pub outputs : map laid_out (outputs_of (plain_merge out name) (source_again name d r ∷ [])) ≡ record { name = out; content = layout d } ∷ []
-  pub undamaged : has_damage (plain_merge out name) (source_again name d r ∷ []) ≡ false
+  pub planned : plan_refusal (merge_again duration out name) (reads_of (source_again name d r ∷ [])) ≡ None
+  pub outputs : map laid_out (outputs_of (merge_again duration out name) (source_again name d r ∷ [])) ≡ record { name = out; content = layout d } ∷ []
+  pub undamaged : has_damage (merge_again duration out name) (source_again name d r ∷ []) ≡ false
 
--- The output of a merge `words` of `sources`, with default options and plain sources, is repeated by a merge of the file `name` to `out`. It must
--- keep a reader's limits, and the sources and their records must be valid. The law `outputs_are_repeated` states it.
+-- The output of a merge `words` of `sources`, with default options and plain sources, is repeated by a merge of the file `name` to `out`, if it keeps
+-- a reader's limits. Both merges have `--duration`, or neither; a Duration must be above 0. The sources and their records must be valid.
 abbrev pub OutputsAreRepeated : Type 0
 OutputsAreRepeated =
     (words : MergeWords) (sources : List Source) (out name : List ℕ) → IsDefault words → IsSoundMerge words → AreTexts words → AreSources words sources
-    → HaveRecords sources → ArePlainSources words sources → IsWithinLimits (layout (whole_document words sources))
-    → (r : FileRecords) × IsRepeated out name (whole_document words sources) r
+    → HaveRecords sources → ArePlainSources words sources → EndsAfterStart (whole_document words sources) → IsWithinLimits (layout (whole_document words sources))
+    → (r : FileRecords) × IsRepeated words.duration out name (as_read (whole_document words sources)) r

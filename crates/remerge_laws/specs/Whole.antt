@@ -1,5 +1,5 @@
 -- The one output of a merge that isn't split: RFC 9559, section 5.1 (Segment Element). The limits that its records keep are this project's.
-use Rattle.std.specs.Prelude.{◌≡◌, false, List, [], ◌∷◌, None}
+use Rattle.std.specs.Prelude.{◌≡◌, List, [], ◌∷◌, None}
 use Rattle.output_model.specs.Cued.{document_of}
 use Rattle.output_model.specs.Document.{Document}
 use Rattle.requests.specs.declared.merge.MergeWords.{MergeWords}
@@ -8,6 +8,7 @@ use Rattle.merge_plan.specs.Plan.{Source, limits_of, rules_given}
 use Rattle.merge_plan.specs.Records.{chapters_of, tags_of}
 use Rattle.merge_plan.specs.Refusal.{plan_refusal}
 use Rattle.mkv_merge.specs.Merge.{blocks_of, outputs_of}
+use Rattle.remerge_laws.specs.AsRead.{as_read}
 use Rattle.remerge_laws.specs.Limits.{RecordsAreSmall}
 
 -- the document of the merge `words` of `sources` that isn't split and whose output gets no identifier. It has all blocks, with the unchanged Elements
@@ -24,8 +25,7 @@ WholeMergesHaveOneDocument =
     (words : MergeWords) (sources : List Source) → words.split ≡ None → words.uuids ≡ []
     → outputs_of words sources ≡ record { name = words.output; blocks = blocks_of words sources; document = whole_document words sources } ∷ []
 
--- If the merge `words` of `sources` has no Duration and its plan isn't refused, the records of `whole_document` keep a reader's limits. The law
--- `whole_merges_have_small_records` states it.
+-- If the plan of the merge `words` of `sources` isn't refused, the records of `whole_document`, as a reader finds them, keep a reader's limits.
 abbrev pub WholeMergesHaveSmallRecords : Type 0
 WholeMergesHaveSmallRecords =
-    (words : MergeWords) (sources : List Source) → words.duration ≡ false → plan_refusal words (reads_of sources) ≡ None → RecordsAreSmall (whole_document words sources)
+    (words : MergeWords) (sources : List Source) → plan_refusal words (reads_of sources) ≡ None → RecordsAreSmall (as_read (whole_document words sources))

@@ -18,8 +18,9 @@ pub use merges::{
     whole_merges_have_one_document, whole_merges_have_small_records,
 };
 pub use outputs::{
-    alike_documents_are_one, files_are_read, limits_leave_blocks, octets_keep_limits,
-    outlines_are_read, output_blocks_are_read, outputs_are_read_with_limits, trees_are_read,
+    alike_documents_are_one, documents_are_written_as_read, files_are_read, limits_leave_blocks,
+    octets_keep_limits, outlines_are_read, output_blocks_are_read, outputs_are_read_with_limits,
+    trees_are_read,
 };
 pub use records::{
     chapters_stand, children_decide, joined_tags_stay, own_chapters_stay, own_files_stay,

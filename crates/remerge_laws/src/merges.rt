@@ -82,8 +82,8 @@ pub fn chapters_are_alike_again()
     chapters_stay();
 }
 
-/// States that an output keeps its Info if it is merged by itself. Both merges must have the default scale, and the
-/// title no zero byte. It is a step of the proof of `outputs_are_repeated`.
+/// States that an output keeps its Info, apart from the Duration, if it is merged by itself. Both merges must have the
+/// default scale, and the title no zero byte. It is a step of the proof of `outputs_are_repeated`.
 pub fn info_is_written_again()
     ensures { InfoIsWrittenAgain }
 {}
@@ -99,7 +99,8 @@ pub fn sources_are_plain()
 }
 
 /// States that an output of plain sources that keeps a reader's limits is written as it was, byte for byte. It is
-/// merged by itself and without options, and the plan isn't refused. `outputs_are_written_again` cites this law.
+/// merged by itself and without options, or with `--duration` if the first merge had that. The plan isn't refused.
+/// `outputs_are_written_again` cites this law.
 pub fn outputs_are_repeated()
     ensures { OutputsAreRepeated }
 {
@@ -133,8 +134,8 @@ pub fn merged_files_are_outputs()
 }
 
 /// States that the output of a merge with default options is written again byte for byte if it is merged by itself and
-/// without options. Its records must keep a reader's limits, and nothing may refuse the second merge before it reads
-/// the file. `run` cites this law.
+/// without options. Both merges have `--duration`, with which the output must end after tick 0, or neither. Its records
+/// must keep a reader's limits, and nothing may refuse the second merge before it reads the file. `run` cites this law.
 pub fn outputs_are_written_again()
     ensures { OutputsAreWrittenAgain }
 {

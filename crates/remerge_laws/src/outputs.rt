@@ -2,6 +2,7 @@
 //! (Segment Element).
 
 ghost use Rattle.remerge_laws.specs.Alike.{AlikeDocumentsAreOne};
+ghost use Rattle.remerge_laws.specs.AsRead.{DocumentsAreWrittenAsRead};
 ghost use Rattle.remerge_laws.specs.Blocks.{LimitsLeaveBlocks, OutputBlocksAreRead};
 ghost use Rattle.remerge_laws.specs.Files.{FilesAreRead};
 ghost use Rattle.remerge_laws.specs.Limits.{OctetsKeepLimits};
@@ -56,4 +57,11 @@ pub fn output_blocks_are_read()
 /// the same bytes. It is a step of the proof of `outputs_are_repeated`.
 pub fn alike_documents_are_one()
     ensures { AlikeDocumentsAreOne }
+{}
+
+/// States that a valid document with a Duration above 0 has the bytes of a valid document with that Duration among the
+/// children of its Info, as a reader finds it. So laws on what a reader finds hold for it, too. It serves
+/// `outputs_are_repeated`.
+pub fn documents_are_written_as_read()
+    ensures { DocumentsAreWrittenAsRead }
 {}

@@ -29,7 +29,7 @@ use Rattle.merge_laws.specs.Merge.{HasMerged, IsMerged, MergesWell, laid_out}
 use Rattle.merge_laws.proofs.MergeLemmas.{run-merged}
 use Rattle.mkv_propedit.specs.Recover.{DiskWorld}
 use Rattle.remerge_laws.specs.MergedAgain.{MergesAgain, OutputsAreWrittenAgain, WhereMergedAgain}
-use Rattle.remerge_laws.specs.Plain.{plain_merge}
+use Rattle.remerge_laws.specs.Plain.{merge_again}
 use Rattle.mkv_run.specs.Ends.{Ends}
 use Rattle.mkv_run.specs.Run.{LeavesReadable, MergesReadable, MergesReadableIn, verdict_after, verdict_in}
 use Rattle.mkv_run.specs.RunSeen.{RunSeen}
@@ -70,18 +70,18 @@ module _ (again : OutputsAreWrittenAgain) (old new : RunSeen) (disk : Option Dis
   -- The run can't end with another status than Done, the status of its result.
   other-ends : (s : Status) → s ≢ status.Done → IfVisible (verdict_in old.seen.names disk (texts words)) (λ v. (s ≡ v.status) × IsDone old.seen new.seen v)
       → WhereMergedAgain old.seen.names (texts words) (λ world out bytes. ⊥)
-  other-ends s other reached = λ world told octets out name bytes asked begun output within.
-      let verdict = reached (merge_verdict world (plain_merge out name)) (ap₂ (λ (n : Names) (c : Result Command Usage). verdict_after n disk c) told asked) in
-      other (verdict.0 ∙ (again world out name bytes begun output within).done)
+  other-ends s other reached = λ world told octets duration out name bytes asked begun output within.
+      let verdict = reached (merge_verdict world (merge_again duration out name)) (ap₂ (λ (n : Names) (c : Result Command Usage). verdict_after n disk c) told asked) in
+      other (verdict.0 ∙ (again world duration out name bytes begun output within).done)
 
   -- A run that merges such an output by itself, without options, writes the same bytes and doesn't warn.
   pub merges-again : (s : Status) → MergesWell old.seen.names (texts words) new.seen.names s → IfVisible (verdict_in old.seen.names disk (texts words)) (Ends old new s)
       → MergesAgain old.seen.names (texts words) new.seen.names s
-  merges-again status.Done well reached = λ world told octets out name bytes asked begun output within.
-      let written = again world out name bytes begun output within in
-      let merged : IsMerged world (plain_merge out name) new.seen.names = well world told octets (plain_merge out name) asked in
-      let same = one-source (sources_of world (plain_merge out name)) merged.sources written.sources merged.taken written.taken in
-      merged.written ∙ ap (with_outputs (Some world)) (ap (λ (sources : List Source). map laid_out (outputs_of (plain_merge out name) sources)) same ∙ written.outputs)
+  merges-again status.Done well reached = λ world told octets duration out name bytes asked begun output within.
+      let written = again world duration out name bytes begun output within in
+      let merged : IsMerged world (merge_again duration out name) new.seen.names = well world told octets (merge_again duration out name) asked in
+      let same = one-source (sources_of world (merge_again duration out name)) merged.sources written.sources merged.taken written.taken in
+      merged.written ∙ ap (with_outputs (Some world)) (ap (λ (sources : List Source). map laid_out (outputs_of (merge_again duration out name) sources)) same ∙ written.outputs)
   merges-again status.Warned well reached = other-ends status.Warned (λ same. cc) reached
   merges-again status.Refused well reached = other-ends status.Refused (λ same. cc) reached
   merges-again status.NoMemory well reached = tt
