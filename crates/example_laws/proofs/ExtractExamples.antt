@@ -7,7 +7,9 @@ use Rattle.text_formats.specs.ChapterWriting.{put_pair}
 use Rattle.text_formats.specs.Pieces.{stamp}
 use Rattle.elementary.specs.Aac.{aac_of, adts_header}
 use Rattle.elementary.specs.Avc.{avc_of}
-use Rattle.elementary.specs.Units.{unit_at, units_at, units_of, units_within}
+use Rattle.elementary.specs.Hevc.{array_at, arrays_at, hevc_of}
+use Rattle.elementary.specs.Pgs.{header_at, segment_at, segment_header, segments_of}
+use Rattle.elementary.specs.Units.{unit_at, units_at, units_of}
 use Rattle.example_laws.specs.Extractions.{AreCoded, AreTimes, AreWritten}
 
 pub times : AreTimes
@@ -26,8 +28,8 @@ times = record {
 }
 
 pub coded : AreCoded
-unfolding avc_of aac_of adts_header
-    unit_at units_at units_of units_within
+unfolding avc_of hevc_of arrays_at array_at aac_of adts_header
+    unit_at units_at units_of segment_at segments_of segment_header header_at
 coded = record {
   annex_b = refl;
   unit = refl;
@@ -37,10 +39,19 @@ coded = record {
   named = refl;
   adts = refl;
   frame = refl;
+  arrays = refl;
+  pgs = refl;
+  segment = refl;
+  cut = refl;
+  flac = refl;
+  joined = refl;
   no_avc = refl;
+  no_hevc = refl;
+  no_flac = refl;
   no_aac = refl;
   subrip = refl;
   other = refl;
+  longer = refl;
 }
 
 pub written : AreWritten

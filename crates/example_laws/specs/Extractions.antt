@@ -1,5 +1,5 @@
 -- Examples of `extract` on small frames and records.
-use Rattle.std.specs.Prelude.{◌≡◌, ℕ, ℤ, pos, negsuc, false, true, List, [], ◌∷◌, ◌++◌, map, codes}
+use Rattle.std.specs.Prelude.{◌≡◌, ℕ, ℤ, pos, negsuc, false, true, List, [], ◌∷◌, ◌++◌, map, replicate, codes}
 use Rattle.std.specs.Prelude.{Option, None, Some, Ok, Err}
 use Rattle.tree_format.specs.Node.{Node, leaf, master, nodes_of}
 use Rattle.lacing.specs.declared.kind.Lace.TheVariants as lace
@@ -14,6 +14,7 @@ use Rattle.extractors.specs.BadFrames.{bad_frames}
 use Rattle.extractors.specs.Chapters.{chapters_text}
 use Rattle.extractors.specs.Codec.{codec_coding, times_head}
 use Rattle.extractors.specs.Content.{content_of, written_of}
+use Rattle.extractors.specs.Frames.{Frame}
 use Rattle.extractors.specs.Lines.{cue_lines}
 use Rattle.extractors.specs.Times.{time_line}
 
@@ -95,11 +96,20 @@ sets = start_code (0x67 ∷ 0x42 ∷ []) ++ start_code (0x68 ∷ 0xCE ∷ [])
 abbrev pub unit_of : ℕ → List ℕ
 unit_of length = 0 ∷ 0 ∷ 0 ∷ length ∷ 0x65 ∷ 0x88 ∷ 1 ∷ []
 
+-- the CodecPrivate of an H.265 track: 20 bytes that aren't looked at, lengths of 4 bytes, and an array with one parameter set; for the examples of
+-- `extract`
+abbrev pub hevc : List ℕ
+hevc = 1 ∷ (replicate 20 0 ++ (0xFF ∷ 1 ∷ 0xA0 ∷ 0 ∷ 1 ∷ 0 ∷ 3 ∷ 0x40 ∷ 1 ∷ 0xAA ∷ []))
+
+-- the PGS frame `octets` at 1.001 s, for the examples of `extract`
+abbrev pub shown : List ℕ → Frame
+shown octets = record { octets = octets; time = pos 1001000000; duration = 0 }
+
 -- the bytes that `extract` writes in the form `kind` for the frame `octets` at time 0, or None for a bad frame; for its examples
 abbrev pub written : FrameForm → List ℕ → Option (List ℕ)
 written kind octets = written_of kind 1 (record { octets = octets; time = pos 0; duration = 0 }) octets
 
--- Examples of frames in the forms of their codecs, H.264 and AAC, as `extract` writes them.
+-- Examples of frames in the forms of their codecs as `extract` writes them.
 pub record AreCoded : Type 0 where
   -- The parameter sets of AVC come first, and the length of each unit becomes a start code.
   pub annex_b : codec_coding (codes "V_MPEG4/ISO/AVC") avc ≡ Ok (record { head = sets; form = form.AnnexB 4 })
@@ -115,11 +125,24 @@ pub record AreCoded : Type 0 where
   pub adts : codec_coding (codes "A_AAC") (0x12 ∷ 0x10 ∷ []) ≡ Ok (record { head = []; form = form.Adts aac })
   pub frame : written (form.Adts aac) (0xAA ∷ 0xBB ∷ 0xCC ∷ [])
       ≡ Some (0xFF ∷ 0xF1 ∷ 0x50 ∷ 0x80 ∷ 1 ∷ 0x5F ∷ 0xFC ∷ 0xAA ∷ 0xBB ∷ 0xCC ∷ [])
-  -- Both need a configuration; SubRip needs none, and other codecs have no form.
+  -- The units of H.265 are written in the same way, after the sets of its arrays.
+  pub arrays : codec_coding (codes "V_MPEGH/ISO/HEVC") hevc ≡ Ok (record { head = start_code (0x40 ∷ 1 ∷ 0xAA ∷ []); form = form.AnnexB 4 })
+  -- Each segment of PGS follows a header with the time of its frame, 90,090 units of 1/90,000 s. A segment that is cut off makes a frame bad.
+  pub pgs : codec_coding (codes "S_HDMV/PGS") [] ≡ Ok (record { head = []; form = form.Pgs })
+  pub segment : written_of form.Pgs 1 (shown (0x80 ∷ 0 ∷ 0 ∷ [])) (0x80 ∷ 0 ∷ 0 ∷ [])
+      ≡ Some (0x50 ∷ 0x47 ∷ 0 ∷ 1 ∷ 0x5F ∷ 0xEA ∷ 0 ∷ 0 ∷ 0 ∷ 0 ∷ 0x80 ∷ 0 ∷ 0 ∷ [])
+  pub cut : written form.Pgs (0x80 ∷ 0 ∷ 1 ∷ []) ≡ None
+  -- The CodecPrivate of FLAC comes first, and the frames of AC-3 follow each other.
+  pub flac : codec_coding (codes "A_FLAC") (codes "fLaC") ≡ Ok (record { head = codes "fLaC"; form = form.Plain })
+  pub joined : codec_coding (codes "A_AC3") (0xDD ∷ []) ≡ Ok (record { head = []; form = form.Plain })
+  -- H.264, H.265, AAC and FLAC need a configuration; SubRip needs none, and other codecs have no form.
   pub no_avc : codec_coding (codes "V_MPEG4/ISO/AVC") [] ≡ Err BadConfig
+  pub no_hevc : codec_coding (codes "V_MPEGH/ISO/HEVC") avc ≡ Err BadConfig
+  pub no_flac : codec_coding (codes "A_FLAC") [] ≡ Err BadConfig
   pub no_aac : codec_coding (codes "A_AAC") (0x12 ∷ []) ≡ Err BadConfig
   pub subrip : codec_coding (codes "S_TEXT/UTF8") [] ≡ Ok (record { head = []; form = form.SubRip })
   pub other : codec_coding (codes "A_OPUS") [] ≡ Err NoExtractor
+  pub longer : codec_coding (codes "A_AC3/BSID9") [] ≡ Err NoExtractor
 
 -- ---- records
 

@@ -63,6 +63,7 @@ bad-same form.Plain prefix b lent is = ap (bad_as form.Plain prefix) (sym is)
 bad-same form.SubRip prefix b lent is = ap (bad_as form.SubRip prefix) (sym is)
 bad-same (form.AnnexB w) prefix b lent is = ap (bad_as (form.AnnexB w) prefix) (sym is)
 bad-same (form.Adts aac) prefix b lent is = ap (bad_as (form.Adts aac) prefix) (sym is)
+bad-same form.Pgs prefix b lent is = ap (bad_as form.Pgs prefix) (sym is)
 bad-same form.Time prefix b lent known = none-bad (bad_frame (block_of lent)) prefix (block_of lent).frames ∙ sym (none-bad (bad_frame b) prefix b.frames)
 
 -- The bad frames of a block are the bad frames of its buffered part, for the output that takes it.

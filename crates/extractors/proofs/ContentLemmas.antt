@@ -30,6 +30,7 @@ written_of-counted form.Plain n m f octets same = refl
 written_of-counted form.SubRip n m f octets same = ap (λ (k : ℕ). Some (put_srt k f.time f.duration octets)) same
 written_of-counted (form.AnnexB w) n m f octets same = refl
 written_of-counted (form.Adts aac) n m f octets same = refl
+written_of-counted form.Pgs n m f octets same = refl
 written_of-counted form.Time n m f octets same = refl
 
 pub entry_of-counted : (o : TrackOutput) (n m : ℕ) (f : Frame) → counted n ≡ counted m → entry_of o n f ≡ entry_of o m f

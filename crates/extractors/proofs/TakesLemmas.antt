@@ -26,6 +26,7 @@ enough-whole form.Plain b lent is lends = is
 enough-whole form.SubRip b lent is lends = is
 enough-whole (form.AnnexB w) b lent is lends = is
 enough-whole (form.Adts aac) b lent is lends = is
+enough-whole form.Pgs b lent is lends = is
 enough-whole form.Time b lent is lends = subst (λ (x : Block). IsKnownByHead x lent) (sym is) (record { head = refl; frames = length-frames_cut lent.sizes lent.body ∙ sym lends.count })
 
 -- The head of a block is enough for timestamps.
@@ -34,6 +35,7 @@ enough-times form.Plain b lent is known = absurd (cc)
 enough-times form.SubRip b lent is known = absurd (cc)
 enough-times (form.AnnexB w) b lent is known = absurd (cc)
 enough-times (form.Adts aac) b lent is known = absurd (cc)
+enough-times form.Pgs b lent is known = absurd (cc)
 enough-times form.Time b lent is known = known
 
 -- An output that takes bytes takes the buffered block.
@@ -42,6 +44,7 @@ enough-octets form.Plain b lent other enough = enough
 enough-octets form.SubRip b lent other enough = enough
 enough-octets (form.AnnexB w) b lent other enough = enough
 enough-octets (form.Adts aac) b lent other enough = enough
+enough-octets form.Pgs b lent other enough = enough
 enough-octets form.Time b lent other enough = absurd (other refl)
 
 -- ---- all outputs

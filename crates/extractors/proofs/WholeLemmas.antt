@@ -11,7 +11,6 @@ use Rattle.mkv_io.specs.declared.reads.Reads.{Ghosts}
 use Rattle.mkv_io.specs.declared.files.Files as writing
 use Rattle.mkv_io.specs.RemuxEnd.{end_of_make}
 use Rattle.mkv_io.specs.declared.remux_end.RemuxEnd.{RemuxEnd}
-use Rattle.mkv_io.specs.declared.remux_end.RemuxEnd.TheVariants as remux_end
 use Rattle.mkv_io.proofs.EndsLemmas.{HasRemuxCause-then}
 use Rattle.mkv_outputs.specs.Sinks.{EndsOnly}
 use Rattle.mkv_outputs.specs.Starts.{ArePrefixes}

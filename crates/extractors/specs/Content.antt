@@ -9,6 +9,7 @@ use Rattle.extractors.specs.Frames.{Frame, frames_of}
 use Rattle.extractors.specs.Times.{time_line}
 use Rattle.elementary.specs.Avc.{annex_b}
 use Rattle.elementary.specs.Aac.{adts}
+use Rattle.elementary.specs.Pgs.{pgs}
 use Rattle.extractors.specs.declared.frame_form.FrameForm.{FrameForm}
 use Rattle.extractors.specs.declared.frame_form.FrameForm.TheVariants as form
 use Rattle.extractors.specs.declared.track_output.TrackOutput.{TrackOutput}
@@ -28,6 +29,7 @@ written_of form.Plain n f octets = Some octets
 written_of form.SubRip n f octets = Some (put_srt (counted n) f.time f.duration octets)
 written_of (form.AnnexB w) n f octets = annex_b w octets
 written_of (form.Adts aac) n f octets = adts aac octets
+written_of form.Pgs n f octets = pgs f.time octets
 written_of form.Time n f octets = Some (time_line f.time)
 
 -- the bytes that are added to the output `o` of an extraction for the frame `f`, number `n` of its track, counted from 1; none for a bad frame. Used

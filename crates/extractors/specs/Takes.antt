@@ -18,6 +18,7 @@ is_of_times form.Plain = false
 is_of_times form.SubRip = false
 is_of_times (form.AnnexB w) = false
 is_of_times (form.Adts aac) = false
+is_of_times form.Pgs = false
 is_of_times form.Time = true
 
 -- the filter for the walk of `extract` that reads only the blocks of one track if all outputs of the list are for it, and all blocks if not
@@ -39,6 +40,7 @@ IsEnough form.Plain b lent = b ≡ block_of lent
 IsEnough form.SubRip b lent = b ≡ block_of lent
 IsEnough (form.AnnexB w) b lent = b ≡ block_of lent
 IsEnough (form.Adts aac) b lent = b ≡ block_of lent
+IsEnough form.Pgs b lent = b ≡ block_of lent
 IsEnough form.Time b lent = IsKnownByHead b lent
 
 -- The buffered block `lent` has the TrackNumber of the block `b`. If it is the track of the output `o` of an extraction, `lent` has enough of the

@@ -1,6 +1,7 @@
 -- The effects of one pass over the blocks of a file: the bytes that it writes to the outputs, reads, and reports. `old` and `new` are the states
 -- before and after a call, and `result` is the result of the call. `sinks` and `later` are the open outputs before and after it.
-use Rattle.std.specs.Prelude.{◌≡◌, ◌≤◌, ◌<◌, ℕ, ◌+◌, ◌*◌, ◌^◌, List, [], ◌∷◌, ◌++◌, length, map, unwrap_or, Result, Ok, Err, IfOk}
+use Rattle.std.specs.Prelude.{◌≡◌, ◌≤◌, ◌<◌, ℕ, ◌+◌, ◌*◌, ◌^◌, List, [], ◌∷◌, ◌++◌, length, map, option_map, unwrap_or, Result, Ok, Err, IfOk}
+use Rattle.std.specs.List.{flat_map}
 use Rattle.text_formats.specs.Writing.{put_srt}
 use Rattle.mkv_io.specs.Names.{Names}
 use Rattle.mkv_io.specs.Sources.{IfTold, file_size}
@@ -11,6 +12,7 @@ use Rattle.mkv_io.specs.declared.files.Files as writing
 use Rattle.requests.specs.declared.job.Job.{Job}
 use Rattle.elementary.specs.Avc.{annex_b}
 use Rattle.elementary.specs.Aac.{adts}
+use Rattle.elementary.specs.Pgs.{pgs, segments_of}
 use Rattle.elementary.specs.declared.audio.Aac.{Aac}
 use Rattle.block_format.specs.Block.{Block}
 use Rattle.block_format.specs.Events.{blocks_of}
@@ -59,10 +61,19 @@ pub record IsReady (o : TrackOutput) : Type 0 where
   pub step : o.step < 2 ^ 48
   pub can : CanWrite o.form
 
--- the bytes that `give_units` writes for the whole H.264 frame `octets`, whose units have lengths of `length_size` bytes: each unit after a start
+-- the bytes that `give_units` writes for the whole frame `octets` of H.264 or H.265, whose units have lengths of `length_size` bytes: each unit after a start
 -- code. A bad frame has none.
 abbrev pub annexed : ℕ → List ℕ → List ℕ
 annexed length_size octets = unwrap_or (annex_b length_size octets) []
+
+-- the bytes that `give_segments` writes for the whole PGS frame `octets`: each segment after the header `header`. A bad frame has none.
+abbrev pub segmented : List ℕ → List ℕ → List ℕ
+segmented header octets = unwrap_or (option_map (flat_map (λ segment. header ++ segment)) (segments_of octets)) []
+
+-- the bytes that `give_set` writes for the PGS frame `f`, with the bytes `prefix` before its own: each segment after a header with the frame's time.
+-- A bad frame has none.
+abbrev pub as_set : List ℕ → Framed → List ℕ
+as_set prefix f = unwrap_or (pgs f.time (prefix ++ f.octets.now)) []
 
 -- the bytes that `give_headed` writes for an AAC frame with the bytes `prefix` and `octets`: its ADTS header for the configuration `aac`, and the
 -- frame. A bad frame has none.

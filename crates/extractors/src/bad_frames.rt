@@ -15,7 +15,7 @@ use crate::frame_form::FrameForm;
 use crate::frames::{Scratch, whole};
 use crate::track_output::TrackOutput;
 use cluster_reader::{Cursor, Damages};
-use elementary::{LONGEST_FRAME, is_join};
+use elementary::{LONGEST_FRAME, is_join, is_segments};
 use mkv_io::{Damage, Kind};
 use mkv_schema::ids::{BLOCK, SIMPLE_BLOCK};
 use std::alloc::{AllocError, Global};
@@ -91,9 +91,9 @@ fn bad_frame(cursor: &Cursor) -> Damage
     }
 }
 
-/// Checks whether a frame with the bytes `octets` can't be written in the form of `output`. Its H.264 units don't fill
-/// it exactly, or it is too long for an ADTS header. `scratch` is only working memory; its content doesn't matter. Used
-/// by `add_bad_of`.
+/// Checks whether a frame with the bytes `octets` can't be written in the form of `output`. Its units (H.264, H.265) or
+/// segments (PGS) don't fill it exactly, or it is too long for an ADTS header. `scratch` is only working memory; its
+/// content doesn't matter. Used by `add_bad_of`.
 fn is_bad(output: &TrackOutput, octets: &[u8], scratch: &mut Scratch) -> Result<bool, AllocError>
     requires { CanWrite output.now.form }
     ensures { IfOk result (λ bad. bad ≡ is_bad output.now octets.now) }
@@ -106,6 +106,10 @@ fn is_bad(output: &TrackOutput, octets: &[u8], scratch: &mut Scratch) -> Result<
         }
         FrameForm::Adts { .. } => {
             Ok(output.prefix.len().saturating_add(octets.len()) > LONGEST_FRAME)
+        }
+        FrameForm::Pgs => {
+            let frame = whole(&mut scratch.text, output.prefix.as_slice(), octets)?;
+            Ok(!is_segments(frame))
         }
     }
 }

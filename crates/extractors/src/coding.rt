@@ -3,12 +3,11 @@
 ghost use Rattle.std.specs.Prelude.{◌≡◌, IfOk};
 ghost use Rattle.track_records.specs.Track.{track_of};
 ghost use Rattle.file_format.specs.Entry.{codec_of};
-ghost use Rattle.elementary.specs.Avc.{avc_of};
 ghost use Rattle.elementary.specs.Aac.{aac_of};
-ghost use Rattle.extractors.specs.Codec.{aac_coding, avc_coding, codec_coding, coding_of, private_of};
+ghost use Rattle.extractors.specs.Codec.{GivesCoding, aac_coding, bare, codec_coding, codec_form, coding_of, flac_coding, form_coding, private_of};
 
-use crate::frame_form::{Coding, FrameForm, UnsupportedTrack};
-use elementary::{ConfigEnd, put_sets, read_aac, read_avc};
+use crate::frame_form::{CodecForm, Coding, FrameForm, UnsupportedTrack};
+use elementary::{Avc, ConfigEnd, put_sets, read_aac, read_avc, read_hevc};
 use mkv_io::Bytes;
 use mkv_schema::ids::CODEC_PRIVATE;
 use requests::Form;
@@ -17,6 +16,9 @@ use track_records::Track;
 
 /// First line of a timestamp file.
 const TIMES_HEAD: &[u8] = b"# timestamp format v2\n";
+
+/// First bytes of a FLAC stream and of the CodecPrivate of a FLAC track: RFC 9639, section 6.
+const FLAC_MARK: &[u8] = b"fLaC";
 
 /// Returns how `track` is written in the form `form` that the command line asks for. The coding has the bytes before
 /// its first frame and the form of each frame. The inner error is the reason why the track can't be written so.
@@ -39,7 +41,7 @@ pub fn coding_of(
 }
 
 /// Returns how the frames of `track` are written in the form of its codec, by its CodecID (`Form::ByCodec`). The inner
-/// error is the reason why they can't be. A new codec gets a case here. Used by `coding_of`.
+/// error is the reason why they can't be. Used by `coding_of`.
 fn codec_coding(
     alloc: Global,
     track: &Track,
@@ -47,28 +49,77 @@ fn codec_coding(
     requires { track.now ≡ track_of track.now.entry }
     ensures { IfOk result (λ read. read ≡ codec_coding (codec_of track.now.entry) (private_of track.now.entry)) }
 {
-    let codec = track.codec.as_str();
-    if codec == "S_TEXT/UTF8" {
-        let head = Bytes::new(alloc);
-        Ok(Ok(Coding {
-            head,
-            form: FrameForm::SubRip,
-        }))
-    } else if codec == "V_MPEG4/ISO/AVC" {
-        avc_coding(alloc, private_of(track))
-    } else if codec == "A_AAC" {
-        Ok(aac_coding(alloc, private_of(track)))
-    } else {
-        Ok(Err(UnsupportedTrack::NoExtractor))
+    match codec_form(track.codec.as_str()) {
+        Some(form) => form_coding(alloc, form, private_of(track)),
+        None => Ok(Err(UnsupportedTrack::NoExtractor)),
     }
 }
 
-/// Returns the coding of an H.264 track with the CodecPrivate `private`: an Annex B byte stream that begins with its
-/// parameter sets. The inner error is BadConfig, for an invalid CodecPrivate. Used by `codec_coding`.
-fn avc_coding(alloc: Global, private: &[u8]) -> Result<Result<Coding, UnsupportedTrack>, AllocError>
-    ensures { IfOk result (λ read. read ≡ avc_coding (avc_of private.now)) }
+/// Returns the form of the codec with the CodecID `codec`, or None if `extract` knows no form for it. The comparison is
+/// exact. A new codec gets a row here. Used by `codec_coding`.
+fn codec_form(codec: &str) -> Option<CodecForm>
+    ensures { result ≡ codec_form codec.now }
 {
-    let avc = match read_avc(alloc, private) {
+    match codec {
+        "S_TEXT/UTF8" => Some(CodecForm::SubRip),
+        "V_MPEG4/ISO/AVC" => Some(CodecForm::H264),
+        "V_MPEGH/ISO/HEVC" => Some(CodecForm::H265),
+        "A_AAC" => Some(CodecForm::Aac),
+        "A_FLAC" => Some(CodecForm::Flac),
+        "S_HDMV/PGS" => Some(CodecForm::Pgs),
+        "A_AC3"
+        | "A_EAC3"
+        | "A_DTS"
+        | "A_TRUEHD"
+        | "A_MLP"
+        | "A_MPEG/L1"
+        | "A_MPEG/L2"
+        | "A_MPEG/L3"
+        | "V_MPEG1"
+        | "V_MPEG2" => Some(CodecForm::Joined),
+        _ => None,
+    }
+}
+
+/// Returns the coding of a track in the form `form` of its codec; `private` is its CodecPrivate. The inner error is
+/// BadConfig, for a CodecPrivate that is missing or invalid. Used by `codec_coding`.
+fn form_coding(
+    alloc: Global,
+    form: CodecForm,
+    private: &[u8],
+) -> Result<Result<Coding, UnsupportedTrack>, AllocError>
+    ensures { IfOk result (λ read. read ≡ form_coding private.now form) }
+{
+    match form {
+        CodecForm::SubRip => Ok(Ok(bare(alloc, FrameForm::SubRip))),
+        CodecForm::H264 => stream_coding(alloc, read_avc(alloc, private)),
+        CodecForm::H265 => stream_coding(alloc, read_hevc(alloc, private)),
+        CodecForm::Aac => Ok(aac_coding(alloc, private)),
+        CodecForm::Flac => flac_coding(alloc, private),
+        CodecForm::Joined => Ok(Ok(bare(alloc, FrameForm::Plain))),
+        CodecForm::Pgs => Ok(Ok(bare(alloc, FrameForm::Pgs))),
+    }
+}
+
+/// Returns the coding with the frames in the form `form` and no bytes before them. Used by `form_coding`.
+fn bare(alloc: Global, form: FrameForm) -> Coding
+    ensures { result ≡ bare form }
+{
+    Coding {
+        head: Bytes::new(alloc),
+        form,
+    }
+}
+
+/// Returns the coding of an H.264 or H.265 track, whose configuration was read as `read`: an Annex B byte stream that
+/// begins with its parameter sets. The inner error is BadConfig, for an invalid configuration. Used by `form_coding`.
+fn stream_coding(
+    alloc: Global,
+    read: Result<Avc, ConfigEnd>,
+) -> Result<Result<Coding, UnsupportedTrack>, AllocError>
+    ensures { GivesCoding read result }
+{
+    let avc = match read {
         Ok(avc) => avc,
         Err(ConfigEnd::Bad) => return Ok(Err(UnsupportedTrack::BadConfig)),
         Err(ConfigEnd::Memory) => return Err(AllocError),
@@ -84,17 +135,31 @@ fn avc_coding(alloc: Global, private: &[u8]) -> Result<Result<Coding, Unsupporte
 }
 
 /// Returns the coding of an AAC track with the CodecPrivate `private`: each frame after an ADTS header. Fails with
-/// BadConfig if the CodecPrivate is invalid. Used by `codec_coding`.
+/// BadConfig if the CodecPrivate is invalid. Used by `form_coding`.
 fn aac_coding(alloc: Global, private: &[u8]) -> Result<Coding, UnsupportedTrack>
     ensures { result ≡ aac_coding (aac_of private.now) }
 {
     match read_aac(private) {
-        Some(aac) => Ok(Coding {
-            head: Bytes::new(alloc),
-            form: FrameForm::Adts { aac },
-        }),
+        Some(aac) => Ok(bare(alloc, FrameForm::Adts { aac })),
         None => Err(UnsupportedTrack::BadConfig),
     }
+}
+
+/// Returns the coding of a FLAC track with the CodecPrivate `private`: the CodecPrivate, and then the frames. The inner
+/// error is BadConfig, for a CodecPrivate that is missing or doesn't begin with `fLaC`. Used by `form_coding`.
+fn flac_coding(
+    alloc: Global,
+    private: &[u8],
+) -> Result<Result<Coding, UnsupportedTrack>, AllocError>
+    ensures { IfOk result (λ read. read ≡ flac_coding private.now) }
+{
+    if !private.starts_with(FLAC_MARK) {
+        return Ok(Err(UnsupportedTrack::BadConfig));
+    }
+    Ok(Ok(Coding {
+        head: bytes_of(alloc, private)?,
+        form: FrameForm::Plain,
+    }))
 }
 
 /// Returns the CodecPrivate of `track`, or no bytes if it is absent, for its coding. Used by `coding_of` and

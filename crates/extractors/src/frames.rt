@@ -7,14 +7,17 @@ ghost use Rattle.elementary.specs.Aac.{IsAac};
 ghost use Rattle.elementary.specs.Avc.{IsLengthSize};
 ghost use Rattle.extractors.specs.Codec.{CanWrite};
 ghost use Rattle.extractors.specs.Times.{time_line};
-ghost use Rattle.extractors.specs.Walks.{Adds, AddsFrame, AddsLent, AddsTime, CountsFrames, CountsTimes, annexed, headed, as_text};
+ghost use Rattle.extractors.specs.Walks.{Adds, AddsFrame, AddsLent, AddsTime, CountsFrames, CountsTimes, annexed, as_set, as_text, headed, segmented};
 ghost use Rattle.extractors.specs.declared.frame_form.FrameForm.TheVariants as form;
 
 use crate::frame_form::FrameForm;
 use crate::times::{frame_time, push_time};
 use crate::track_output::TrackOutput;
 use cluster_reader::Cursor;
-use elementary::{Aac, LONGEST_FRAME, START_CODE, adts_header, is_join, unit_at};
+use elementary::{
+    Aac, LONGEST_FRAME, START_CODE, adts_header, is_join, is_segments, segment_at, segment_header,
+    unit_at,
+};
 use mkv_io::{Bytes, Files, MakeFault};
 use mkv_outputs::Outputs;
 use std::alloc::{AllocError, Global};
@@ -172,12 +175,13 @@ fn give_frame<F: Files>(
             )
         }
         FrameForm::Adts { aac } => give_headed(outputs, files, k, prefix, frame.octets, &aac),
+        FrameForm::Pgs => give_set(outputs, files, k, prefix, frame, &mut scratch.text),
         FrameForm::Time => unreachable!(),
     }
 }
 
-/// Writes `prefix` and then `octets`, the parts of a frame or of an H.264 unit, to the output with index `k` in
-/// `outputs`. The frame needs no buffer.
+/// Writes `prefix` and then `octets` to the output with index `k` in `outputs`: a frame, or a unit or segment after its
+/// start code or header. They need no buffer. Used by `give_frame`, `give_join`, `give_segments` and `give_headed`.
 fn give_behind<F: Files>(
     outputs: &mut Outputs,
     files: &mut F,
@@ -251,9 +255,9 @@ fn put_text(prefix: &[u8], frame: Framed<'_>, scratch: &mut Scratch) -> Result<(
     )
 }
 
-/// Writes the H.264 frame `prefix` and `octets` to the output with index `k` in `outputs`, each unit after a start
-/// code. It writes nothing for a bad frame. `length_size` is the number of bytes of each length before a unit. `text`
-/// is working memory. Used by `give_frame`.
+/// Writes the H.264 or H.265 frame `prefix` and `octets` to the output with index `k` in `outputs`, each unit after a
+/// start code. It writes nothing for a bad frame. `length_size` is the number of bytes of each length before a unit.
+/// `text` is working memory. Used by `give_frame`.
 fn give_units<F: Files>(
     outputs: &mut Outputs,
     files: &mut F,
@@ -274,7 +278,7 @@ fn give_units<F: Files>(
     give_join(outputs, files, k, frame, length_size)
 }
 
-/// Writes the units of the whole H.264 frame `frame`, each after a start code, to the output with index `k` in
+/// Writes the units of the whole H.264 or H.265 frame `frame`, each after a start code, to the output with index `k` in
 /// `outputs`. It writes nothing if the units don't fill the frame exactly. `length_size` is the number of bytes of each
 /// length before a unit. Used by `give_units`.
 fn give_join<F: Files>(
@@ -325,4 +329,51 @@ fn give_headed<F: Files>(
     }
     outputs.write(files, k, &adts_header(aac, len as u64))?;
     give_behind(outputs, files, k, prefix, octets)
+}
+
+/// Writes the PGS frame of `prefix` and the bytes of `frame` to the output with index `k` in `outputs`, each segment
+/// after a header with the frame's timestamp. It writes nothing for a bad frame. `text` is working memory. Used by
+/// `give_frame`.
+fn give_set<F: Files>(
+    outputs: &mut Outputs,
+    files: &mut F,
+    k: usize,
+    prefix: &[u8],
+    frame: Framed<'_>,
+    text: &mut Bytes,
+) -> Result<(), MakeFault>
+    requires below { k < length outputs.old }
+    requires open { AreOpen F.Reads files.old outputs.old }
+    ensures gives { Adds F.Files.own files.old files.new outputs.old outputs.new k (as_set prefix.now frame.entry) result }
+    ensures only { WritesOutputs F.Reads F.Files.own files.old files.new outputs.old outputs.new }
+    ensures cause { HasCause is_make_failure (F.writing_faults files.old) (F.writing_faults files.new) result }
+{
+    let set = whole(text, prefix, frame.octets)?;
+    give_segments(outputs, files, k, set, &segment_header(frame.time))
+}
+
+/// Writes the segments of the whole PGS frame `frame`, each after the header `header`, to the output with index `k` in
+/// `outputs`. It writes nothing if the segments don't fill the frame exactly. Used by `give_set`.
+fn give_segments<F: Files>(
+    outputs: &mut Outputs,
+    files: &mut F,
+    k: usize,
+    frame: &[u8],
+    header: &[u8],
+) -> Result<(), MakeFault>
+    requires below { k < length outputs.old }
+    requires open { AreOpen F.Reads files.old outputs.old }
+    ensures gives { Adds F.Files.own files.old files.new outputs.old outputs.new k (segmented header.now frame.now) result }
+    ensures only { WritesOutputs F.Reads F.Files.own files.old files.new outputs.old outputs.new }
+    ensures cause { HasCause is_make_failure (F.writing_faults files.old) (F.writing_faults files.new) result }
+{
+    if !is_segments(frame) {
+        return Ok(());
+    }
+    let mut rest = frame;
+    while let Some((segment, behind)) = segment_at(rest) {
+        give_behind(outputs, files, k, header, segment)?;
+        rest = behind;
+    }
+    Ok(())
 }

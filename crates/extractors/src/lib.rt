@@ -29,7 +29,7 @@ pub use chapters::write_chapters;
 pub use cues::write_cues;
 pub use extracted::Extracted;
 pub use extraction::extract;
-pub use frame_form::{Coding, FrameForm, Refusal, UnsupportedTrack};
+pub use frame_form::{CodecForm, Coding, FrameForm, Refusal, UnsupportedTrack};
 pub use job::{form_of, job_refusal, targets_of};
 pub use laws::outputs_hold_the_good_frames;
 pub use limits::MAX_CUE_NODES;

@@ -15,8 +15,8 @@ fn is_of_times(form: &FrameForm) -> bool
 {
     match form {
         FrameForm::Time => true,
-        FrameForm::Plain | FrameForm::SubRip | FrameForm::AnnexB { .. } | FrameForm::Adts { .. } =>
-            false,
+        FrameForm::Plain | FrameForm::SubRip | FrameForm::Pgs => false,
+        FrameForm::AnnexB { .. } | FrameForm::Adts { .. } => false,
     }
 }
 

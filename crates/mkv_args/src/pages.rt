@@ -151,7 +151,7 @@ pub(crate) const MERGE_PAGE: [&str; 92] = [
 
 /// The page of `extract`.
 #[rattlefmt::skip]
-pub(crate) const EXTRACT_PAGE: [&str; 24] = [
+pub(crate) const EXTRACT_PAGE: [&str; 26] = [
     "usage: mkvsuite extract FILE tracks [--raw | --fullraw] ID:OUT..",
     "       mkvsuite extract FILE {timestamps_v2 | cues | attachments} ID:OUT..",
     "       mkvsuite extract FILE chapters --simple OUT",
@@ -159,8 +159,10 @@ pub(crate) const EXTRACT_PAGE: [&str; 24] = [
     "Writes parts of FILE to files of their own, one mode per run. Each existing OUT",
     "is replaced. An ID that FILE doesn't have makes no file, only a warning.",
     "",
-    "  tracks ID:OUT..               subtitles as SubRip, H.264 as Annex B, AAC as",
-    "                                ADTS; other codecs need --raw or --fullraw",
+    "  tracks ID:OUT..               SubRip, PGS (.sup), H.264 and H.265 (Annex B),",
+    "                                AAC (ADTS), FLAC, AC-3, E-AC-3, DTS, TrueHD,",
+    "                                MLP, MPEG audio, MPEG-1 and MPEG-2; other",
+    "                                codecs need --raw or --fullraw",
     "    --raw                       frames of any codec, one after the other",
     "    --fullraw                   the CodecPrivate, then the frames",
     "  timestamps_v2 ID:OUT..        one timestamp per frame, in milliseconds",

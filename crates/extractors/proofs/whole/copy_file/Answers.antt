@@ -1,4 +1,4 @@
-use Rattle.std.proofs.Common.{ℕ, List, [], Option, sym, subst, ◌∙◌, arith}
+use Rattle.std.proofs.Common.{ℕ, List, Option, sym, subst, ◌∙◌, arith}
 use Rattle.std.proofs.lemmas.Result.{err_from_is_err_and}
 use Rattle.mkv_io.specs.declared.outside.FileId.{FileId}
 use Rattle.output_model.specs.Attached.{octets_told}
