@@ -54,4 +54,6 @@ merge_words items = record {
   link = stands subject.Link items;
   duration = stands subject.Duration items;
   append_damaged = stands subject.AppendDamaged items;
+  attached = [];
+  order = [];
 }

@@ -78,6 +78,7 @@ fn file(alloc: Global, items: &[Item], name: &Value) -> Result<FileWords, AllocE
         global_tags: !stands(Subject::GlobalTags, items),
         statistics: !stands(Subject::Statistics, items),
         chapters: !stands(Subject::Chapters, items),
+        keep_encodings: false,
         syncs: marks.syncs,
         names: texts.names,
         languages: texts.languages,

@@ -38,6 +38,8 @@ pub(crate) fn merge_words(alloc: Global, items: &[Item]) -> Result<MergeWords, A
         link: stands(Subject::Link, items),
         duration: stands(Subject::Duration, items),
         append_damaged: stands(Subject::AppendDamaged, items),
+        attached: List::new(alloc),
+        order: List::new(alloc),
     })
 }
 

@@ -42,6 +42,7 @@ fn plain_file(alloc: Global, name: &Text) -> Result<FileWords, AllocError>
         global_tags: true,
         statistics: true,
         chapters: true,
+        keep_encodings: false,
         syncs: List::new(alloc),
         names: List::new(alloc),
         languages: List::new(alloc),
@@ -79,6 +80,8 @@ fn plain_words(
         link: false,
         duration: false,
         append_damaged: false,
+        attached: List::new(alloc),
+        order: List::new(alloc),
     })
 }
 

@@ -30,6 +30,7 @@ plain_file name = record {
   global_tags = true;
   statistics = true;
   chapters = true;
+  keep_encodings = false;
   syncs = [];
   names = [];
   languages = [];
@@ -58,4 +59,6 @@ plain_words output split files = record {
   link = false;
   duration = false;
   append_damaged = false;
+  attached = [];
+  order = [];
 }

@@ -15,6 +15,6 @@ pub use decimal::{number, whole};
 pub use edit::{Change, Edit, Selector};
 pub use job::{Form, Job, Target};
 pub use language::is_language_tag;
-pub use merge::{FileWords, FlagWords, MergeWords};
+pub use merge::{AttachedWords, FileWords, FlagWords, MergeWords};
 pub use split::{SpanWords, SplitWords};
 pub use track::{CueWord, Select};

@@ -22,6 +22,19 @@ pub struct FlagWords {
     pub commentary: List<(u64, bool)>,
 }
 
+/// File that a merge attaches to its output (RFC 9559, section 5.1.6, Attachments), with its defaults filled in
+#[derive(Debug, Drop)]
+pub struct AttachedWords {
+    /// Name of the file that is read
+    pub file: Text,
+    /// FileName
+    pub name: Text,
+    /// FileMediaType
+    pub media_type: Text,
+    /// FileDescription, empty if there is none
+    pub description: Text,
+}
+
 /// Options of one input of a merge. Tracks are named by their index in Tracks, counted from 0.
 #[derive(Debug, Drop)]
 pub struct FileWords {
@@ -41,6 +54,8 @@ pub struct FileWords {
     pub statistics: bool,
     /// Chapters are kept
     pub chapters: bool,
+    /// Selected tracks whose ContentEncodings can't be undone are taken as they are stored
+    pub keep_encodings: bool,
     /// Delays of tracks, in nanoseconds; a delay may be negative
     pub syncs: List<(u64, i64)>,
     pub names: List<(u64, Text)>,
@@ -81,4 +96,9 @@ pub struct MergeWords {
     pub duration: bool,
     /// Files that are appended to a damaged one are read, too.
     pub append_damaged: bool,
+    /// Files that are attached to the output, in their order
+    pub attached: List<AttachedWords>,
+    /// Tracks that come first in the output, in this order; each is named by the index of its input, and by its index in
+    /// the input's Tracks, both counted from 0
+    pub order: List<(u64, u64)>,
 }
