@@ -1,5 +1,5 @@
 -- The TrackEntry of an output track: RFC 9559, section 5.1.4 (Tracks). The children that are set are this project's choice.
-use Rattle.std.specs.Prelude.{◌≡◌, ℕ, Bool, true, false, List, [], ◌∷◌, ◌++◌, Option, Some, None}
+use Rattle.std.specs.Prelude.{◌≡◌, ℕ, Bool, true, false, if◌then◌else◌, List, [], ◌∷◌, ◌++◌, Option, is_none}
 use Rattle.mkv_schema.specs.declared.ids.TheConstants.{TRACK_ENTRY, TRACK_NUMBER, TRACK_UID, NAME, LANGUAGE, LANGUAGE_BCP47, FLAG_DEFAULT, FLAG_FORCED, CONTENT_ENCODINGS, FLAG_ENABLED, FLAG_HEARING_IMPAIRED, FLAG_VISUAL_IMPAIRED, FLAG_TEXT_DESCRIPTIONS, FLAG_ORIGINAL, FLAG_COMMENTARY}
 use Rattle.tree_format.specs.Node.{Node, leaf, id_of, IsMaster, HasRoom}
 use Rattle.tree_format.specs.Standing.{IsSound}
@@ -25,15 +25,15 @@ children_set c =
     ∷ given (leaf NAME 0) c.name ++ given (leaf LANGUAGE 0) c.language ++ given (leaf LANGUAGE_BCP47 0) c.language_tag
     ++ given (flag_leaf FLAG_DEFAULT) c.flag_default ++ given (flag_leaf FLAG_FORCED) c.flag_forced ++ flags_set c.flags
 
--- the IDs of the children that a TrackEntry loses in an output. ContentEncodings goes, since stripped bytes are restored. LanguageBCP47 goes if a
--- language is set, and may be set afterwards. `written_entry` uses it.
-abbrev pub ids_removed : Option (List ℕ) → List ℕ
-ids_removed None = CONTENT_ENCODINGS ∷ []
-ids_removed (Some language) = CONTENT_ENCODINGS ∷ LANGUAGE_BCP47 ∷ []
+-- the IDs of the children that a TrackEntry loses in an output. ContentEncodings goes unless `stored` is true (the frames are taken as they are
+-- stored), since stripped bytes are restored. LanguageBCP47 goes if a language is set, and may be set afterwards. `written_entry` uses it.
+abbrev pub ids_removed : Bool → Option (List ℕ) → List ℕ
+ids_removed stored language = (if stored then [] else (CONTENT_ENCODINGS ∷ [])) ++ (if is_none language then [] else (LANGUAGE_BCP47 ∷ []))
 
--- the TrackEntry of an output for the input's `entry`, with the change `c`. The contract of `written` promises it.
-abbrev pub written_entry : TrackChange → Node → Node
-written_entry c entry = set_each (children_set c) (removed_each (ids_removed c.language) entry)
+-- the TrackEntry of an output for the input's `entry`, with the change `c`. `stored` is true if the frames are taken as they are stored. The contract
+-- of `written` promises it.
+abbrev pub written_entry : TrackChange → Bool → Node → Node
+written_entry c stored entry = set_each (children_set c) (removed_each (ids_removed stored c.language) entry)
 
 -- The node `entry` is a TrackEntry that was read or can be written: a master with valid children, which fits in a Tracks. `written` requires it of an
 -- input's entry.

@@ -4,4 +4,6 @@ pub mod Track
 pub mod Outcome
 pub mod Step
 pub mod Entry
+pub mod Same
 pub mod Difference
+pub mod Usable

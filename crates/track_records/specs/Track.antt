@@ -1,5 +1,5 @@
 -- The entries of a Tracks as tracks: RFC 9559, section 5.1.4 (Tracks).
-use Rattle.std.specs.Prelude.{List, map, Result}
+use Rattle.std.specs.Prelude.{false, List, map, Result}
 use Rattle.mkv_io.specs.declared.damage.Damage.{Damage}
 use Rattle.mkv_io.specs.Results.{unless}
 use Rattle.tree_format.specs.Node.{Node, offset_of}
@@ -18,6 +18,7 @@ track_of entry = record {
   default_duration = default_duration_of entry;
   offset = offset_of entry;
   entry = entry;
+  stored = false;
 }
 
 -- the tracks of `tracks` in the order of its entries, or the damage for which it is refused. The contract of `read_tracks` promises it.

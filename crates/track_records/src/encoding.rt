@@ -5,9 +5,10 @@ ghost use Rattle.std.specs.Prelude.{◌≡◌, ◌≤◌, length, IfOk};
 ghost use Rattle.mkv_schema.specs.declared.ids.TheConstants.{CONTENT_ENCODINGS as ENCODINGS_ID, CONTENT_ENCODING as ENCODING_ID};
 ghost use Rattle.mkv_schema.specs.Outline.{first_damage};
 ghost use Rattle.tree_format.specs.Standing.{IsSoundOf};
-ghost use Rattle.file_format.specs.Encoding.{algorithm_of, settings_of, most_stripped, strips_headers, encodings_of, can_be_undone, is_one, bad_encoding, bad_scale, usable_causes, prefix_of, usable_prefix};
+ghost use Rattle.file_format.specs.Encoding.{algorithm_of, settings_of, most_stripped, strips_headers, encodings_of, can_be_undone, is_one, bad_encoding, bad_scale, prefix_of};
 ghost use Rattle.track_records.specs.Sound.{IsEntry};
 ghost use Rattle.track_records.specs.Outcome.{lent};
+ghost use Rattle.track_records.specs.Usable.{causes_of, prefix_for, usable_track};
 
 use crate::track::Track;
 use ebml_tree::{Tree, uint_in};
@@ -95,9 +96,9 @@ fn can_be_undone(encodings: &Tree) -> bool
     }
 }
 
-// Returns damage at the first ContentEncodings of `entry`, a TrackEntry, unless it can be undone. It is None if there
-// is no reason to refuse it. `cause_of` asks for it first.
-fn bad_encoding(entry: &Tree) -> Option<Damage>
+/// Returns damage at the first ContentEncodings of `entry`, a TrackEntry, unless it can be undone. It is None if there
+/// is no reason to refuse it. `cause_of` asks for it first, and `as_stored` asks whether there is any.
+pub(crate) fn bad_encoding(entry: &Tree) -> Option<Damage>
     requires { IsEntry entry.now }
     ensures { result ≡ bad_encoding entry.now }
 {
@@ -135,17 +136,20 @@ fn bad_scale(entry: &Tree) -> Option<Damage>
     })
 }
 
-// Returns the first reason why the frames of the track with the TrackEntry `entry` can't be used, as damage, or None.
-// `usable` refuses the track for it.
-fn cause_of(entry: &Tree) -> Option<Damage>
-    requires { IsEntry entry.now }
-    ensures { result ≡ first_damage (usable_causes entry.now) }
+// Returns the first reason why the frames of `track` can't be used, as damage, or None. Of frames that are taken as they
+// are stored, ContentEncodings is none. `usable` refuses the track for it.
+fn cause_of(track: &Track) -> Option<Damage>
+    requires { IsEntry track.now.entry }
+    ensures { result ≡ first_damage (causes_of track.now) }
 {
-    bad_encoding(entry).or(bad_scale(entry))
+    if track.stored {
+        return bad_scale(&track.entry);
+    }
+    bad_encoding(&track.entry).or(bad_scale(&track.entry))
 }
 
 // Returns the bytes that header stripping removed from the start of each frame, by the TrackEntry `entry`; none without
-// it. `usable` returns them.
+// it. `prefix_for` returns them.
 fn prefix_of(entry: &Tree) -> &[u8]
     ensures { result.now ≡ prefix_of entry.now }
 {
@@ -158,18 +162,31 @@ fn prefix_of(entry: &Tree) -> &[u8]
     }
 }
 
-/// Returns the bytes to restore before each frame of `track`, which are none without header stripping. Fails with the
-/// damage for which its frames can't be used. `merge` and `extract` ask for each track that they copy.
+// Returns the bytes to restore before each frame of `track`, if it can be used; none before frames that are taken as
+// they are stored. `usable` returns them.
+fn prefix_for(track: &Track) -> &[u8]
+    ensures { result.now ≡ prefix_for track.now }
+{
+    if track.stored {
+        return &[];
+    }
+    prefix_of(&track.entry)
+}
+
+/// Returns the bytes to restore before each frame of `track`, which are none without header stripping and for frames
+/// that are taken as they are stored. Fails with the damage for which its frames can't be used. `merge` and `extract`
+/// ask for each track that they copy.
 ///
 /// `Encoding` is reported at the first ContentEncodings, unless it has at most one encoding, which strips at most 4,096
-/// bytes from frames. Otherwise `TrackScale` is reported at the first TrackTimestampScale, unless it is empty or 1.
+/// bytes from frames. Frames that are taken as they are stored may have any. Otherwise `TrackScale` is reported at the
+/// first TrackTimestampScale, unless it is empty or 1.
 pub fn usable(track: &Track) -> Result<&[u8], Damage>
     requires { IsEntry track.now.entry }
-    ensures exact { lent result ≡ usable_prefix track.now.entry }
+    ensures exact { lent result ≡ usable_track track.now }
     ensures most { IfOk result (λ prefix. length prefix.now ≤ most_stripped) }
 {
-    match cause_of(&track.entry) {
+    match cause_of(track) {
         Some(damage) => Err(damage),
-        None => Ok(prefix_of(&track.entry)),
+        None => Ok(prefix_for(track)),
     }
 }

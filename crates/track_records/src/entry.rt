@@ -51,5 +51,6 @@ pub(crate) fn track_of(alloc: Global, entry: &Tree) -> Result<Track, AllocError>
         default_duration: integer_in(entry, DEFAULT_DURATION),
         offset: entry.offset(),
         entry: entry.copy(alloc)?,
+        stored: false,
     })
 }

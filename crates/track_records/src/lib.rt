@@ -9,6 +9,8 @@ mod encoding;
 mod entry;
 mod fields;
 mod refusal;
+mod same;
+mod stored;
 mod track;
 mod track_change;
 mod tracks;
@@ -16,6 +18,7 @@ mod written_entry;
 
 pub use difference::differs;
 pub use encoding::usable;
+pub use stored::as_stored;
 pub use track::Track;
 pub use track_change::{FlagChange, TrackChange};
 pub use tracks::read_tracks;

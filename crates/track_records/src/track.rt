@@ -25,6 +25,8 @@ pub struct Track {
     pub offset: u64,
     /// Whole entry
     pub entry: Tree,
+    /// Frames are taken as they are stored, and ContentEncodings is kept; not set when a track is read
+    pub stored: bool,
 }
 
 impl Track {

@@ -19,15 +19,17 @@ use mkv_schema::ids::{
 };
 use std::alloc::{AllocError, Global};
 
-// Returns a copy of `entry`, a TrackEntry, without ContentEncodings, and without LanguageBCP47 if `language` is set,
-// since it would be displayed instead. `written` begins with it.
-fn bare(alloc: Global, entry: &Tree, language: &Option<Text>) -> Result<Tree, AllocError>
-    requires { IsWholeEntry entry.now }
-    ensures exact { IfOk result (λ bare. bare ≡ removed_each (ids_removed language.now) entry.now) }
+// Returns a copy of the TrackEntry of `track`, without ContentEncodings unless its frames are taken as they are stored,
+// and without LanguageBCP47 if `language` is set, since it would be displayed instead. `written` begins with it.
+fn bare(alloc: Global, track: &Track, language: &Option<Text>) -> Result<Tree, AllocError>
+    requires { IsWholeEntry track.now.entry }
+    ensures exact { IfOk result (λ bare. bare ≡ removed_each (ids_removed track.now.stored language.now) track.now.entry) }
     ensures whole { IfOk result IsWholeEntry }
 {
-    let mut bare = entry.copy(alloc)?;
-    bare.remove(CONTENT_ENCODINGS);
+    let mut bare = track.entry.copy(alloc)?;
+    if !track.stored {
+        bare.remove(CONTENT_ENCODINGS);
+    }
     if language.is_some() {
         bare.remove(LANGUAGE_BCP47);
     }
@@ -87,14 +89,14 @@ fn set_flags(alloc: Global, entry: &mut Tree, flags: &FlagChange) -> Result<(), 
 }
 
 /// Returns the TrackEntry that `track` gets in an output with the changes `change`. `merge` does this for each output
-/// track. It has no ContentEncodings, the output's number and identifier, and then the user's changes. Other children
-/// stay in their order.
+/// track. It has no ContentEncodings unless the frames are taken as they are stored, the output's number and identifier,
+/// and then the user's changes. Other children stay in their order.
 pub fn written(alloc: Global, track: &Track, change: &TrackChange) -> Result<Tree, AllocError>
     requires { IsWholeEntry track.now.entry }
-    ensures exact { IfOk result (λ entry. entry ≡ written_entry change.now track.now.entry) }
+    ensures exact { IfOk result (λ entry. entry ≡ written_entry change.now track.now.stored track.now.entry) }
     ensures whole { IfOk result IsWholeEntry }
 {
-    let mut entry = bare(alloc, &track.entry, &change.language)?;
+    let mut entry = bare(alloc, track, &change.language)?;
     set_uint(alloc, &mut entry, TRACK_NUMBER, change.number)?;
     set_uint(alloc, &mut entry, TRACK_UID, change.uid)?;
     set_text(alloc, &mut entry, NAME, &change.name)?;
