@@ -1,12 +1,14 @@
 -- Differences between two entries.
-use Rattle.std.proofs.Common.{◌≡◌, ℕ, true, not, cond, List, [], ◌∷◌, All, find, Option, Some, None, refl, ap, ◌∙◌, inl, inr, option_map}
+use Rattle.std.proofs.Common.{◌≡◌, ℕ, Bool, true, false, not, cond, List, [], ◌∷◌, All, find, Option, Some, None, refl, ap, ◌∙◌, inl, inr, option_map}
 use Rattle.std.proofs.lemmas.List.Elements.{All-nil, All-cons, All-head, All-tail}
 use Rattle.std.proofs.lemmas.Slice.Eq.{bytes_eq-Decides}
 use Rattle.std.proofs.lemmas.Bool.{cases_Bool}
+use Rattle.std.specs.Option.{option_or}
+use Rattle.mkv_schema.specs.declared.ids.TheConstants.{CONTENT_ENCODINGS}
 use Rattle.tree_format.specs.Node.{Node}
 use Rattle.track_records.specs.declared.fields.Field.{Field}
 use Rattle.track_records.specs.declared.fields.TheConstants.{FIELDS}
-use Rattle.track_records.specs.Difference.{octets_at, are_alike}
+use Rattle.track_records.specs.Difference.{octets_at, are_alike, field_difference, are_kept_alike, kept_encodings, encodings_difference}
 use Rattle.record_laws.specs.Entries.{DifferencesAreTold}
 
 alike-same : (p q : Option (List ℕ)) → are_alike p q ≡ true → p ≡ q
@@ -33,5 +35,19 @@ module _ (a b : Node) where
       ap (λ t. option_map (λ (f : Field). f.id) (cond (not t) (Some f) (find (λ f. not (are_alike (octets_at f a) (octets_at f b))) fs))) (same-alike (octets_at f a) (octets_at f b) (All-head (λ f. octets_at f a ≡ octets_at f b) f fs all))
       ∙ all-alike fs (All-tail (λ f. octets_at f a ≡ octets_at f b) f fs all)
 
+-- A first choice that is absent leaves the second one.
+first-absent : (p q : Option ℕ) → option_or p q ≡ None → (p ≡ None) × (q ≡ None)
+first-absent None q is = (refl, is)
+first-absent (Some p) q is = absurd (cc)
+
+kept-alike : (t : Bool) → cond t None (Some CONTENT_ENCODINGS) ≡ None → t ≡ true
+kept-alike true is = refl
+kept-alike false is = absurd (cc)
+
 pub differences-told : DifferencesAreTold
-differences-told a b = (none-found a b FIELDS, all-alike a b FIELDS)
+differences-told a b = (
+  λ is.
+      let both = first-absent (field_difference a.entry b.entry) (encodings_difference a b) is in
+      (none-found a.entry b.entry FIELDS both.0, kept-alike (are_kept_alike (kept_encodings a) (kept_encodings b)) both.1),
+  λ are. ap (λ o. option_or o (encodings_difference a b)) (all-alike a.entry b.entry FIELDS are.0) ∙ ap (λ t. cond t None (Some CONTENT_ENCODINGS)) are.1,
+)

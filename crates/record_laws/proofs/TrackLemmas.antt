@@ -50,29 +50,29 @@ no-default : uint_default TRACK_UID ≡ None
 unfolding entry_of table
 no-default = refl
 
-uid-again : (c : TrackChange) (id at p : ℕ) (kids : Nodes) → c.uid < 2 ^ 64 → uid_of (placed p (written_entry c (master id at kids))) ≡ c.uid
+uid-again : (c : TrackChange) (id at p : ℕ) (kids : Nodes) → c.uid < 2 ^ 64 → uid_of (placed p (written_entry c false (master id at kids))) ≡ c.uid
 uid-again c id at p kids small =
-    let first : List Node = entry_list c (list_of kids) in
+    let first : List Node = entry_list c false (list_of kids) in
     let own : Node = uint_leaf TRACK_UID c.uid in
     let q : ℕ = p + length (header_octets id (length (octets_all (nodes_of first)))) in
-    let found : find (λ n. id_of n == TRACK_UID) first ≡ Some own = find-filter (λ n. id_of n == TRACK_UID) first ∙ ap first_in (part-uid c (list_of kids)) in
+    let found : find (λ n. id_of n == TRACK_UID) first ≡ Some own = find-filter (λ n. id_of n == TRACK_UID) first ∙ ap first_in (part-uid c false (list_of kids)) in
     let read : option_map integer_of (find (λ n. id_of n == TRACK_UID) (read_of q first)) ≡ Some (integer_of own) =
     placed-integer TRACK_UID (nodes_of first) q refl ∙ ap (λ l. option_map integer_of (find (λ n. id_of n == TRACK_UID) l)) (list-nodes first) ∙ ap (option_map integer_of) found in
-    ap (λ n. uid_of (placed p n)) (written-master c id at kids)
+    ap (λ n. uid_of (placed p n)) (written-master c false id at kids)
     ∙ ap (λ o. unwrap_or o (unwrap_or (uint_default TRACK_UID) 0)) read ∙ uint_value-octets TRACK_UID c.uid (uint_octets c.uid) small refl
 
-uid-whole : (c : TrackChange) (entry : Node) (p : ℕ) → IsMaster entry → c.uid < 2 ^ 64 → uid_of (placed p (written_entry c entry)) ≡ c.uid
+uid-whole : (c : TrackChange) (entry : Node) (p : ℕ) → IsMaster entry → c.uid < 2 ^ 64 → uid_of (placed p (written_entry c false entry)) ≡ c.uid
 uid-whole c (leaf id at body) p is small = absurd (cc)
 uid-whole c (master id at kids) p is small = uid-again c id at p kids small
 
-written-id : (c : TrackChange) (entry : Node) → IsMaster entry → id_of (written_entry c entry) ≡ id_of entry
+written-id : (c : TrackChange) (entry : Node) → IsMaster entry → id_of (written_entry c false entry) ≡ id_of entry
 written-id c (leaf id at body) is = absurd (cc)
-written-id c (master id at kids) is = ap id_of (written-master c id at kids)
+written-id c (master id at kids) is = ap id_of (written-master c false id at kids)
 
 -- ---- all tracks
 
 module _ (c : TrackChange) (entry : Node) (whole : IsWholeEntry entry) where
-  is-entry : id_of (written_entry c entry) ≡ TRACK_ENTRY
+  is-entry : id_of (written_entry c false entry) ≡ TRACK_ENTRY
   is-entry = written-id c entry whole.master ∙ whole.id
 
 uids-again : (cs : List TrackChange) (es : List Node) (p : ℕ) → length cs ≡ length es → All IsWholeEntry es → All (λ c. c.uid < 2 ^ 64) cs → map uid_of (read_of p (written_entries cs es)) ≡ map (λ c. c.uid) cs
@@ -80,9 +80,9 @@ uids-again [] es p same whole small = refl
 uids-again (c ∷ cs) [] p same whole small = absurd (omega arith)
 uids-again (c ∷ cs) (e ∷ es) p same whole small =
     let one = All-head IsWholeEntry e es whole in
-    ap (map uid_of) (read-step p (written_entry c e) (written_entries cs es) (ap is_filler (is-entry c e one)))
+    ap (map uid_of) (read-step p (written_entry c false e) (written_entries cs es) (ap is_filler (is-entry c e one)))
     ∙ ap₂ (λ (u : ℕ) us. u ∷ us) (uid-whole c e p one.master (All-head (λ (k : TrackChange). k.uid < 2 ^ 64) c cs small))
-    (uids-again cs es (p + length (octets (written_entry c e))) (omega arith) (All-tail IsWholeEntry e es whole) (All-tail (λ (k : TrackChange). k.uid < 2 ^ 64) c cs small))
+    (uids-again cs es (p + length (octets (written_entry c false e))) (omega arith) (All-tail IsWholeEntry e es whole) (All-tail (λ (k : TrackChange). k.uid < 2 ^ 64) c cs small))
 
 entries-again : (n : ℕ) (us : List ℕ) (cs : List TrackChange) (es : List Node) (p : ℕ) → length cs ≡ length es → All IsWholeEntry es → AreNumbered n us cs
     → map octets (written_entries (plain_changes n us) (read_of p (written_entries cs es))) ≡ map octets (written_entries cs es)
@@ -97,11 +97,11 @@ entries-again n (u ∷ us) (c ∷ cs) (e ∷ es) p same whole are =
     let number : c.number ≡ n = cc in
     let rest : map (λ c. c.number) cs ≡ map (λ c. c.number) (plain_changes (n + 1) us) = cc in
     let one = All-head IsWholeEntry e es whole in
-    let behind : List Node = read_of (p + length (octets (written_entry c e))) (written_entries cs es) in
-    ap (λ l. map octets (written_entries (plain_changes n (u ∷ us)) l)) (read-step p (written_entry c e) (written_entries cs es) (ap is_filler (is-entry c e one)))
+    let behind : List Node = read_of (p + length (octets (written_entry c false e))) (written_entries cs es) in
+    ap (λ l. map octets (written_entries (plain_changes n (u ∷ us)) l)) (read-step p (written_entry c false e) (written_entries cs es) (ap is_filler (is-entry c e one)))
     ∙ ap₂ (λ (o : List ℕ) os. o ∷ os)
-    (ap₂ (λ a b. octets (written_entry (plain a b) (placed p (written_entry c e)))) (sym number) (sym own) ∙ entries-stay c e p one.master)
-    (entries-again (n + 1) us cs es (p + length (octets (written_entry c e))) (omega arith) (All-tail IsWholeEntry e es whole) (others, rest))
+    (ap₂ (λ a b. octets (written_entry (plain a b) false (placed p (written_entry c false e)))) (sym number) (sym own) ∙ entries-stay c false e p one.master)
+    (entries-again (n + 1) us cs es (p + length (octets (written_entry c false e))) (omega arith) (All-tail IsWholeEntry e es whole) (others, rest))
 
 pub tracks-stay : TracksStay
 tracks-stay changes entries place whole small are =

@@ -1,6 +1,8 @@
 -- Tracks that were written and read are written as they were: RFC 9559, section 5.1.4 (Tracks Element). This is this project's promise.
-use Rattle.std.specs.Prelude.{◌≡◌, ◌<◌, ◌^◌, ℕ, ◌+◌, List, [], ◌∷◌, map, All, None}
-use Rattle.tree_format.specs.Node.{Node, nodes_of, list_of, IsMaster}
+use Rattle.std.specs.Prelude.{◌≡◌, ◌<◌, ◌^◌, ℕ, ◌+◌, Bool, true, false, List, [], ◌∷◌, map, All, None}
+use Rattle.tree_format.specs.Node.{Node, nodes_of, list_of, children, IsMaster}
+use Rattle.mkv_schema.specs.declared.ids.TheConstants.{CONTENT_ENCODINGS}
+use Rattle.tree_format.specs.Changes.{part}
 use Rattle.tree_format.specs.NormalForm.{octets}
 use Rattle.tree_format.specs.Standing.{placed, placed_all}
 use Rattle.file_format.specs.Entry.{uid_of}
@@ -35,19 +37,25 @@ plain number uid = record {
 }
 
 -- An entry `entry` that was written with any change `c`, and read at any offset `place`, is written as it was. The second change gives only the same
--- number and identifier. It is the law `entries_stay`.
+-- number and identifier, and the frames are taken as they are stored (`stored`) both times or never. It is the law `entries_stay`.
 abbrev pub EntriesStay : Type 0
 EntriesStay =
-    (c : TrackChange) (entry : Node) (place : ℕ) → IsMaster entry
-    → octets (written_entry (plain c.number c.uid) (placed place (written_entry c entry))) ≡ octets (written_entry c entry)
+    (c : TrackChange) (stored : Bool) (entry : Node) (place : ℕ) → IsMaster entry
+    → octets (written_entry (plain c.number c.uid) stored (placed place (written_entry c stored entry))) ≡ octets (written_entry c stored entry)
+
+-- An entry `entry` whose frames are taken as they are stored is written with any change `c` with its own ContentEncodings, all of them. It is the law
+-- `encodings_stay`.
+abbrev pub EncodingsStay : Type 0
+EncodingsStay =
+    (c : TrackChange) (entry : Node) → IsMaster entry → part CONTENT_ENCODINGS (children (written_entry c true entry)) ≡ part CONTENT_ENCODINGS (children entry)
 
 -- ---- all tracks
 
--- the written entries of `entries`, each with its change. `TracksStay` compares them with the ones of a second merge.
+-- the written entries of `entries`, each with its change; no frames are taken as they are stored. `TracksStay` compares them with the ones of a second merge.
 abbrev pub written_entries : List TrackChange → List Node → List Node
 written_entries [] entries = []
 written_entries (c ∷ cs) [] = []
-written_entries (c ∷ cs) (entry ∷ entries) = written_entry c entry ∷ written_entries cs entries
+written_entries (c ∷ cs) (entry ∷ entries) = written_entry c false entry ∷ written_entries cs entries
 
 -- changes that number tracks from `n` on, and give them only the identifiers `uids`, as a merge without options makes them. Used by `AreNumbered` and
 -- `merged_again`.

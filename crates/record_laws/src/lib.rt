@@ -8,5 +8,7 @@ mod records;
 mod texts;
 
 pub use again::{chapters_stay, files_stay, statistics_are_left_out, tags_stay};
-pub use records::{differences_are_told, entries_stay, read_entries_are_whole, tracks_stay};
+pub use records::{
+    differences_are_told, encodings_stay, entries_stay, read_entries_are_whole, tracks_stay,
+};
 pub use texts::{chapters_are_read_back, entries_are_read_back};
