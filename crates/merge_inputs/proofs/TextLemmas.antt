@@ -1,5 +1,5 @@
 -- A text that is read.
-use Rattle.std.proofs.Common.{◌≡◌, ℕ, min, Bool, true, false, if◌then◌else◌, List, [], ◌∷◌, ◌++◌, length, take, None, refl, sym, ◌∙◌, ap, arith, nat_eq}
+use Rattle.std.proofs.Common.{◌≡◌, ℕ, min, Bool, true, false, ◌&&◌, if◌then◌else◌, List, [], ◌∷◌, ◌++◌, length, take, None, refl, sym, ◌∙◌, ap, arith, nat_eq}
 use Rattle.std.specs.Cmp.Lexicographic.{pointwise}
 use Rattle.std.specs.List.{All}
 use Rattle.std.proofs.Math.Seq.{take-append_seam}
@@ -14,6 +14,7 @@ use Rattle.file_format.specs.Encoding.{usable_causes}
 use Rattle.file_format.specs.Tracks.{IsTrack}
 use Rattle.track_records.specs.Sound.{IsEntry}
 use Rattle.track_records.specs.Track.{track_of}
+use Rattle.track_records.specs.Usable.{as_stored, causes_of}
 use Rattle.track_records.specs.declared.track.Track.{Track}
 use Rattle.meta_records.specs.Records.{AreRead}
 use Rattle.input_files.specs.Names.{begins_ebml}
@@ -21,7 +22,7 @@ use Rattle.input_files.specs.Track.{text_entry}
 use Rattle.input_files.proofs.TextFacts.{is_usable}
 use Rattle.requests.specs.declared.merge.FileWords.{FileWords}
 use Rattle.merge_inputs.specs.Select.{is_taken}
-use Rattle.merge_inputs.specs.Taken.{first_unusable, taken_from, taken_track}
+use Rattle.merge_inputs.specs.Taken.{first_unusable, taken_from, taken_track, track_for}
 
 -- The first four bytes decide whether a file begins with an EBML header.
 pub first-four : (bytes into rest : List ℕ) (m known : ℕ) → known ≡ min (length bytes) 4 → m ≡ known → into ≡ octets_from bytes 0 m → begins_ebml (take known (into ++ rest)) ≡ begins_ebml bytes
@@ -42,10 +43,14 @@ text-read tracks is whole each = record {
   room = All-weaker (λ (t : Track). IsWholeEntry t.entry) (λ (t : Track). HasRoom t.entry) (λ t w. w.room) tracks whole;
 }
 
--- The frames of a text can be used.
+-- The frames of a text can be used, whatever the options are.
 pub text-usable : (words : FileWords) → first_unusable (taken_from words 0 (track_of text_entry ∷ [])) ≡ None
 text-usable words = one (is_taken words 0 (track_of text_entry).kind)
   where
+    own : (keep : Bool) → causes_of (record (track_of text_entry) { stored = keep && (as_stored (track_of text_entry)).stored }) ≡ usable_causes text_entry
+    own true = refl
+    own false = refl
+
     one : (b : Bool) → first_unusable ((if b then taken_track words 0 (track_of text_entry) ∷ [] else []) ++ []) ≡ None
-    one true = ap first_damage (append-nil (usable_causes text_entry)) ∙ is_usable
+    one true = ap first_damage (append-nil (causes_of (track_for words (track_of text_entry))) ∙ own words.keep_encodings) ∙ is_usable
     one false = refl

@@ -1,12 +1,12 @@
 -- The copied tracks of a file, with their options: RFC 9559, section 5.1.4 (Tracks).
-use Rattle.std.specs.Prelude.{◌≡◌, ◌<◌, ℕ, ◌+◌, ◌^◌, pos, nat_abs, ◌==◌, if◌then◌else◌, List, [], ◌∷◌, ◌++◌, flat_map, Option, Some, None, unwrap_or}
+use Rattle.std.specs.Prelude.{◌≡◌, ◌<◌, ℕ, ◌+◌, ◌^◌, pos, nat_abs, ◌==◌, ◌&&◌, if◌then◌else◌, List, [], ◌∷◌, ◌++◌, flat_map, Option, Some, None, unwrap_or}
 use Rattle.mkv_io.specs.declared.damage.Damage.{Damage}
 use Rattle.mkv_schema.specs.Outline.{first_damage}
 use Rattle.tree_format.specs.Node.{HasRoom}
-use Rattle.file_format.specs.Encoding.{usable_causes}
 use Rattle.file_format.specs.Tracks.{IsTrack}
 use Rattle.track_records.specs.Sound.{IsEntry}
 use Rattle.track_records.specs.Track.{track_of}
+use Rattle.track_records.specs.Usable.{as_stored, causes_of}
 use Rattle.track_records.specs.declared.track.Track.{Track}
 use Rattle.track_records.specs.declared.track_change.FlagChange.{FlagChange}
 use Rattle.requests.specs.declared.merge.FlagWords.{FlagWords}
@@ -32,12 +32,17 @@ flags_for id words = record {
   commentary = value_for id words.commentary;
 }
 
+-- the track `t` as an input with the options `words` takes it: with its frames as they are stored exactly if `words` has `--keep-encodings` and its
+-- ContentEncodings can't be undone. `taken_track` uses it.
+abbrev pub track_for : FileWords → Track → Track
+track_for words t = record t { stored = words.keep_encodings && (as_stored t).stored }
+
 -- the selected track `t` of an input with the ID `id`, counted from 0, and the options in `words` for it; its delay in nanoseconds is 0 by default.
 -- Used by `taken_one`.
 abbrev pub taken_track : FileWords → ℕ → Track → TakenTrack
 taken_track words id t = record {
   id = id;
-  track = t;
+  track = track_for words t;
   name = value_for id words.names;
   language = value_for id words.languages;
   language_tag = value_for id words.language_tags;
@@ -61,16 +66,16 @@ taken_from words id (t ∷ ts) = taken_one words id t ++ taken_from words (id + 
 
 -- the first damage that makes the frames of one of the selected tracks `taken` of an input unusable, or None; the input is refused for it
 abbrev pub first_unusable : List TakenTrack → Option Damage
-first_unusable taken = first_damage (flat_map (λ (t : TakenTrack). usable_causes t.track.entry) taken)
+first_unusable taken = first_damage (flat_map (λ (t : TakenTrack). causes_of t.track) taken)
 
 -- ---- facts about copied tracks
 
--- The selected track `t` of an input can be copied by `merge`. It agrees with its TrackEntry, which is valid and fits in a Tracks Element. Its frames
--- can be used, and its delay is below 2^55 nanoseconds in either direction.
+-- The selected track `t` of an input can be copied by `merge`. It agrees with its TrackEntry, which is valid and fits in a Tracks Element, and says
+-- besides only whether its frames are taken as they are stored. Its frames can be used, and its delay is below 2^55 nanoseconds in either direction.
 pub record IsTaken (t : TakenTrack) : Type 0 where
-  pub said : t.track ≡ track_of t.track.entry
+  pub said : t.track ≡ record (track_of t.track.entry) { stored = t.track.stored }
   pub entry : IsEntry t.track.entry
   pub track : IsTrack t.track.entry
   pub room : HasRoom t.track.entry
-  pub usable : first_damage (usable_causes t.track.entry) ≡ None
+  pub usable : first_damage (causes_of t.track) ≡ None
   pub near : nat_abs t.delay < 2 ^ 55

@@ -4,13 +4,13 @@ ghost use Rattle.std.specs.Prelude.{◌≡◌, ℕ, List, IfOk};
 ghost use Rattle.std.specs.List.{All};
 ghost use Rattle.std.specs.Option.{option_copied};
 ghost use Rattle.track_records.specs.Sound.{IsEntry};
-ghost use Rattle.merge_inputs.specs.Taken.{first_unusable, flags_for, taken_from, taken_track, value_for};
+ghost use Rattle.merge_inputs.specs.Taken.{first_unusable, flags_for, taken_from, taken_track, track_for, value_for};
 
 use crate::select::is_taken;
 use mkv_io::{Damage, List, Text};
 use requests::{CueWord, FileWords, FlagWords};
 use std::alloc::{AllocError, Global};
-use track_records::{FlagChange, Track, usable};
+use track_records::{FlagChange, Track, as_stored, usable};
 
 /// Selected track of an input, with the options for it; an absent option keeps the track's own value
 #[derive(Drop)]
@@ -36,6 +36,7 @@ pub fn taken_of(
     words: &FileWords,
     tracks: List<Track>,
 ) -> Result<List<TakenTrack>, AllocError>
+    requires { All (λ t. IsEntry t.entry) tracks }
     ensures { IfOk result (λ taken. taken ≡ taken_from words.now 0 tracks) }
 {
     let mut taken = List::new(alloc);
@@ -48,6 +49,21 @@ pub fn taken_of(
     Ok(taken)
 }
 
+/// Returns the track `track` as an input of `merge` with the options `words` takes it: with its frames as they are
+/// stored exactly if the encodings are to be kept and its ContentEncodings can't be undone. Used by `taken_track`.
+fn track_for(words: &FileWords, track: Track) -> Track
+    requires { IsEntry track.entry }
+    ensures { result ≡ track_for words.now track }
+{
+    if words.keep_encodings {
+        return as_stored(track);
+    }
+    Track {
+        stored: false,
+        ..track
+    }
+}
+
 /// Returns the selected track `track`, whose ID is `id`, with the options for it in `words`. Used by `taken_of`.
 fn taken_track(
     alloc: Global,
@@ -55,11 +71,12 @@ fn taken_track(
     id: u64,
     track: Track,
 ) -> Result<TakenTrack, AllocError>
+    requires { IsEntry track.entry }
     ensures { IfOk result (λ taken. taken ≡ taken_track words.now id track) }
 {
     Ok(TakenTrack {
         id,
-        track,
+        track: track_for(words, track),
         name: text_for(alloc, id, words.names.as_slice())?,
         language: text_for(alloc, id, words.languages.as_slice())?,
         language_tag: text_for(alloc, id, words.language_tags.as_slice())?,
@@ -111,7 +128,7 @@ fn text_for(alloc: Global, id: u64, list: &[(u64, Text)]) -> Result<Option<Text>
 }
 
 /// Returns the damage that makes the frames of one of the selected tracks `taken` unusable, or None: an encoding that
-/// can't be undone. Used by `read_file`.
+/// can't be undone, unless the frames are taken as they are stored, or a TrackTimestampScale. Used by `read_file`.
 pub fn first_unusable(taken: &[TakenTrack]) -> Option<Damage>
     requires { All (λ t. IsEntry t.track.entry) taken.now }
     ensures { result ≡ first_unusable taken.now }

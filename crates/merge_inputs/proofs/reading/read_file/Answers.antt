@@ -23,11 +23,15 @@ use Rattle.merge_inputs.proofs.TakenLemmas.{AreTaken-read, taken-tracks}
 use Rattle.merge_inputs.specs.Input.{listings_in}
 use Rattle.merge_inputs.proofs.reading.read_file.Goals as goal
 
+-- The tracks that were read are entries.
+pub taken_of-requires : goal.taken_of-requires
+taken_of-requires g c = c.in_ok-info.ensures.good.tracks.sound
+
 -- The copied tracks are entries.
 pub first_unusable-requires : goal.first_unusable-requires
 first_unusable-requires g c =
     subst (All (λ (t : TakenTrack). IsEntry t.track.entry)) (sym (c.as_slice.ensures ∙ c.in_ok-taken.ensures))
-    (taken-tracks (λ (t : Track). IsEntry t.entry) c.args.words.now c.in_ok-info.field-0.tracks c.in_ok-info.ensures.good.tracks.sound)
+    (taken-tracks (λ (t : Track). IsEntry t.entry) c.args.words.now c.in_ok-info.field-0.tracks (λ b t is. is) c.in_ok-info.ensures.good.tracks.sound)
 
 -- The copied tracks are refused.
 pub returns-in-Some-clause-exact : goal.returns-in-Some-clause-exact

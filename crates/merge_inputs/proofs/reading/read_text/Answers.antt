@@ -8,6 +8,9 @@ use Rattle.merge_inputs.proofs.TakenLemmas.{AreTaken-read}
 use Rattle.merge_inputs.proofs.TextLemmas.{text-read, text-usable}
 use Rattle.merge_inputs.proofs.reading.read_text.Goals as goal
 
+pub taken_of-requires : goal.taken_of-requires
+taken_of-requires g c = (text-read c.in_ok-tracks.tracks c.in_ok-tracks.ensures.exact c.in_ok-tracks.ensures.whole c.in_ok-tracks.ensures.tracks).sound
+
 pub returns-clause-input : goal.returns-clause-input
 returns-clause-input g c =
     record {
