@@ -25,3 +25,4 @@ mod SubRipExamples
 mod SimpleChapterExamples
 mod TextExamples
 mod StatisticsLemmas
+mod KeptLemmas

@@ -1,16 +1,15 @@
 -- Tags without their statistics.
 use Rattle.std.proofs.Common.{◌≡◌, ℕ, ◌==◌, Bool, true, false, not, ◌&&◌, ◌||◌, if◌then◌else◌, List, [], ◌∷◌, ◌++◌, codes, flat_map, Option, Some, None, refl, sym, ap, subst, ◌∙◌, append-nil, All}
 use Rattle.std.specs.List.{list_any}
-use Rattle.std.specs.Option.{option_map_or}
 use Rattle.std.specs.Str.{bytes_eq}
 use Rattle.std.proofs.lemmas.Bool.{or_parts}
 use Rattle.std.proofs.lemmas.Slice.Eq.{bytes_eq-Decides}
 use Rattle.std.proofs.lemmas.List.Elements.{All-nil, All-cons, All-head, All-tail, All-append}
 use Rattle.std.proofs.lemmas.List.Folds.{list_any-append, list_any_none}
 use Rattle.mkv_schema.specs.declared.ids.TheConstants.{TAG, SIMPLE_TAG, TAG_NAME}
-use Rattle.tree_format.specs.Node.{Node, leaf, master, nodes_of, id_of, children, with_children}
+use Rattle.tree_format.specs.Node.{Node, leaf, master, id_of, children, with_children}
 use Rattle.tree_format.proofs.NodeLemmas.{list-nodes, nodes-list}
-use Rattle.record_changes.specs.Statistics.{bare, bare_part, bare_tag, has_nothing_else, is_named, is_one_of, is_other, is_statistic, lists_names, names_listed, statistics_names, stem, usual_names, value_in, without_its_statistics, without_statistics}
+use Rattle.record_changes.specs.Statistics.{bare, bare_part, bare_tag, has_nothing_else, is_named, is_one_of, is_other, is_statistic, names_listed, statistics_names, stem, usual_names, value_in, without_its_statistics, without_statistics}
 use Rattle.record_laws.specs.Statistics.{HasNoUsualName, StatisticsAreLeftOut, has_usual_name}
 
 -- ---- trees

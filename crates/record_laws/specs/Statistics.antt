@@ -1,5 +1,5 @@
 -- Tags that are read without their statistics: RFC 9559, section 5.1.8 (Tags). This is this project's promise.
-use Rattle.std.specs.Prelude.{◌≡◌, ℕ, ◌==◌, Bool, true, false, ◌&&◌, All}
+use Rattle.std.specs.Prelude.{◌≡◌, ◌==◌, Bool, true, false, ◌&&◌, All}
 use Rattle.std.specs.List.{list_any}
 use Rattle.std.specs.Option.{option_map_or}
 use Rattle.mkv_schema.specs.declared.ids.TheConstants.{TAG, SIMPLE_TAG, TAG_NAME}

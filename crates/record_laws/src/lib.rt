@@ -9,6 +9,7 @@ mod texts;
 
 pub use again::{chapters_stay, files_stay, statistics_are_left_out, tags_stay};
 pub use records::{
-    differences_are_told, encodings_stay, entries_stay, read_entries_are_whole, tracks_stay,
+    differences_are_told, encodings_stay, entries_stay, read_entries_are_whole,
+    same_elements_are_written_alike, tracks_stay,
 };
 pub use texts::{chapters_are_read_back, entries_are_read_back};

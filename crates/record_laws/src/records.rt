@@ -2,7 +2,7 @@
 //! functions do nothing; their contracts are the laws.
 
 ghost use Rattle.record_laws.specs.Again.{EncodingsStay, EntriesStay, TracksStay};
-ghost use Rattle.record_laws.specs.Entries.{ReadEntriesAreWhole, DifferencesAreTold};
+ghost use Rattle.record_laws.specs.Entries.{DifferencesAreTold, ReadEntriesAreWhole, SameElementsAreWrittenAlike};
 
 /// Law: a TrackEntry that was written and read is written as it was. A promise to users; no code calls it.
 pub fn entries_stay()
@@ -30,4 +30,10 @@ pub fn read_entries_are_whole()
 /// so is what they keep of ContentEncodings. A promise to users; no code calls it.
 pub fn differences_are_told()
     ensures { DifferencesAreTold }
+{}
+
+/// Law: Elements that are the same, as kept ContentEncodings are compared, are written as the same bytes. A promise to
+/// users; no code calls it.
+pub fn same_elements_are_written_alike()
+    ensures { SameElementsAreWrittenAlike }
 {}
