@@ -12,7 +12,7 @@ use Rattle.merge_plan.proofs.ListLemmas.{drop-next}
 -- ---- track after track
 
 module _ (lanes taken : List TakenTrack) (k : ℕ) (lane t : TakenTrack) (many : length lanes ≡ length taken) (inside : k < length lanes) (is : lane ≡ get_or lanes k lane) (at : t ≡ get_or taken k t) where
-  pub track-next : (d : Option ℕ) → first_difference lane.track.entry t.track.entry ≡ d → first_differing (drop k lanes) (drop k taken) ≡ option_or d (first_differing (drop (k + 1) lanes) (drop (k + 1) taken))
+  pub track-next : (d : Option ℕ) → first_difference lane.track t.track ≡ d → first_differing (drop k lanes) (drop k taken) ≡ option_or d (first_differing (drop (k + 1) lanes) (drop (k + 1) taken))
   track-next d differs =
       ap₂ first_differing (drop-next lanes k lane inside is) (drop-next taken k t (omega arith) at)
       ∙ ap (λ o. option_or o (first_differing (drop (k + 1) lanes) (drop (k + 1) taken))) differs

@@ -7,25 +7,24 @@ use denote.Ref.{Bor}
 use Rattle.output_model.specs.declared.TheConstants.{MAX_LANES}
 use Rattle.merge_inputs.specs.declared.taken.TakenTrack.{TakenTrack}
 use Rattle.merge_plan.specs.Lent.{lent}
-use Rattle.merge_plan.specs.Webm.{is_webm_codec}
-use Rattle.merge_plan.specs.Refusal.{lanes_refusal, not_webm, other_codec, too_many_lanes, where_so}
+use Rattle.merge_plan.specs.Refusal.{is_webm_track, lanes_refusal, not_webm, other_codec, too_many_lanes, where_so}
 use Rattle.merge_plan.specs.declared.refusal.PlanRefusal.TheVariants.{NoLane, TooManyLanes}
 use Rattle.merge_plan.proofs.ListLemmas.{length-lent, lent-next}
 
 -- ---- codecs
 
-codec-first : (t : TakenTrack) (ts : List TakenTrack) (b : Bool) → is_webm_codec t.track.codec ≡ b → other_codec (t ∷ ts) ≡ (if b then other_codec ts else Some t.track.codec)
+codec-first : (t : TakenTrack) (ts : List TakenTrack) (b : Bool) → is_webm_track t ≡ b → other_codec (t ∷ ts) ≡ (if b then other_codec ts else Some t.track.codec)
 codec-first t ts true is = rw is refl
 codec-first t ts false is = rw is refl
 
 module _ (refs : List (Bor TakenTrack)) (k : ℕ) (r : Bor TakenTrack) (inside : k < length refs) (is : r ≡ get_or refs k r) where
-  codec-next : (b : Bool) → is_webm_codec r.now.track.codec ≡ b → other_codec (drop k (lent refs)) ≡ (if b then other_codec (drop (k + 1) (lent refs)) else Some r.now.track.codec)
+  codec-next : (b : Bool) → is_webm_track r.now ≡ b → other_codec (drop k (lent refs)) ≡ (if b then other_codec (drop (k + 1) (lent refs)) else Some r.now.track.codec)
   codec-next b tells = ap other_codec (lent-next refs k r inside is) ∙ codec-first r.now (drop (k + 1) (lent refs)) b tells
 
-  pub codec-found : is_webm_codec r.now.track.codec ≡ false → other_codec (drop k (lent refs)) ≡ Some r.now.track.codec
+  pub codec-found : is_webm_track r.now ≡ false → other_codec (drop k (lent refs)) ≡ Some r.now.track.codec
   codec-found other = codec-next false other
 
-  pub codec-passed : is_webm_codec r.now.track.codec ≡ true → other_codec (drop k (lent refs)) ≡ other_codec (drop (k + 1) (lent refs))
+  pub codec-passed : is_webm_track r.now ≡ true → other_codec (drop k (lent refs)) ≡ other_codec (drop (k + 1) (lent refs))
   codec-passed own = codec-next true own
 
 pub codec-none : (refs : List (Bor TakenTrack)) (k : ℕ) → length refs ≤ k → other_codec (drop k (lent refs)) ≡ None

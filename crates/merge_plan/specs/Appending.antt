@@ -14,7 +14,7 @@ use Rattle.merge_plan.specs.Records.{is_appended}
 abbrev pub first_differing : List TakenTrack → List TakenTrack → Option ℕ
 first_differing [] taken = None
 first_differing (lane ∷ lanes) [] = None
-first_differing (lane ∷ lanes) (t ∷ taken) = option_or (first_difference lane.track.entry t.track.entry) (first_differing lanes taken)
+first_differing (lane ∷ lanes) (t ∷ taken) = option_or (first_difference lane.track t.track) (first_differing lanes taken)
 
 -- the ID of the first Element in the tracks `taken` of an appended input that differs from `lanes`, the tracks that began the output tracks, or None.
 -- It is TrackEntry if their numbers differ. Used for the refusal of a merge that appends inputs.

@@ -4,7 +4,7 @@ use Rattle.std.specs.List.{enumerate_from, range_with_len}
 use Rattle.std.specs.Option.{option_map_or}
 use Rattle.tree_format.specs.Node.{Node}
 use Rattle.block_format.specs.Events.{Event}
-use Rattle.file_format.specs.Encoding.{prefix_of}
+use Rattle.track_records.specs.Usable.{prefix_for}
 use Rattle.output_model.specs.declared.heads.ClusterLimits.{ClusterLimits}
 use Rattle.ext_times.specs.Listing.{Listing}
 use Rattle.merge_model.specs.FileLinks.{timed_given}
@@ -39,7 +39,7 @@ append_offset i = unwrap_or i.shift 0
 -- the placing of the blocks of the selected track `t` in the output. It has the delay from the options, the append offset `shift`, both in
 -- nanoseconds, and the bytes that header stripping removed. `given_for` uses it.
 abbrev pub placing_for : ℕ → TakenTrack → Placing
-placing_for shift t = record { delay = t.delay; shift = shift; default_duration = t.track.default_duration; prefix = prefix_of t.track.entry }
+placing_for shift t = record { delay = t.delay; shift = shift; default_duration = t.track.default_duration; prefix = prefix_for t.track }
 
 -- the blocks of the selected track `t` in a file with the given events, at their own times or the ones in `times`, the timestamp files by track.
 -- `shift` is the append offset in nanoseconds. `given_from` uses them.

@@ -55,7 +55,7 @@ change_of number uid t = record {
 
 -- the TrackEntry in the output of the selected track `t`, with the TrackNumber `number` and the TrackUID `uid`. `entries_of` uses it.
 abbrev pub entry_of : ℕ → ℕ → TakenTrack → Node
-entry_of number uid t = written_entry (change_of number uid t) t.track.entry
+entry_of number uid t = written_entry (change_of number uid t) t.track.stored t.track.entry
 
 -- the TrackEntries in the output of selected tracks with the TrackUIDs in the second argument and TrackNumbers from `number`; the third argument has
 -- the tracks. `entries_of` uses it.

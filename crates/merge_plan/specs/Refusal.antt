@@ -1,5 +1,5 @@
 -- The refusal of a merge whose inputs were read. The reasons, their order and the limits are this project's.
-use Rattle.std.specs.Prelude.{ℕ, ◌==◌, nat_lt, Bool, true, false, not, if◌then◌else◌, List, length, find, Option, Some, None, option_map}
+use Rattle.std.specs.Prelude.{ℕ, ◌==◌, nat_lt, Bool, true, false, not, ◌&&◌, if◌then◌else◌, List, length, find, Option, Some, None, option_map}
 use Rattle.std.specs.Option.{option_or}
 use Rattle.output_model.specs.declared.TheConstants.{MAX_LANES}
 use Rattle.output_records.specs.Limits.{first_too_large}
@@ -24,16 +24,21 @@ no_lane taken = where_so (length taken == 0) NoLane
 abbrev pub too_many_lanes : List TakenTrack → Option PlanRefusal
 too_many_lanes taken = where_so (nat_lt MAX_LANES (length taken)) TooManyLanes
 
+-- WebM allows the selected track `t`: it allows its codec, and the frames aren't taken as they are stored, since WebM has no ContentEncodings.
+-- `other_codec` uses it.
+abbrev pub is_webm_track : TakenTrack → Bool
+is_webm_track t = not t.track.stored && is_webm_codec t.track.codec
+
 -- the CodecID of the first of the tracks `taken` that WebM doesn't allow, if there is one. `not_webm` uses it.
 abbrev pub other_codec : List TakenTrack → Option (List ℕ)
-other_codec taken = option_map (λ (t : TakenTrack). t.track.codec) (find (λ (t : TakenTrack). not (is_webm_codec t.track.codec)) taken)
+other_codec taken = option_map (λ (t : TakenTrack). t.track.codec) (find (λ (t : TakenTrack). not (is_webm_track t)) taken)
 
--- the refusal of a WebM output because of the first of the tracks `taken` with another codec, or None; `webm` is true if the output is WebM. A part
+-- the refusal of a WebM output because of the first of the tracks `taken` that WebM doesn't allow, or None; `webm` is true if the output is WebM. A part
 -- of `lanes_refusal`.
 abbrev pub not_webm : Bool → List TakenTrack → Option PlanRefusal
 not_webm webm taken = if webm then option_map NotWebm (other_codec taken) else None
 
--- the refusal because of the tracks `taken` that begin output tracks, or None: none, too many, or a codec that WebM doesn't allow. `webm` is true if
+-- the refusal because of the tracks `taken` that begin output tracks, or None: none, too many, or a track that WebM doesn't allow. `webm` is true if
 -- the output is WebM. A part of `plan_refusal`.
 abbrev pub lanes_refusal : Bool → List TakenTrack → Option PlanRefusal
 lanes_refusal webm taken = option_or (no_lane taken) (option_or (too_many_lanes taken) (not_webm webm taken))

@@ -4,7 +4,7 @@ use Rattle.std.specs.List.{All, AllZip, enumerate_from, range_with_len}
 use Rattle.std.specs.Option.{option_to_list}
 use Rattle.mkv_schema.specs.declared.ids.TheConstants.{CHAPTERS, TAGS}
 use Rattle.ebml_tree.specs.Building.{IsRead}
-use Rattle.file_format.specs.Encoding.{prefix_of}
+use Rattle.track_records.specs.Usable.{prefix_for}
 use Rattle.meta_records.specs.Walk.{IsAttachedIn}
 use Rattle.element_reader.specs.Outline.{FileOutline}
 use Rattle.mkv_io.specs.declared.entry.Entry.{Entry}
@@ -71,7 +71,7 @@ abbrev pub times_listed : Input → TakenTrack → Option Listing
 times_listed i t = value_for t.id (read_in i).times
 
 -- `link` reads the selected track `t` of the input `i`, whose file has the outline `read` and `nanoseconds` nanoseconds in a tick. At most
--- MAX_PREFIX_LEN bytes were removed from the start of each frame. If `b`, the links after it are read even if damage ends its reading. Used by the
+-- MAX_PREFIX_LEN bytes are put before each frame. If `b`, the links after it are read even if damage ends its reading. Used by the
 -- contract of `track_of`.
 pub record IsLinkOf (b : Bool) (i : Input) (read : FileOutline) (nanoseconds : ℕ) (t : TakenTrack) (link : TrackLink) : Type 0 where
   pub file : link.file ≡ i.file
@@ -81,7 +81,7 @@ pub record IsLinkOf (b : Bool) (i : Input) (read : FileOutline) (nanoseconds : �
   pub default_duration : link.default_duration ≡ t.track.default_duration
   pub delay : link.delay ≡ t.delay
   pub shift : link.shift ≡ append_offset (read_in i)
-  pub prefix : link.prefix ≡ prefix_of t.track.entry
+  pub prefix : link.prefix ≡ prefix_for t.track
   pub times : listing_of link ≡ times_listed i t
   pub on : link.goes_on ≡ b
   pub short : length link.prefix ≤ MAX_PREFIX_LEN

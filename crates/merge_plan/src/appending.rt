@@ -73,7 +73,8 @@ fn lane_tracks<'a>(before: &'a [TakenTrack], input: &'a Input) -> &'a [TakenTrac
 
 /// Returns the first of `inputs` that is appended and whose tracks can't continue the output tracks of the previous
 /// one, or None. Their number differs, or a track differs from its output track in its type, its codec with its private
-/// data, its size or its sampling. `merge` refuses the command because of it, before it looks for append offsets.
+/// data, its size, its sampling or the ContentEncodings that is kept. `merge` refuses the command because of it, before
+/// it looks for append offsets.
 pub fn append_refusal(inputs: &[Input]) -> Option<AppendDiffers>
     ensures { result ≡ append_refusal (map read_in inputs.now) }
 {

@@ -5,7 +5,7 @@ ghost use Rattle.std.specs.List.{All};
 ghost use Rattle.std.specs.Option.{option_copied};
 ghost use Rattle.merge_plan.specs.Lent.{lent};
 ghost use Rattle.merge_plan.specs.Planned.{AreSound, CanBeWritten, GivesRecords, Plans};
-ghost use Rattle.merge_plan.specs.Refusal.{lanes_refusal, other_codec};
+ghost use Rattle.merge_plan.specs.Refusal.{is_webm_track, lanes_refusal, other_codec};
 ghost use Rattle.merge_plan.specs.TakenTracks.{HasPlace, HasRecords, HasTaken};
 
 use crate::entries::tracks_taken;
@@ -24,13 +24,21 @@ use requests::MergeWords;
 use splitter::split_size;
 use std::alloc::{AllocError, Global};
 
+/// Checks whether WebM allows the track `taken`: it allows its codec, and the frames aren't taken as they are stored,
+/// since WebM has no ContentEncodings. `other_codec` asks for each track.
+fn is_webm_track(taken: &TakenTrack) -> bool
+    ensures { result ≡ is_webm_track taken.now }
+{
+    !taken.track.stored && is_webm_codec(taken.track.codec.as_str())
+}
+
 /// Returns the CodecID of the first of the tracks `taken` that WebM doesn't allow, or None. `lanes_refusal` puts it in
 /// the refusal of a merge to WebM.
 fn other_codec<'a>(taken: &[&'a TakenTrack]) -> Option<&'a Text>
     ensures { option_copied result ≡ other_codec (lent taken.now) }
 {
     for each in taken {
-        if !is_webm_codec(each.track.codec.as_str()) {
+        if !is_webm_track(each) {
             return Some(&each.track.codec);
         }
     }
@@ -38,7 +46,7 @@ fn other_codec<'a>(taken: &[&'a TakenTrack]) -> Option<&'a Text>
 }
 
 /// Returns the refusal if the tracks `taken` can't begin the output tracks, or None: there are none, or more than 64,
-/// or a codec that WebM doesn't allow. `webm` is true if the output is WebM. `records_for` calls it before it builds
+/// or a track that WebM doesn't allow. `webm` is true if the output is WebM. `records_for` calls it before it builds
 /// the records.
 fn lanes_refusal(webm: bool, taken: &[&TakenTrack]) -> Result<Option<PlanRefusal>, AllocError>
     ensures { IfOk result (λ refusal. refusal ≡ lanes_refusal webm (lent taken.now)) }
@@ -92,7 +100,7 @@ fn uuids_of(alloc: Global, words: &MergeWords) -> Result<List<u128>, AllocError>
 
 /// Plans the output for the options `words` and the read `inputs`, or returns the first refusal. `merge` calls it after
 /// the append offsets were found and before it creates a file. A merge is refused if no track or more than 64 tracks
-/// are selected, or if WebM doesn't allow a codec. It is also refused if Tracks, Chapters or Tags would be too large to
+/// are selected, or if WebM doesn't allow a track. It is also refused if Tracks, Chapters or Tags would be too large to
 /// be read again. Reads no file.
 pub fn plan_of(alloc: Global, words: &MergeWords, inputs: &[Input]) -> Result<MergePlan, PlanEnd>
     requires tracks { All HasTaken inputs.now }

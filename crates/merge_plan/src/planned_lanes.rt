@@ -2,7 +2,7 @@
 
 ghost use Rattle.std.specs.Prelude.{◌≡◌, ◌≤◌, ◌<◌, ◌+◌, ◌^◌, ◌∷◌, length, option_map, IfOk, OnOk};
 ghost use Rattle.std.specs.List.{All, take_while};
-ghost use Rattle.file_format.specs.Encoding.{prefix_of};
+ghost use Rattle.track_records.specs.Usable.{prefix_for};
 ghost use Rattle.output_model.specs.declared.TheConstants.{MAX_PREFIX_LEN};
 ghost use Rattle.merge_inputs.specs.Input.{read_in};
 ghost use Rattle.merge_inputs.specs.Taken.{IsTaken};
@@ -48,11 +48,12 @@ fn rule_of(taken: &TakenTrack) -> CueRule
     }
 }
 
-/// Returns the bytes that header stripping removed from the start of each frame of the track `taken`. They are put back
-/// in the output. `track_of` calls it for each link. RFC 9559, section 5.1.4 (Tracks), ContentEncodings.
+/// Returns the bytes that header stripping removed from the start of each frame of the track `taken`; none if its
+/// frames are taken as they are stored. They are put back in the output. `track_of` calls it for each link. RFC 9559,
+/// section 5.1.4 (Tracks), ContentEncodings.
 fn prefix_of(alloc: Global, taken: &TakenTrack) -> Result<Bytes, AllocError>
     requires { IsTaken taken.now }
-    ensures exact { IfOk result (λ prefix. prefix ≡ prefix_of taken.now.track.entry) }
+    ensures exact { IfOk result (λ prefix. prefix ≡ prefix_for taken.now.track) }
     ensures most { IfOk result (λ prefix. length prefix ≤ MAX_PREFIX_LEN) }
 {
     let mut prefix = Bytes::new(alloc);
