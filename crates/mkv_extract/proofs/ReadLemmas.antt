@@ -1,17 +1,19 @@
 -- The tracks that targets name, and the reasons why their frames can't be used.
-use Rattle.std.proofs.Common.{◌≡◌, ℕ, zero, suc, ◌+◌, ◌<◌, ◌≤◌, ◌==◌, Bool, true, false, ◌||◌, if◌then◌else◌, List, [], ◌∷◌, ◌++◌, length, drop, get_or, map, Some, None, IfSome, slice_get, Ok, refl, sym, ◌∙◌, ap, arith, eq-eqb}
+use Rattle.std.proofs.Common.{◌≡◌, ℕ, zero, suc, ◌+◌, ◌<◌, ◌≤◌, ◌==◌, Bool, true, false, ◌||◌, if◌then◌else◌, List, [], ◌∷◌, ◌++◌, length, drop, get_or, map, Some, None, IfSome, slice_get, Ok, refl, sym, ◌∙◌, ap, arith, eq-eqb, Option}
 use Rattle.std.proofs.lemmas.List.{drop_all}
 use Rattle.mkv_io.specs.declared.damage.Damage.{Damage}
 use Rattle.requests.specs.declared.job.Target.{Target}
 use Rattle.mkv_schema.specs.declared.element.Header.{Header}
 use Rattle.mkv_schema.specs.Outline.{first_damage}
+use Rattle.tree_format.specs.Node.{Node}
 use Rattle.block_format.specs.Elements.{with_limits}
 use Rattle.block_format.specs.Events.{events_of}
 use Rattle.file_format.specs.FileBlocks.{file_events}
 use Rattle.meta_records.specs.Records.{FileRecords, file_records, scale_of_info}
 use Rattle.meta_records.proofs.CausesLemmas.{first_damage-behind, first_damage-front, first_damage-some}
 use Rattle.meta_records.proofs.RecordsLemmas.{file_records-scale}
-use Rattle.file_format.specs.Encoding.{usable_causes}
+use Rattle.mkv_io.specs.Results.{unless}
+use Rattle.file_format.specs.Encoding.{prefix_of, usable_causes, usable_prefix}
 use Rattle.track_records.specs.declared.track.Track.{Track}
 use Rattle.extractors.specs.Source.{AreUsableOf, IsUsable, entry_in}
 use Rattle.mkv_extract.proofs.ToldLemmas.{next-left}
@@ -40,6 +42,14 @@ named-at (t ∷ ts) (suc i) d below = ap (λ (a : Bool). (t.id == (get_or ts i d
     or_true : (a : Bool) → (a || true) ≡ true
     or_true true = refl
     or_true false = refl
+
+-- A track whose frames the call found usable has no reason against it.
+pub usable-none : (entry : Node) (prefix : List ℕ) → usable_prefix entry ≡ Ok prefix → first_damage (usable_causes entry) ≡ None
+usable-none entry prefix is = step (first_damage (usable_causes entry)) is
+  where
+    step : (refusal : Option Damage) → unless refusal (prefix_of entry) ≡ Ok prefix → refusal ≡ None
+    step None made = refl
+    step (Some d) made = absurd (cc)
 
 -- Each named track can be used.
 each-usable : (targets : List Target) (k : ℕ) (tracks : List Track) (j : ℕ) → first_damage (causes_from targets k tracks) ≡ None → is_named targets (k + j) ≡ true → IfSome (slice_get (map entry_in tracks) j) IsUsable

@@ -11,6 +11,7 @@ ghost use Rattle.extractors.specs.Job.{targets_of};
 ghost use Rattle.extractors.specs.Source.{AreUsable, IsSource};
 ghost use Rattle.mkv_schema.specs.Outline.{first_damage};
 ghost use Rattle.track_records.specs.Sound.{IsEntry};
+ghost use Rattle.track_records.specs.Track.{track_of};
 ghost use Rattle.mkv_extract.specs.Bound.{ReadsAtMost, most_before, most_of_cues};
 ghost use Rattle.mkv_extract.specs.Read.{HasOwnEvents, ReadsCues, ReadsSource, causes_of, first_unusable, is_named, read_of};
 ghost use Rattle.mkv_io.specs.Bounds.{ReadsOf};
@@ -109,7 +110,8 @@ fn first_unusable(targets: &[Target], tracks: &[Track]) -> Option<Damage>
 /// Returns the reason why the frames of `track`, which has the index `k`, can't be used, if one of `targets` names it.
 /// Returns None if they can or none names it. For `first_unusable`, when `extract` reads its file.
 fn cause_of(targets: &[Target], k: u64, track: &Track) -> Option<Damage>
-    requires { IsEntry track.now.entry }
+    requires sound { IsEntry track.now.entry }
+    requires said { track.now ≡ track_of track.now.entry }
     ensures { result ≡ first_damage (causes_of targets.now k track.now) }
 {
     if !is_named(targets, k) {
