@@ -1,6 +1,6 @@
 -- The document of each output of a merge is valid.
 use Rattle.std.proofs.Common.{◌≡◌, ◌<◌, ◌≤◌, ℕ, ◌^◌, Bool, true, false, if◌then◌else◌, List, [], ◌∷◌, ◌++◌, length, length-append, append_assoc, map, flat_map, take, drop, ◌+◌, max, Option, Some, None, IfSome, refl, sym, ap, subst, ◌∙◌, arith, unwrap_or}
-use Rattle.std.specs.List.{All}
+use Rattle.std.specs.List.{All, AllZip}
 use Rattle.std.specs.Str.{IsUtf8}
 use Rattle.std.proofs.lemmas.List.Elements.{All-nil, All-cons, All-head, All-tail, All-append, All-weaker}
 use Rattle.std.proofs.lemmas.List.{take-append-drop}
@@ -56,11 +56,11 @@ use Rattle.mkv_merge.specs.Read.{is_split}
 use Rattle.mkv_merge.specs.Records.{HaveRecords, IsFilled}
 use Rattle.requests.specs.Texts.{AreTexts}
 use Rattle.file_format.specs.Entry as tracks
-use Rattle.merge_laws.specs.Merge.{HasNoEncodings, lanes_selected}
+use Rattle.merge_laws.specs.Merge.{HasEncodingsOf, lanes_selected}
 use Rattle.merge_laws.specs.Sources.{AreSources, IsReadSource, IsReadTrack}
 use Rattle.merge_laws.proofs.ChapterLemmas.{IsRecordIfShort, chapters-stand, record-short}
 use Rattle.merge_laws.proofs.LaneLemmas.{lanes-length}
-use Rattle.merge_laws.proofs.TracksLemmas.{taken-lanes, taken-plain, taken-tracks}
+use Rattle.merge_laws.proofs.TracksLemmas.{taken-lanes, taken-encodings, taken-tracks}
 
 -- ---- lengths of the records
 
@@ -322,9 +322,9 @@ module _ (words : MergeWords) (sources : List Source) (sound : IsSoundMerge word
   lanes-as_many : length (tracks.entries_of (tracks_of_output (reads_of sources))) ≡ length (lanes_selected words sources)
   lanes-as_many = taken-lanes (tracks_taken (reads_of sources)) (all-tracks sources are.each) tracks-few ∙ sym (lanes-length words sources)
 
-  -- Its tracks have unchanged frames.
-  pub document-plain : All HasNoEncodings (tracks.entries_of (tracks_of_output (reads_of sources)))
-  document-plain = taken-plain (tracks_taken (reads_of sources)) (all-tracks sources are.each) tracks-few
+  -- Its tracks have the ContentEncodings of tracks that are taken as they are stored, and no others.
+  pub document-encodings : AllZip HasEncodingsOf (tracks_taken (reads_of sources)) (tracks.entries_of (tracks_of_output (reads_of sources)))
+  document-encodings = taken-encodings (tracks_taken (reads_of sources)) (all-tracks sources are.each) tracks-few
 
   -- The scale of its Info is the scale on the command line.
   pub document-scale : (number : ℕ) → scale_of (with_uuids (uuids_at words.uuids words.link number) (info_of words (reads_of sources))) ≡ words.scale

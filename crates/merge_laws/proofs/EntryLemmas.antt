@@ -1,5 +1,5 @@
 -- The written entry of a track that was read is an entry of a track.
-use Rattle.std.proofs.Common.{◌≡◌, ◌<◌, ℕ, ◌^◌, ◌==◌, Bool, true, false, List, [], ◌∷◌, ◌++◌, find, Option, Some, None, IsSome, IfSome, refl, sym, ap, subst, ◌∙◌, arith, unwrap_or}
+use Rattle.std.proofs.Common.{◌≡◌, ◌<◌, ℕ, ◌^◌, ◌==◌, Bool, true, false, if◌then◌else◌, List, [], ◌∷◌, ◌++◌, find, Option, Some, None, IsSome, IfSome, refl, sym, ap, subst, ◌∙◌, arith, unwrap_or}
 use Rattle.std.specs.List.{All, filter}
 use Rattle.std.specs.Option.{option_map}
 use Rattle.std.specs.Str.{IsUtf8}
@@ -8,7 +8,7 @@ use Rattle.ebml_numbers.specs.Number.{uint_octets}
 use Rattle.mkv_schema.specs.declared.ids.TheConstants.{TRACK_ENTRY, TRACK_NUMBER, TRACK_UID, TRACK_TYPE, CODEC_ID, DEFAULT_DURATION, NAME, LANGUAGE, LANGUAGE_BCP47, FLAG_DEFAULT, FLAG_FORCED, CONTENT_ENCODINGS, FLAG_ENABLED, FLAG_HEARING_IMPAIRED, FLAG_VISUAL_IMPAIRED, FLAG_TEXT_DESCRIPTIONS, FLAG_ORIGINAL, FLAG_COMMENTARY}
 use Rattle.mkv_schema.specs.Schema.{uint_default}
 use Rattle.tree_format.specs.Node.{Node, Nodes, leaf, master, id_of, list_of, children, with_children, IsMaster}
-use Rattle.tree_format.specs.Changes.{without, with_child}
+use Rattle.tree_format.specs.Changes.{part, without, with_child}
 use Rattle.tree_format.specs.Standing.{StandsIn}
 use Rattle.tree_format.specs.Values.{first_child, integer_of}
 use Rattle.tree_format.proofs.NodeLemmas.{list-nodes}
@@ -28,7 +28,6 @@ use Rattle.track_records.proofs.StandLemmas as row
 use Rattle.track_records.proofs.StandLemmas.{whole-set, whole-removed}
 use Rattle.merge_inputs.specs.Taken.{IsTaken}
 use Rattle.merge_inputs.specs.declared.taken.TakenTrack.{TakenTrack}
-use Rattle.merge_laws.specs.Merge.{HasNoEncodings}
 
 -- ---- changes that can be written
 
@@ -118,12 +117,14 @@ children-made c can =
     (flags-made c.flags)
 
 -- The written form of a valid entry is valid.
-pub written-whole : (c : TrackChange) (entry : Node) → CanBeSet c → IsWholeEntry entry → IsWholeEntry (written_entry c entry)
-written-whole c entry can whole = sets-whole (children_set c) (removed_each (ids_removed c.language) entry) (children-made c can) (bare c.language)
+pub written-whole : (c : TrackChange) (stored : Bool) (entry : Node) → CanBeSet c → IsWholeEntry entry → IsWholeEntry (written_entry c stored entry)
+written-whole c stored entry can whole = sets-whole (children_set c) (removed_each (ids_removed stored c.language) entry) (children-made c can) (bare stored c.language)
   where
-    bare : (o : Option (List ℕ)) → IsWholeEntry (removed_each (ids_removed o) entry)
-    bare None = removed-whole CONTENT_ENCODINGS entry whole
-    bare (Some text) = removed-whole LANGUAGE_BCP47 (removed_in CONTENT_ENCODINGS entry) (removed-whole CONTENT_ENCODINGS entry whole)
+    bare : (s : Bool) (o : Option (List ℕ)) → IsWholeEntry (removed_each (ids_removed s o) entry)
+    bare true None = whole
+    bare true (Some text) = removed-whole LANGUAGE_BCP47 entry whole
+    bare false None = removed-whole CONTENT_ENCODINGS entry whole
+    bare false (Some text) = removed-whole LANGUAGE_BCP47 (removed_in CONTENT_ENCODINGS entry) (removed-whole CONTENT_ENCODINGS entry whole)
 
 -- ---- an entry stays a track
 
@@ -136,58 +137,58 @@ master-of (master id at kids) some = refl
 pub taken-whole : (t : TakenTrack) → IsTaken t → IsWholeEntry t.track.entry
 taken-whole t is = record { id = is.entry.id; master = master-of t.track.entry is.track.type; sound = is.entry.sound; room = is.room }
 
-module _ (c : TrackChange) where
+module _ (c : TrackChange) (stored : Bool) where
   -- The first child with an ID that isn't changed stays.
-  pub first-kept : (id i at : ℕ) (kids : Nodes) → ((ns : List Node) → filter (λ n. id_of n == id) (entry_list c ns) ≡ filter (λ n. id_of n == id) ns)
-      → first_child id (written_entry c (master i at kids)) ≡ first_child id (master i at kids)
+  pub first-kept : (id i at : ℕ) (kids : Nodes) → ((ns : List Node) → filter (λ n. id_of n == id) (entry_list c stored ns) ≡ filter (λ n. id_of n == id) ns)
+      → first_child id (written_entry c stored (master i at kids)) ≡ first_child id (master i at kids)
   first-kept id i at kids keeps =
       let old : List Node = list_of kids in
-      let all : List Node = entry_list c old in
-      ap (first_child id) (written-master c i at kids) ∙ ap (find (λ n. id_of n == id)) (list-nodes all)
+      let all : List Node = entry_list c stored old in
+      ap (first_child id) (written-master c stored i at kids) ∙ ap (find (λ n. id_of n == id)) (list-nodes all)
       ∙ find-filter (λ n. id_of n == id) all ∙ ap first_in (keeps old) ∙ sym (find-filter (λ n. id_of n == id) old)
 
   -- The first TrackType stays, too.
-  pub type-kept : (i at : ℕ) (kids : Nodes) → first_child TRACK_TYPE (written_entry c (master i at kids)) ≡ first_child TRACK_TYPE (master i at kids)
-  type-kept i at kids = first-kept TRACK_TYPE i at kids (λ ns. part-others c ns TRACK_TYPE refl refl refl refl)
+  pub type-kept : (i at : ℕ) (kids : Nodes) → first_child TRACK_TYPE (written_entry c stored (master i at kids)) ≡ first_child TRACK_TYPE (master i at kids)
+  type-kept i at kids = first-kept TRACK_TYPE i at kids (λ ns. part-others c stored ns TRACK_TYPE refl refl refl refl)
 
-  codec-kept : (i at : ℕ) (kids : Nodes) → first_child CODEC_ID (written_entry c (master i at kids)) ≡ first_child CODEC_ID (master i at kids)
-  codec-kept i at kids = first-kept CODEC_ID i at kids (λ ns. part-others c ns CODEC_ID refl refl refl refl)
+  codec-kept : (i at : ℕ) (kids : Nodes) → first_child CODEC_ID (written_entry c stored (master i at kids)) ≡ first_child CODEC_ID (master i at kids)
+  codec-kept i at kids = first-kept CODEC_ID i at kids (λ ns. part-others c stored ns CODEC_ID refl refl refl refl)
 
-  duration-kept : (i at : ℕ) (kids : Nodes) → first_child DEFAULT_DURATION (written_entry c (master i at kids)) ≡ first_child DEFAULT_DURATION (master i at kids)
-  duration-kept i at kids = first-kept DEFAULT_DURATION i at kids (λ ns. part-others c ns DEFAULT_DURATION refl refl refl refl)
+  duration-kept : (i at : ℕ) (kids : Nodes) → first_child DEFAULT_DURATION (written_entry c stored (master i at kids)) ≡ first_child DEFAULT_DURATION (master i at kids)
+  duration-kept i at kids = first-kept DEFAULT_DURATION i at kids (λ ns. part-others c stored ns DEFAULT_DURATION refl refl refl refl)
 
-  number-set : (i at : ℕ) (kids : Nodes) → CanBeSet c → number_of (written_entry c (master i at kids)) ≡ c.number
+  number-set : (i at : ℕ) (kids : Nodes) → CanBeSet c → number_of (written_entry c stored (master i at kids)) ≡ c.number
   number-set i at kids can =
-      let all : List Node = entry_list c (list_of kids) in
-      let found : first_child TRACK_NUMBER (written_entry c (master i at kids)) ≡ Some (uint_leaf TRACK_NUMBER c.number) =
-      ap (first_child TRACK_NUMBER) (written-master c i at kids) ∙ ap (find (λ n. id_of n == TRACK_NUMBER)) (list-nodes all)
-      ∙ find-filter (λ n. id_of n == TRACK_NUMBER) all ∙ ap first_in (part-number c (list_of kids)) in
+      let all : List Node = entry_list c stored (list_of kids) in
+      let found : first_child TRACK_NUMBER (written_entry c stored (master i at kids)) ≡ Some (uint_leaf TRACK_NUMBER c.number) =
+      ap (first_child TRACK_NUMBER) (written-master c stored i at kids) ∙ ap (find (λ n. id_of n == TRACK_NUMBER)) (list-nodes all)
+      ∙ find-filter (λ n. id_of n == TRACK_NUMBER) all ∙ ap first_in (part-number c stored (list_of kids)) in
       ap (λ o. unwrap_or (option_map integer_of o) (unwrap_or (uint_default TRACK_NUMBER) 0)) found ∙ uint_value-octets TRACK_NUMBER c.number (uint_octets c.number) can.number refl
 
 -- It has the number that it was given.
-pub written-number : (c : TrackChange) (entry : Node) → CanBeSet c → IsWholeEntry entry → number_of (written_entry c entry) ≡ c.number
-written-number c (leaf id at body) can whole = let never = whole.master in absurd (cc)
-written-number c (master id at kids) can whole = number-set c id at kids can
+pub written-number : (c : TrackChange) (stored : Bool) (entry : Node) → CanBeSet c → IsWholeEntry entry → number_of (written_entry c stored entry) ≡ c.number
+written-number c stored (leaf id at body) can whole = let never = whole.master in absurd (cc)
+written-number c stored (master id at kids) can whole = number-set c stored id at kids can
 
--- It has no ContentEncodings.
-pub written-plain : (c : TrackChange) (entry : Node) → IsWholeEntry entry → HasNoEncodings (written_entry c entry)
-written-plain c (leaf id at body) whole = let never = whole.master in absurd (cc)
-written-plain c (master id at kids) whole =
-    let all : List Node = entry_list c (list_of kids) in
-    ap (first_child CONTENT_ENCODINGS) (written-master c id at kids) ∙ ap (find (λ n. id_of n == CONTENT_ENCODINGS)) (list-nodes all)
-    ∙ find-filter (λ n. id_of n == CONTENT_ENCODINGS) all ∙ ap first_in (part-encodings c (list_of kids))
+-- It has its own ContentEncodings if its frames are taken as they are stored, and none otherwise.
+pub written-encodings : (c : TrackChange) (stored : Bool) (entry : Node) → IsWholeEntry entry
+    → part CONTENT_ENCODINGS (children (written_entry c stored entry)) ≡ (if stored then part CONTENT_ENCODINGS (children entry) else [])
+written-encodings c stored (leaf id at body) whole = let never = whole.master in absurd (cc)
+written-encodings c stored (master id at kids) whole =
+    let all : List Node = entry_list c stored (list_of kids) in
+    ap (λ (n : Node). part CONTENT_ENCODINGS (children n)) (written-master c stored id at kids) ∙ ap (part CONTENT_ENCODINGS) (list-nodes all) ∙ part-encodings c stored (list_of kids)
 
 -- The written entry of a track is an entry of a track.
-pub written-track : (c : TrackChange) (entry : Node) → CanBeSet c → IsWholeEntry entry → IsTrack entry → IsTrack (written_entry c entry)
-written-track c (leaf id at body) can whole track = let never = whole.master in absurd (cc)
-written-track c (master id at kids) can whole track =
+pub written-track : (c : TrackChange) (stored : Bool) (entry : Node) → CanBeSet c → IsWholeEntry entry → IsTrack entry → IsTrack (written_entry c stored entry)
+written-track c stored (leaf id at body) can whole track = let never = whole.master in absurd (cc)
+written-track c stored (master id at kids) can whole track =
     let some = can.some in
-    let number = number-set c id at kids can in
+    let number = number-set c stored id at kids can in
     let Q : Option Node → Type 0 = IsSome in
     let R : Option Node → Type 0 = λ o. IfSome (option_map integer_of o) (λ d. d < too_long) in
     record {
       number = omega arith;
-      type = subst Q (sym (type-kept c id at kids)) track.type;
-      codec = subst Q (sym (codec-kept c id at kids)) track.codec;
-      duration = subst R (sym (duration-kept c id at kids)) track.duration;
+      type = subst Q (sym (type-kept c stored id at kids)) track.type;
+      codec = subst Q (sym (codec-kept c stored id at kids)) track.codec;
+      duration = subst R (sym (duration-kept c stored id at kids)) track.duration;
     }

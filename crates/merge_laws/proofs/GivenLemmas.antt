@@ -6,8 +6,8 @@ use Rattle.std.specs.List.{All}
 use Rattle.std.proofs.lemmas.List.Elements.{All-cons, All-filter, All-head, All-map, All-nil, All-tail, All-weaker}
 use Rattle.ebml_numbers.specs.Number.{AreOctets}
 use Rattle.mkv_schema.specs.Outline.{first_damage}
-use Rattle.file_format.specs.Encoding.{prefix_of, usable_causes}
-use Rattle.file_format.proofs.EncodingLemmas.{usable-few}
+use Rattle.track_records.specs.Usable.{causes_of, prefix_for}
+use Rattle.track_records.proofs.UsableLemmas.{prefix-short}
 use Rattle.track_records.specs.declared.track.Track.{Track}
 use Rattle.block_format.specs.Block.{Block}
 use Rattle.block_format.specs.Elements.{with_limits}
@@ -38,7 +38,7 @@ pub record CanBePlaced (g : Given) : Type 0 where
 
 taken-placing : (shift : ℕ) (t : TakenTrack) → shift ≤ MAX_SHIFT → IsTaken t → IsPlacing (placing_for shift t)
 taken-placing shift t fits is =
-    let few = usable-few t.track.entry (first_damage (usable_causes t.track.entry)) (prefix_of t.track.entry) refl is.usable refl in
+    let few = prefix-short t.track (first_damage (causes_of t.track)) (prefix_for t.track) refl is.usable refl in
     record { delay = is.near; shift = fits; prefix = few }
 
 -- A timestamp from a file is small enough for a block, for any file.

@@ -44,7 +44,7 @@ use Rattle.mkv_lines.specs.declared.status.Status.{Status}
 use Rattle.mkv_lines.specs.declared.status.Status.TheVariants as status
 use Rattle.merge_laws.specs.Merge.{HoldsLanes, HoldsOutput, IsMerged, laid_out, lanes_selected}
 use Rattle.merge_laws.specs.Sources.{AreSources, HoldsOctets}
-use Rattle.merge_laws.proofs.DocumentLemmas.{document-ids, document-plain, document-scale, document-sound, document_with}
+use Rattle.merge_laws.proofs.DocumentLemmas.{document-ids, document-encodings, document-scale, document-sound, document_with}
 use Rattle.merge_laws.proofs.ExactLemmas.{blocks-exact}
 use Rattle.merge_laws.proofs.LaneLemmas.{lanes-as_many, lanes-free}
 use Rattle.merge_laws.proofs.LoadLemmas.{loads-kept}
@@ -72,12 +72,12 @@ module _ (words : MergeWords) (sources : List Source) (sound : IsSoundMerge word
     sound-one : length (layout document) ≤ LONGEST_FILE → IsSoundDocument document
     sound-one = document-sound words sources sound texts are number files part have filled is.blocks
 
-    holds-one : length (layout document) ≤ LONGEST_FILE → HoldsOutput words (output_with words sources number files part) (layout document)
+    holds-one : length (layout document) ≤ LONGEST_FILE → HoldsOutput words sources (output_with words sources number files part) (layout document)
     holds-one short =
         let good = sound-one short in
         record {
           document = layout-read document good;
-          plain = document-plain words sources sound texts are;
+          encodings = document-encodings words sources sound texts are;
           blocks = blocks-exact document (limits_of words) part.blocks good refl ∙ ap (λ (s : ℕ). map (block_in_place s 0) part.blocks) (document-scale words sources sound texts are number);
         }
 
@@ -98,8 +98,8 @@ module _ (words : MergeWords) (sources : List Source) (sound : IsSoundMerge word
   documents-sound = outputs-hold words sources sound are (λ (o : PlannedOutput). length (layout o.document) ≤ LONGEST_FILE → IsSoundDocument o.document) have sound-one
 
   -- The written bytes hold the output.
-  pub layouts-hold : All (λ (o : PlannedOutput). length (layout o.document) ≤ LONGEST_FILE → HoldsOutput words o (layout o.document)) (outputs_of words sources)
-  layouts-hold = outputs-hold words sources sound are (λ (o : PlannedOutput). length (layout o.document) ≤ LONGEST_FILE → HoldsOutput words o (layout o.document)) have holds-one
+  pub layouts-hold : All (λ (o : PlannedOutput). length (layout o.document) ≤ LONGEST_FILE → HoldsOutput words sources o (layout o.document)) (outputs_of words sources)
+  layouts-hold = outputs-hold words sources sound are (λ (o : PlannedOutput). length (layout o.document) ≤ LONGEST_FILE → HoldsOutput words sources o (layout o.document)) have holds-one
 
   -- They hold all output tracks, if the merge isn't split.
   layouts-hold_lanes : All (λ (o : PlannedOutput). length (layout o.document) ≤ LONGEST_FILE → HoldsLanes words sources o (layout o.document)) (outputs_of words sources)

@@ -84,7 +84,8 @@ use Rattle.mkv_merge.specs.declared.refusal.Refusal.TheVariants.{Plan}
 use Rattle.requests.specs.Texts.{HasTexts, AreTexts}
 use Rattle.merge_laws.specs.Sources.{HoldsOctets, IsReadSource, IsReadTrack, AreSources, is_taken_type}
 use Rattle.merge_laws.proofs.PlaceLemmas.{placed-read}
-use Rattle.merge_laws.proofs.TextLemmas.{entries-within, text-read, text-uids, text-usable}
+use Rattle.merge_laws.proofs.TextLemmas.{entries-within, text-read, text-uids}
+use Rattle.merge_inputs.proofs.TextLemmas.{text-usable}
 use Rattle.merge_laws.proofs.TreeLemmas.{HasChildrenRead, tree_of-children, entries-octets, uid-small, IsOfOctets}
 
 -- ---- an Element that was read as a tree
@@ -287,7 +288,7 @@ taken-read : (words : FileWords) (list : List Track) → IsSoundFile words → H
 taken-read words list sound has tracks usable =
     let taken : List TakenTrack = taken_from words 0 list in
     let good = AreTaken-read words list taken refl tracks.read sound usable in
-    let uids = taken-tracks (λ (t : Track). t.uid < 2 ^ 64) words list tracks.uids in
+    let uids = taken-tracks (λ (t : Track). t.uid < 2 ^ 64) words list (λ b t is. is) tracks.uids in
     let types = taken-types words list in
     let texts = taken-texts words list has in
     λ k d below. record { taken = good k d below; kind = types k d below; uid = uids k d below; name = (texts k d below).name; language = (texts k d below).language; language_tag = (texts k d below).language_tag }

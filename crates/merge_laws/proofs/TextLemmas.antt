@@ -241,11 +241,3 @@ text-read = record {
 -- Its identifier has 64 bits.
 pub text-uids : All (λ (t : Track). t.uid < 2 ^ 64) (track_of text_entry ∷ [])
 text-uids = only (λ (t : Track). t.uid < 2 ^ 64) (omega (arith, says.uid))
-
--- Its frames can be used.
-pub text-usable : (words : FileWords) → first_unusable (taken_from words 0 (track_of text_entry ∷ [])) ≡ None
-text-usable words = of (is_taken words 0 (track_of text_entry).kind)
-  where
-    of : (taken : Bool) → first_unusable ((if taken then taken_track words 0 (track_of text_entry) ∷ [] else []) ++ []) ≡ None
-    of true = ap first_damage (append-nil (usable_causes text_entry)) ∙ is_usable
-    of false = refl

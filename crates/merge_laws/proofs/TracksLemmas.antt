@@ -1,6 +1,6 @@
 -- The Tracks of a merge are valid, with tracks numbered from 1 on.
 use Rattle.std.proofs.Common.{◌≡◌, ◌≢◌, ◌<◌, ◌≤◌, ℕ, zero, suc, ◌+◌, ◌^◌, ◌==◌, cond, List, [], ◌∷◌, length, map, filter, get_or, refl, sym, ap, subst, ◌∙◌, arith, None}
-use Rattle.std.specs.List.{All, AllPairs}
+use Rattle.std.specs.List.{All, AllPairs, AllZip}
 use Rattle.std.proofs.lemmas.List.{length-map}
 use Rattle.std.proofs.lemmas.List.Elements.{All-nil, All-cons, All-head, All-tail, All-map, All-weaker}
 use Rattle.mkv_schema.specs.declared.ids.TheConstants.{TRACKS, TRACK_ENTRY}
@@ -24,9 +24,9 @@ use Rattle.output_records.proofs.OutputLemmas.{entry-stands}
 use Rattle.merge_inputs.specs.declared.taken.TakenTrack.{TakenTrack}
 use Rattle.merge_plan.specs.Records.{change_of, entry_of, entries_from, entries_of, uids_of}
 use Rattle.merge_plan.proofs.RecordLemmas.{length-uids}
-use Rattle.merge_laws.specs.Merge.{HasNoEncodings}
+use Rattle.merge_laws.specs.Merge.{HasEncodingsOf}
 use Rattle.merge_laws.specs.Sources.{IsReadTrack}
-use Rattle.merge_laws.proofs.EntryLemmas.{CanBeSet, taken-whole, written-whole, written-number, written-plain, written-track}
+use Rattle.merge_laws.proofs.EntryLemmas.{CanBeSet, taken-whole, written-whole, written-encodings, written-number, written-track}
 
 -- ---- the entries
 
@@ -34,7 +34,6 @@ use Rattle.merge_laws.proofs.EntryLemmas.{CanBeSet, taken-whole, written-whole, 
 record IsWritten (entry : Node) : Type 0 where
   whole : IsWholeEntry entry
   track : IsTrack entry
-  plain : HasNoEncodings entry
 
 can-be : (number uid : ℕ) (t : TakenTrack) → 0 < number → number < 2 ^ 64 → uid < 2 ^ 64 → IsReadTrack t → CanBeSet (change_of number uid t)
 can-be number uid t some small own read = record { some = some; number = small; uid = own; name = read.name; language = read.language; language_tag = read.language_tag }
@@ -47,8 +46,18 @@ entries-written number (uid ∷ uids) (t ∷ taken) some small own read =
     let can = can-be number uid t some (omega arith) (All-head (λ (n : ℕ). n < 2 ^ 64) uid uids own) first in
     let whole = taken-whole t first.taken in
     All-cons IsWritten (entry_of number uid t) (entries_from (number + 1) uids taken)
-    (record { whole = written-whole (change_of number uid t) t.track.entry can whole; track = written-track (change_of number uid t) t.track.entry can whole first.taken.track; plain = written-plain (change_of number uid t) t.track.entry whole })
+    (record { whole = written-whole (change_of number uid t) t.track.stored t.track.entry can whole; track = written-track (change_of number uid t) t.track.stored t.track.entry can whole first.taken.track })
     (entries-written (number + 1) uids taken (omega arith) (omega arith) (All-tail (λ (n : ℕ). n < 2 ^ 64) uid uids own) (All-tail IsReadTrack t taken read))
+
+entries-encodings : (number : ℕ) (uids : List ℕ) (taken : List TakenTrack) → length uids ≡ length taken → All IsReadTrack taken → AllZip HasEncodingsOf taken (entries_from number uids taken)
+entries-encodings number [] [] long read = tt
+entries-encodings number [] (t ∷ taken) long read = absurd (omega arith)
+entries-encodings number (uid ∷ uids) [] long read = absurd (omega arith)
+entries-encodings number (uid ∷ uids) (t ∷ taken) long read =
+    let first = All-head IsReadTrack t taken read in (
+      written-encodings (change_of number uid t) t.track.stored t.track.entry (taken-whole t first.taken),
+      entries-encodings (number + 1) uids taken (omega (arith, long)) (All-tail IsReadTrack t taken read),
+    )
 
 entries-numbers : (number : ℕ) (uids : List ℕ) (taken : List TakenTrack) → 0 < number → number + length taken < 2 ^ 64 → All (λ uid. uid < 2 ^ 64) uids → All IsReadTrack taken → CountFrom number (map number_of (entries_from number uids taken))
 entries-numbers number [] taken some small own read = tt
@@ -56,7 +65,7 @@ entries-numbers number (uid ∷ uids) [] some small own read = tt
 entries-numbers number (uid ∷ uids) (t ∷ taken) some small own read =
     let first = All-head IsReadTrack t taken read in
     let can = can-be number uid t some (omega arith) (All-head (λ (n : ℕ). n < 2 ^ 64) uid uids own) first in (
-      written-number (change_of number uid t) t.track.entry can (taken-whole t first.taken),
+      written-number (change_of number uid t) t.track.stored t.track.entry can (taken-whole t first.taken),
       entries-numbers (number + 1) uids taken (omega arith) (omega arith) (All-tail (λ (n : ℕ). n < 2 ^ 64) uid uids own) (All-tail IsReadTrack t taken read),
     )
 
@@ -153,11 +162,11 @@ module _ (taken : List TakenTrack) (read : All IsReadTrack taken) (few : length 
       let count = entries-numbers 1 (uids_of taken) taken (omega arith) (omega arith) uids-small read in
       tracks-of (entries_of taken) all count (omega (arith, entries-count taken)) short
 
-  -- No entry has ContentEncodings.
-  pub taken-plain : All HasNoEncodings (track.entries_of (output_tracks (entries_of taken)))
-  taken-plain =
+  -- The entries have the ContentEncodings of tracks that are taken as they are stored, and no others.
+  pub taken-encodings : AllZip HasEncodingsOf taken (track.entries_of (output_tracks (entries_of taken)))
+  taken-encodings =
       let all = entries-written 1 (uids_of taken) taken (omega arith) (omega arith) uids-small read in
-      subst (All HasNoEncodings) (sym (written-all (entries_of taken) all)) (All-weaker IsWritten HasNoEncodings (λ e w. w.plain) (entries_of taken) all)
+      subst (AllZip HasEncodingsOf taken) (sym (written-all (entries_of taken) all)) (entries-encodings 1 (uids_of taken) taken (length-uids taken) read)
 
   -- Each entry is one output track.
   pub taken-lanes : length (track.entries_of (output_tracks (entries_of taken))) ≡ length taken

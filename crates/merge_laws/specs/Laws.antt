@@ -40,7 +40,7 @@ MergedDocumentsAreSound =
 abbrev pub LayoutsHoldOutputs : Type 0
 LayoutsHoldOutputs =
     (words : MergeWords) (sources : List Source) → IsSoundMerge words → AreTexts words → AreSources words sources → HaveRecords sources
-    → All (λ (o : PlannedOutput). length (layout o.document) ≤ LONGEST_FILE → HoldsOutput words o (layout o.document)) (outputs_of words sources)
+    → All (λ (o : PlannedOutput). length (layout o.document) ≤ LONGEST_FILE → HoldsOutput words sources o (layout o.document)) (outputs_of words sources)
 
 -- the name of the planned output `o`, and its blocks in order. The law that a merge without `--split` has one output compares only this pair, and so
 -- does a law of `generate`.

@@ -1,10 +1,12 @@
 -- Contents that hold a merge. RFC 9559 defines contents; this project defines the merge that they must hold.
-use Rattle.std.specs.Prelude.{◌≡◌, ⊤, ℕ, false, List, All, IfSome, Option, None, Some, Ok, filter, length, map}
+use Rattle.std.specs.Prelude.{◌≡◌, ⊤, ℕ, false, if◌then◌else◌, List, [], All, IfSome, Option, None, Some, Ok, filter, length, map}
 use Rattle.mkv_io.specs.Names.{Names}
 use Rattle.mkv_io.specs.Told.{IfVisible}
 use Rattle.mkv_outputs.specs.Outputs.{Output, with_outputs}
 use Rattle.mkv_schema.specs.declared.ids.TheConstants.{CONTENT_ENCODINGS}
-use Rattle.tree_format.specs.Node.{Node}
+use Rattle.std.specs.List.{AllZip}
+use Rattle.tree_format.specs.Node.{Node, children}
+use Rattle.tree_format.specs.Changes.{part}
 use Rattle.tree_format.specs.Values.{first_child}
 use Rattle.file_format.specs.Entry.{entries_of}
 use Rattle.block_format.specs.Block.{Block}
@@ -24,7 +26,10 @@ use Rattle.splitter.specs.Words.{size_of}
 use Rattle.part_size.specs.Laws.{AllButLast, IsFull, IsSmall}
 use Rattle.remux_plan.specs.Parts.{PlannedOutput}
 use Rattle.requests.specs.declared.merge.MergeWords.{MergeWords}
+use Rattle.merge_inputs.specs.declared.taken.TakenTrack.{TakenTrack}
+use Rattle.merge_plan.specs.Front.{reads_of}
 use Rattle.merge_plan.specs.Plan.{Source, lanes_given, lanes_taken}
+use Rattle.merge_plan.specs.Records.{tracks_taken}
 use Rattle.mkv_args.specs.Words.{command}
 use Rattle.mkv_args.specs.declared.command.Command.TheVariants.{Merge}
 use Rattle.mkv_merge.specs.Merge.{blocks_of, outputs_of, sources_of, split_of}
@@ -56,19 +61,24 @@ abbrev pub blocks_held : PlannedOutput → List ℕ → List Block
 blocks_held o bytes = map without_place (blocks_found (events_read o bytes))
 
 -- The TrackEntry `entry` has no ContentEncodings, so the frames of its track are stored unchanged. It is promised for each track of an output of
--- `merge` and `generate`.
+-- `generate`.
 abbrev pub HasNoEncodings : Node → Type 0
 HasNoEncodings entry = first_child CONTENT_ENCODINGS entry ≡ None
+
+-- The TrackEntry `entry` has the ContentEncodings of the selected track `t`, all of them, if its frames are taken as they are stored. Otherwise it has
+-- none, so its frames are stored unchanged. `HoldsOutput` promises it for the track that begins each output track.
+abbrev pub HasEncodingsOf : TakenTrack → Node → Type 0
+HasEncodingsOf t entry = part CONTENT_ENCODINGS (children entry) ≡ (if t.track.stored then part CONTENT_ENCODINGS (children t.track.entry) else [])
 
 -- ---- the merge
 
 -- The content `bytes` holds the output `o` of the merge `words`, as `IsMerged` promises. It is read by the format's definition, without a reader's
--- limits. It is the output's document: undamaged, with its scale, records, Seeks and cue points, each at its block. The frames of its tracks are
--- stored unchanged. Its blocks are the output's, each once and in order. They keep their frames, laces and flags; timestamps, durations and
--- references have the nanoseconds of their ticks.
-pub record HoldsOutput (words : MergeWords) (o : PlannedOutput) (bytes : List ℕ) : Type 0 where
+-- limits. It is the output's document: undamaged, with its scale, records, Seeks and cue points, each at its block. Each of its tracks has the
+-- ContentEncodings of the track of `sources` that begins it, if that one is taken as it is stored, and otherwise none. Its blocks are the output's,
+-- each once and in order. They keep their frames, laces and flags; timestamps, durations and references have the nanoseconds of their ticks.
+pub record HoldsOutput (words : MergeWords) (sources : List Source) (o : PlannedOutput) (bytes : List ℕ) : Type 0 where
   pub document : IsReadAs o.document bytes
-  pub plain : All HasNoEncodings (entries_of o.document.front.tracks)
+  pub encodings : AllZip HasEncodingsOf (tracks_taken (reads_of sources)) (entries_of o.document.front.tracks)
   pub blocks : blocks_held o bytes ≡ map (block_in_place words.scale 0) o.blocks
 
 -- If the merge `words` of `sources` isn't split, the content `bytes` of its output `o` has the selected blocks of each output track. `IsMerged`
@@ -113,7 +123,7 @@ pub record IsMerged (world : List ℕ → Option (List ℕ)) (words : MergeWords
   pub short : AreShort words sources
   pub sound : All (λ (o : PlannedOutput). IsSoundDocument o.document) (outputs_of words sources)
   pub written : new ≡ with_outputs (Some world) (map laid_out (outputs_of words sources))
-  pub holds : All (λ (o : PlannedOutput). HoldsOutput words o (layout o.document)) (outputs_of words sources)
+  pub holds : All (λ (o : PlannedOutput). HoldsOutput words sources o (layout o.document)) (outputs_of words sources)
   pub lanes : All (λ (o : PlannedOutput). HoldsLanes words sources o (layout o.document)) (outputs_of words sources)
   pub parts : ArePartsOf (split_of words sources) (blocks_of words sources) (map (λ (o : PlannedOutput). o.blocks) (outputs_of words sources))
   pub loads : IfSome (size_of words.split) (KeepsLimit (split_of words sources) (blocks_of words sources))

@@ -1,5 +1,5 @@
 -- The default durations of tracks that are merged again.
-use Rattle.std.proofs.Common.{◌≡◌, ◌<◌, ◌≤◌, ℕ, ◌+◌, ◌^◌, List, [], ◌∷◌, length, map, All, Option, refl, sym, ap, ap₂, ◌∙◌, arith}
+use Rattle.std.proofs.Common.{◌≡◌, ◌<◌, ◌≤◌, ℕ, ◌+◌, ◌^◌, false, List, [], ◌∷◌, length, map, All, Option, refl, sym, ap, ap₂, ◌∙◌, arith}
 use Rattle.std.specs.List.{AllZip}
 use Rattle.std.specs.Option.{option_map}
 use Rattle.std.proofs.lemmas.List.{length-map}
@@ -35,9 +35,9 @@ abbrev Small : ℕ → Type 0
 Small n = n < 2 ^ 64
 
 -- A written entry has the default duration of the entry.
-duration-written : (c : TrackChange) (e : Node) → IsMaster e → default_duration_of (written_entry c e) ≡ default_duration_of e
+duration-written : (c : TrackChange) (e : Node) → IsMaster e → default_duration_of (written_entry c false e) ≡ default_duration_of e
 duration-written c (leaf id at body) is = absurd (cc)
-duration-written c (master id at kids) is = ap (option_map integer_of) (first-kept c DEFAULT_DURATION id at kids (λ ns. part-others c ns DEFAULT_DURATION refl refl refl refl))
+duration-written c (master id at kids) is = ap (option_map integer_of) (first-kept c false DEFAULT_DURATION id at kids (λ ns. part-others c false ns DEFAULT_DURATION refl refl refl refl))
 
 durations-written : (number : ℕ) (uids : List ℕ) (es : List Node) → length uids ≡ length es → All IsWholeEntry es
     → map default_duration_of (written_entries (plain_changes number uids) es) ≡ map default_duration_of es

@@ -27,6 +27,7 @@ use Rattle.output_model.specs.Sound.{IsRecord}
 use Rattle.track_records.specs.declared.track.Track.{Track}
 use Rattle.track_records.specs.declared.track_change.TrackChange.{TrackChange}
 use Rattle.track_records.specs.Entry.{IsWholeEntry, written_entry}
+use Rattle.track_records.specs.Usable.{causes_of}
 use Rattle.track_records.specs.Sound.{IsEntry}
 use Rattle.track_records.proofs.EntriesLemmas.{entries-room, entries-sound}
 use Rattle.meta_records.proofs.CausesLemmas.{first_damage-behind}
@@ -50,6 +51,7 @@ use Rattle.merge_inputs.specs.Input.{InputRead}
 use Rattle.merge_inputs.specs.Taken.{IsTaken, first_unusable, taken_from}
 use Rattle.merge_inputs.specs.declared.taken.TakenTrack.{TakenTrack}
 use Rattle.merge_inputs.proofs.TakenLemmas.{taken-tracks}
+use Rattle.merge_laws.proofs.SourceLemmas.{taken-all}
 use Rattle.merge_plan.specs.Records.{change_of, chapters_of, entries_from, entry_of, tags_of, tracks_of_output, tracks_taken, uids_of}
 use Rattle.merge_plan.specs.Records.{entries_of as entries_given}
 use Rattle.merge_plan.specs.Refusal.{lanes_refusal, no_lane, not_webm, plan_refusal, records_refusal, too_many_lanes, where_so}
@@ -183,8 +185,8 @@ all-whole number [] es some few small whole = All-nil IsWholeEntry
 all-whole number (uid ∷ uids) [] some few small whole = All-nil IsWholeEntry
 all-whole number (uid ∷ uids) (e ∷ es) some few small whole =
     let can : CanBeSet (plain number uid) = record { some = some; number = omega arith; uid = All-head Small uid uids small; name = tt; language = tt; language_tag = tt } in
-    All-cons IsWholeEntry (written_entry (plain number uid) e) (written_entries (plain_changes (number + 1) uids) es)
-    (written-whole (plain number uid) e can (All-head IsWholeEntry e es whole))
+    All-cons IsWholeEntry (written_entry (plain number uid) false e) (written_entries (plain_changes (number + 1) uids) es)
+    (written-whole (plain number uid) false e can (All-head IsWholeEntry e es whole))
     (all-whole (number + 1) uids es (omega arith) (omega arith) (All-tail Small uid uids small) (All-tail IsWholeEntry e es whole))
 
 tree-entries : (es : List Node) → All IsWholeEntry es → IsTree TRACKS (output_tracks es)
@@ -318,13 +320,15 @@ HasOneScale e = IfSome (option_map passes (first_child TRACK_TIMESTAMP_SCALE e))
 abbrev CanBeUsed : Node → Type 0
 CanBeUsed e = first_damage (usable_causes e) ≡ None
 
-scale-found : (e : Node) → CanBeUsed e → HasOneScale e
-scale-found e used = of (first_child TRACK_TIMESTAMP_SCALE e) (second-cause (bad_encoding e) (bad_scale e) used)
+scale-found : (t : Track) → first_damage (causes_of t) ≡ None → HasOneScale t.entry
+scale-found t used = of (first_child TRACK_TIMESTAMP_SCALE t.entry) (scale-cause t.stored (bad_encoding t.entry) (bad_scale t.entry) used)
   where
-    second-cause : (a b : Option Damage) → first_damage (a ∷ b ∷ []) ≡ None → b ≡ None
-    second-cause None None nothing = refl
-    second-cause None (Some d) nothing = absurd (cc)
-    second-cause (Some d) b nothing = absurd (cc)
+    scale-cause : (stored : Bool) (a b : Option Damage) → first_damage (if stored then b ∷ [] else (a ∷ b ∷ [])) ≡ None → b ≡ None
+    scale-cause true a None nothing = refl
+    scale-cause true a (Some d) nothing = absurd (cc)
+    scale-cause false None None nothing = refl
+    scale-cause false None (Some d) nothing = absurd (cc)
+    scale-cause false (Some d) b nothing = absurd (cc)
 
     of : (o : Option Node) → option_and_then (λ n. where_it (not (passes n)) (damage TrackScale TRACK_TIMESTAMP_SCALE (offset_of n))) o ≡ None
         → IfSome (option_map passes o) (λ (b : Bool). b ≡ true)
@@ -344,11 +348,11 @@ scale-good e is = of (first_child TRACK_TIMESTAMP_SCALE e) is
     of (Some n) is = ap (λ (b : Bool). where_it (not b) (damage TrackScale TRACK_TIMESTAMP_SCALE (offset_of n))) is
 
 -- A written entry has the scale of the entry.
-scale-written : (c : TrackChange) (e : Node) → IsMaster e → HasOneScale e → HasOneScale (written_entry c e)
-scale-written c (leaf id at body) is scale = let never : true ≡ false = is in absurd (cc)
-scale-written c (master id at kids) is scale =
+scale-written : (c : TrackChange) (stored : Bool) (e : Node) → IsMaster e → HasOneScale e → HasOneScale (written_entry c stored e)
+scale-written c stored (leaf id at body) is scale = let never : true ≡ false = is in absurd (cc)
+scale-written c stored (master id at kids) is scale =
     subst (λ (o : Option Node). IfSome (option_map passes o) (λ (b : Bool). b ≡ true))
-    (sym (first-kept c TRACK_TIMESTAMP_SCALE id at kids (λ ns. part-others c ns TRACK_TIMESTAMP_SCALE refl refl refl refl))) scale
+    (sym (first-kept c stored TRACK_TIMESTAMP_SCALE id at kids (λ ns. part-others c stored ns TRACK_TIMESTAMP_SCALE refl refl refl refl))) scale
 
 scales-from : (number : ℕ) (uids : List ℕ) (taken : List TakenTrack) → All IsTaken taken → All HasOneScale (entries_from number uids taken)
 scales-from number [] taken are = All-nil HasOneScale
@@ -356,7 +360,7 @@ scales-from number (uid ∷ uids) [] are = All-nil HasOneScale
 scales-from number (uid ∷ uids) (t ∷ taken) are =
     let first : IsTaken t = All-head IsTaken t taken are in
     All-cons HasOneScale (entry_of number uid t) (entries_from (number + 1) uids taken)
-    (scale-written (change_of number uid t) t.track.entry (taken-master t first) (scale-found t.track.entry first.usable))
+    (scale-written (change_of number uid t) t.track.stored t.track.entry (taken-master t first) (scale-found t.track first.usable))
     (scales-from (number + 1) uids taken (All-tail IsTaken t taken are))
 
 -- An entry without ContentEncodings can be used after writing.
@@ -377,16 +381,18 @@ tracks-used (e ∷ es) (t ∷ ts) are bare scales =
     (subst CanBeUsed (sym are.0.stands.1) (entry-used e are.0.stands.0 (All-head IsBare e es bare) (All-head HasOneScale e es scales)))
     (tracks-used es ts are.1 (All-tail IsBare e es bare) (All-tail HasOneScale e es scales))
 
-none-unusable : (taken : List TakenTrack) → All (λ (t : TakenTrack). CanBeUsed t.track.entry) taken → first_unusable taken ≡ None
-none-unusable [] used = refl
-none-unusable (t ∷ taken) used =
-    first_damage-behind (usable_causes t.track.entry) (flat_map (λ (k : TakenTrack). usable_causes k.track.entry) taken)
-    (All-head (λ (k : TakenTrack). CanBeUsed k.track.entry) t taken used)
-    ∙ none-unusable taken (All-tail (λ (k : TakenTrack). CanBeUsed k.track.entry) t taken used)
+none-unusable : (taken : List TakenTrack) → All (λ (t : TakenTrack). t.track.stored ≡ false) taken → All (λ (t : TakenTrack). CanBeUsed t.track.entry) taken → first_unusable taken ≡ None
+none-unusable [] undone used = refl
+none-unusable (t ∷ taken) undone used =
+    let own : first_damage (causes_of t.track) ≡ None =
+    ap (λ (stored : Bool). first_damage (if stored then bad_scale t.track.entry ∷ [] else usable_causes t.track.entry)) (All-head (λ (k : TakenTrack). k.track.stored ≡ false) t taken undone)
+    ∙ All-head (λ (k : TakenTrack). CanBeUsed k.track.entry) t taken used in
+    first_damage-behind (causes_of t.track) (flat_map (λ (k : TakenTrack). causes_of k.track) taken) own
+    ∙ none-unusable taken (All-tail (λ (k : TakenTrack). k.track.stored ≡ false) t taken undone) (All-tail (λ (k : TakenTrack). CanBeUsed k.track.entry) t taken used)
 
 -- The tracks that are read from entries of a merge can be used if these have no ContentEncodings.
 pub usable-again : (name : List ℕ) (taken : List TakenTrack) (read : List Track) → All IsTaken taken → All IsBare (entries_given taken)
     → AllZip IsTrackOf (entries_given taken) read → first_unusable (taken_from (plain_file name) 0 read) ≡ None
 usable-again name taken read are bare say =
-    none-unusable (taken_from (plain_file name) 0 read)
-    (taken-tracks (λ (t : Track). CanBeUsed t.entry) (plain_file name) read (tracks-used (entries_given taken) read say bare (scales-from 1 (uids_of taken) taken are)))
+    none-unusable (taken_from (plain_file name) 0 read) (taken-all (λ (t : TakenTrack). t.track.stored ≡ false) (plain_file name) 0 read (λ k t took. refl))
+    (taken-tracks (λ (t : Track). CanBeUsed t.entry) (plain_file name) read (λ b t is. is) (tracks-used (entries_given taken) read say bare (scales-from 1 (uids_of taken) taken are)))

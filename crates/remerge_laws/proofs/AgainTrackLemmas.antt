@@ -150,10 +150,15 @@ changes_from number (uid ∷ uids) (t ∷ taken) = change_of number uid t ∷ ch
 abbrev entries_in : List TakenTrack → List Node
 entries_in taken = map (λ (t : TakenTrack). t.track.entry) taken
 
-entries-changed : (number : ℕ) (uids : List ℕ) (taken : List TakenTrack) → entries_from number uids taken ≡ written_entries (changes_from number uids taken) (entries_in taken)
-entries-changed number [] taken = refl
-entries-changed number (uid ∷ uids) [] = refl
-entries-changed number (uid ∷ uids) (t ∷ taken) = ap (λ (ns : List Node). entry_of number uid t ∷ ns) (entries-changed (number + 1) uids taken)
+abbrev IsUndone : TakenTrack → Type 0
+IsUndone t = t.track.stored ≡ false
+
+entries-changed : (number : ℕ) (uids : List ℕ) (taken : List TakenTrack) → All IsUndone taken → entries_from number uids taken ≡ written_entries (changes_from number uids taken) (entries_in taken)
+entries-changed number [] taken undone = refl
+entries-changed number (uid ∷ uids) [] undone = refl
+entries-changed number (uid ∷ uids) (t ∷ taken) undone =
+    ap₂ (λ (stored : Bool) (ns : List Node). written_entry (change_of number uid t) stored t.track.entry ∷ ns) (All-head IsUndone t taken undone)
+    (entries-changed (number + 1) uids taken (All-tail IsUndone t taken undone))
 
 changes-uids : (number : ℕ) (uids : List ℕ) (taken : List TakenTrack) → length uids ≡ length taken → map (λ (c : TrackChange). c.uid) (changes_from number uids taken) ≡ uids
 changes-uids number [] taken long = refl
@@ -197,7 +202,7 @@ plain-entries : (name : List ℕ) (id number : ℕ) (uids : List ℕ) (ts : List
 plain-entries name id number [] ts = refl
 plain-entries name id number (uid ∷ uids) [] = refl
 plain-entries name id number (uid ∷ uids) (t ∷ ts) =
-    ap (λ (ns : List Node). written_entry (plain number uid) t.entry ∷ ns) (plain-entries name (id + 1) (number + 1) uids ts)
+    ap (λ (ns : List Node). written_entry (plain number uid) false t.entry ∷ ns) (plain-entries name (id + 1) (number + 1) uids ts)
 
 pub entries-plain : (name : List ℕ) (tracks : Node) (read : List Track) → ArePlainTracks tracks → AreTracksOf tracks read
     → entries_given (taken_from (plain_file name) 0 read) ≡ written_entries (plain_changes 1 (uids_of (taken_from (plain_file name) 0 read))) (map (λ (t : Track). t.entry) read)
@@ -211,12 +216,12 @@ plain-uids name id [] = refl
 plain-uids name id (e ∷ es) = ap (λ (us : List ℕ). uid_of e ∷ us) (plain-uids name (id + 1) es)
 
 pub entries-again : TracksStay → EntriesAreWrittenAgain
-entries-again stay name taken read are small plain of_them =
+entries-again stay name taken read are undone small plain of_them =
     let uids : List ℕ = uids_of taken in
     let changes : List TrackChange = changes_from 1 uids taken in
     let tracks : Node = master TRACKS 0 (nodes_of (entries_given taken)) in
     let long : length uids ≡ length taken = numbers-settle.each (map (λ (t : TakenTrack). t.track.uid) taken) ∙ length-map taken (λ (t : TakenTrack). t.track.uid) in
-    let first : entries_given taken ≡ written_entries changes (entries_in taken) = entries-changed 1 uids taken in
+    let first : entries_given taken ≡ written_entries changes (entries_in taken) = entries-changed 1 uids taken undone in
     let of_written : AreTracksOf (master TRACKS 0 (nodes_of (written_entries changes (entries_in taken)))) read =
     subst (λ (ns : List Node). AreTracksOf (master TRACKS 0 (nodes_of ns)) read) first of_them in
     let numbered : AreNumbered 1 (renumbered (map uid_of (entries_in taken))) changes = (

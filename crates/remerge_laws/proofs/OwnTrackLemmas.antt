@@ -1,5 +1,5 @@
 -- The entries that are read from an output are the written ones.
-use Rattle.std.proofs.Common.{◌≡◌, ℕ, ◌+◌, ◌==◌, cond, List, [], ◌∷◌, length, map, filter, All, refl, sym, ap, ◌∙◌}
+use Rattle.std.proofs.Common.{◌≡◌, ℕ, ◌+◌, ◌==◌, Bool, false, cond, List, [], ◌∷◌, length, map, filter, All, refl, sym, ap, ◌∙◌}
 use Rattle.std.proofs.lemmas.List.Elements.{All-nil, All-cons, All-head, All-tail}
 use Rattle.mkv_schema.specs.declared.ids.TheConstants.{TRACKS, TRACK_ENTRY}
 use Rattle.tree_format.specs.Node.{Node, leaf, master, nodes_of, id_of}
@@ -34,8 +34,8 @@ all_removed-id : (ids : List ℕ) (n : Node) → id_of (removed_each ids n) ≡ 
 all_removed-id [] n = refl
 all_removed-id (id ∷ ids) n = all_removed-id ids (removed_in id n) ∙ removed-id id n
 
-pub written-id : (c : TrackChange) (entry : Node) → id_of (written_entry c entry) ≡ id_of entry
-written-id c entry = each-id (children_set c) (removed_each (ids_removed c.language) entry) ∙ all_removed-id (ids_removed c.language) entry
+pub written-id : (c : TrackChange) (stored : Bool) (entry : Node) → id_of (written_entry c stored entry) ≡ id_of entry
+written-id c stored entry = each-id (children_set c) (removed_each (ids_removed stored c.language) entry) ∙ all_removed-id (ids_removed stored c.language) entry
 
 -- `n` is a TrackEntry.
 abbrev IsOne : Node → Type 0
@@ -45,8 +45,8 @@ written-ones : (changes : List TrackChange) (entries : List Node) → All IsWhol
 written-ones [] entries whole = All-nil IsOne
 written-ones (c ∷ cs) [] whole = All-nil IsOne
 written-ones (c ∷ cs) (e ∷ es) whole =
-    All-cons IsOne (written_entry c e) (written_entries cs es)
-    (written-id c e ∙ (All-head IsWholeEntry e es whole).id)
+    All-cons IsOne (written_entry c false e) (written_entries cs es)
+    (written-id c false e ∙ (All-head IsWholeEntry e es whole).id)
     (written-ones cs es (All-tail IsWholeEntry e es whole))
 
 -- ---- all Elements that are read are entries

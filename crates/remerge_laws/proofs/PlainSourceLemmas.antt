@@ -33,6 +33,8 @@ use Rattle.merge_laws.specs.Sources.{IsReadSource}
 use Rattle.merge_laws.proofs.DocumentLemmas.{title-is, tracks-are}
 use Rattle.merge_laws.proofs.SourceLemmas.{input-taken, numbered-ok, taken-all, then-ok, were-read}
 use Rattle.remerge_laws.specs.PlainSources.{SourcesArePlain}
+use Rattle.track_records.specs.Usable.{as_stored}
+use Rattle.merge_inputs.specs.declared.taken.TakenTrack.{TakenTrack}
 use Rattle.remerge_laws.specs.Repeat.{IsDefault}
 use Rattle.remerge_laws.proofs.RepeatTrackLemmas.{HasUsualCues}
 
@@ -56,19 +58,24 @@ title-whole title is = of (list_any (λ b. b == 0) title) refl is
 
 -- ---- cue points
 
-abbrev HasNoCueWords : FileWords → Type 0
-HasNoCueWords f = f.cues ≡ []
+-- The track has default cue points, and its frames aren't taken as they are stored.
+abbrev IsUsual : TakenTrack → Type 0
+IsUsual t = HasUsualCues t × (t.track.stored ≡ false)
 
--- The selected tracks of an input have default cue points.
+abbrev HasUsualWords : FileWords → Type 0
+HasUsualWords f = (f.cues ≡ []) × (f.keep_encodings ≡ false)
+
+-- The selected tracks of an input are so.
 abbrev HaveUsualCues : InputRead → Type 0
-HaveUsualCues i = All HasUsualCues i.taken
+HaveUsualCues i = All IsUsual i.taken
 
-input-usual : (words : FileWords) (webm : Bool) (held : ℕ) (bytes : List ℕ) (read : InputRead) → HasNoCueWords words → input_of words webm held bytes ≡ Ok read → HaveUsualCues read
+input-usual : (words : FileWords) (webm : Bool) (held : ℕ) (bytes : List ℕ) (read : InputRead) → HasUsualWords words → input_of words webm held bytes ≡ Ok read → HaveUsualCues read
 input-usual words webm held bytes read none is =
     let found = input-taken words webm held bytes read is in
-    subst (All HasUsualCues) found.1 (taken-all HasUsualCues words 0 found.0 (λ k t took. ap (λ (pairs : List (ℕ × CueWord)). value_for k pairs) none))
+    subst (All IsUsual) found.1
+    (taken-all IsUsual words 0 found.0 (λ k t took. (ap (λ (pairs : List (ℕ × CueWord)). value_for k pairs) none.0, ap (λ (keep : Bool). keep && (as_stored t).stored) none.1)))
 
-inputs-usual : (webm : Bool) (k held : ℕ) (files : List FileWords) (contents : List (List ℕ)) (reads : List InputRead) → All HasNoCueWords files
+inputs-usual : (webm : Bool) (k held : ℕ) (files : List FileWords) (contents : List (List ℕ)) (reads : List InputRead) → All HasUsualWords files
     → inputs_from webm k held (zip files contents) ≡ Ok reads → All HaveUsualCues reads
 inputs-usual webm k held [] contents reads none is = let same : [] ≡ reads = cc in subst (All HaveUsualCues) same (All-nil HaveUsualCues)
 inputs-usual webm k held (f ∷ fs) [] reads none is = let same : [] ≡ reads = cc in subst (All HaveUsualCues) same (All-nil HaveUsualCues)
@@ -77,8 +84,8 @@ inputs-usual webm k held (f ∷ fs) (c ∷ cs) reads none is =
     let read : InputRead = first.0 in
     let others = then-ok (inputs_from webm (suc k) (counted held read.held) (zip fs cs)) _ reads first.1.1 in
     let made : read ∷ others.0 ≡ reads = (let last = others.1.1 in cc) in
-    let own = input-usual f webm held c read (All-head HasNoCueWords f fs none) (numbered-ok k (input_of f webm held c) read first.1.0) in
-    let rest = inputs-usual webm (suc k) (counted held read.held) fs cs others.0 (All-tail HasNoCueWords f fs none) others.1.0 in
+    let own = input-usual f webm held c read (All-head HasUsualWords f fs none) (numbered-ok k (input_of f webm held c) read first.1.0) in
+    let rest = inputs-usual webm (suc k) (counted held read.held) fs cs others.0 (All-tail HasUsualWords f fs none) others.1.0 in
     subst (All HaveUsualCues) made (All-cons HaveUsualCues read others.0 own rest)
 
 first-usual : (chapters : Option Node) (reads : List InputRead) → All HaveUsualCues reads → All HaveUsualCues (first_with with_chapters chapters reads)
@@ -99,7 +106,7 @@ timed-usual files input (r ∷ rs) each =
     All-cons HaveUsualCues (with_listings (listings_at input files) r) (timed_from files (suc input) rs) (All-head HaveUsualCues r rs each)
     (timed-usual files (suc input) rs (All-tail HaveUsualCues r rs each))
 
--- The tracks of a source have default cue points.
+-- The tracks of a source are so.
 abbrev HasUsualTracks : Source → Type 0
 HasUsualTracks s = HaveUsualCues s.1
 
@@ -114,15 +121,15 @@ placed-usual time (s ∷ ss) each =
     All-cons HasUsualTracks (begun_at time s) (in_place_from (end_of (begun_at time s)) ss) (All-head HasUsualTracks s ss each)
     (placed-usual (end_of (begun_at time s)) ss (All-tail HasUsualTracks s ss each))
 
-cues-usual : (world : List ℕ → Option (List ℕ)) (words : MergeWords) (sources : List Source) → IsDefault words → sources_of world words ≡ Ok sources → All HasUsualCues (tracks_taken (reads_of sources))
+cues-usual : (world : List ℕ → Option (List ℕ)) (words : MergeWords) (sources : List Source) → IsDefault words → sources_of world words ≡ Ok sources → All IsUsual (tracks_taken (reads_of sources))
 cues-usual world words sources usual is =
     let were = were-read world words sources is in
     let contents = contents_held world words in
     let headed = chaptered with_chapters words.webm were.given.chapters were.found in
     let timed = timed_from were.given.times 0 headed in
-    let found = inputs-usual words.webm 0 0 words.files contents were.found usual.cues were.read in
+    let found = inputs-usual words.webm 0 0 words.files contents were.found (λ k d below. (usual.cues k d below, usual.undone k d below)) were.read in
     let each = timed-usual were.given.times 0 headed (chaptered-usual words.webm were.given.chapters were.found found) in
-    tracks-are HasUsualCues sources (subst (All HasUsualTracks) were.placed (placed-usual 0 (zip contents timed) (zipped-usual contents timed each)))
+    tracks-are IsUsual sources (subst (All HasUsualTracks) were.placed (placed-usual 0 (zip contents timed) (zipped-usual contents timed each)))
 
 -- ---- together
 
@@ -130,7 +137,8 @@ pub sources-plain : TitlesAreTexts → SourcesAreRead → SourcesArePlain
 sources-plain titles read world line words sources holds utf8 asked usual is =
     let are = read world words sources holds (command-sound line (Merge words) asked) (asked-texts line words utf8 asked) is in
     record {
-      cues = cues-usual world words sources usual is;
+      cues = All-weaker IsUsual HasUsualCues (λ t each. each.0) (tracks_taken (reads_of sources)) (cues-usual world words sources usual is);
+      undone = All-weaker IsUsual (λ (t : TakenTrack). t.track.stored ≡ false) (λ t each. each.1) (tracks_taken (reads_of sources)) (cues-usual world words sources usual is);
       title = title-is HasNoZero refl words sources (IfSome_then words.title (titles line words asked) title-whole)
           (All-weaker IsReadSource (λ (s : Source). HasNoZero s.1.title) (λ s each. each.whole) sources are.each);
     }

@@ -92,6 +92,7 @@ pub record ArePlain (words : MergeWords) (sources : List Source) : Type 0 where
   pub taken : All IsTaken (tracks_taken (reads_of sources))
   pub types : All (λ (t : TakenTrack). is_taken_type t.track.kind ≡ true) (tracks_taken (reads_of sources))
   pub cues : All (λ (t : TakenTrack). t.cues ≡ None) (tracks_taken (reads_of sources))
+  pub undone : All (λ (t : TakenTrack). t.track.stored ≡ false) (tracks_taken (reads_of sources))
   pub title : HasNoZero (title_of words (reads_of sources))
   pub short : Have64Bits (identifiers_of (reads_of sources))
   pub records : HaveRecords sources
@@ -251,7 +252,7 @@ module _ (tracks_stay : TracksStay) (chapters_stay : ChaptersStay) (tags_stay : 
     entries-alike : map octets (entries_given (s.1.taken ++ [])) ≡ map octets (entries_given taken)
     entries-alike =
         ap (λ (ts : List TakenTrack). map octets (entries_given ts)) (append-nil s.1.taken)
-        ∙ entries-again tracks_stay name taken r.tracks are.taken are.short.tracks plain-tracks of_d.tracks
+        ∙ entries-again tracks_stay name taken r.tracks are.taken are.undone are.short.tracks plain-tracks of_d.tracks
 
     tracks-alike : AreAlike d.front.tracks (tracks_of_output (s.1 ∷ []))
     tracks-alike = record { id = refl; some = refl; same = ap (kept_octets TRACKS) (sym (same-joined (entries_given (s.1.taken ++ [])) (entries_given taken) entries-alike)) }

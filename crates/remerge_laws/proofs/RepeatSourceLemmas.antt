@@ -1,9 +1,13 @@
 -- The output of a merge of plain sources is repeated.
-use Rattle.std.proofs.Common.{◌≡◌, ◌≤◌, ℕ, List, [], length, All, None, refl, sym, ap, subst, ◌∙◌}
-use Rattle.std.proofs.lemmas.List.Elements.{All-head, All-weaker}
+use Rattle.std.proofs.Common.{◌≡◌, ◌≤◌, ℕ, ◌==◌, Bool, false, if◌then◌else◌, List, [], ◌∷◌, length, All, None, refl, sym, ap, subst, ◌∙◌}
+use Rattle.std.specs.List.{AllZip}
+use Rattle.std.proofs.lemmas.List.Elements.{All-cons, All-head, All-nil, All-tail, All-weaker}
 use Rattle.mkv_io.specs.declared.outside.TheConstants.{LONGEST_FILE}
 use Rattle.mkv_schema.specs.declared.ids.TheConstants.{CONTENT_ENCODINGS}
-use Rattle.tree_format.specs.Node.{Node}
+use Rattle.tree_format.specs.Node.{Node, id_of, children}
+use Rattle.tree_format.specs.Changes.{part}
+use Rattle.record_laws.proofs.TrackLemmas.{find-filter, first_in}
+use Rattle.merge_inputs.specs.declared.taken.TakenTrack.{TakenTrack}
 use Rattle.tree_format.specs.Values.{first_child}
 use Rattle.file_format.specs.Entry.{entries_of}
 use Rattle.output_model.specs.Document.{Document, layout}
@@ -24,7 +28,7 @@ use Rattle.merge_plan.specs.Records.{tracks_taken}
 use Rattle.mkv_merge.specs.Merge.{outputs_of}
 use Rattle.mkv_merge.specs.Records.{HaveRecords}
 use Rattle.merge_laws.specs.Laws.{LayoutsHoldOutputs, MergedDocumentsAreSound}
-use Rattle.merge_laws.specs.Merge.{HoldsOutput}
+use Rattle.merge_laws.specs.Merge.{HasEncodingsOf, HoldsOutput}
 use Rattle.merge_laws.specs.Sources.{AreSources, IsReadSource, IsReadTrack}
 use Rattle.merge_laws.proofs.DocumentLemmas.{all-tracks}
 use Rattle.merge_laws.proofs.LaneLemmas.{lanes-count, lanes-free}
@@ -44,9 +48,20 @@ use Rattle.remerge_laws.proofs.WholeLemmas.{one-document, whole-planned}
 all-taken : (sources : List Source) → All IsReadSource sources → All IsTaken (tracks_taken (reads_of sources))
 all-taken sources each = All-weaker IsReadTrack IsTaken (λ t read. read.taken) (tracks_taken (reads_of sources)) (all-tracks sources each)
 
+-- Without tracks that are taken as they are stored, no entry has ContentEncodings.
+none-kept : (taken : List TakenTrack) (es : List Node) → All (λ (t : TakenTrack). t.track.stored ≡ false) taken → AllZip HasEncodingsOf taken es → All (λ (entry : Node). first_child CONTENT_ENCODINGS entry ≡ None) es
+none-kept [] [] undone are = All-nil (λ (entry : Node). first_child CONTENT_ENCODINGS entry ≡ None)
+none-kept [] (e ∷ es) undone are = absurd are
+none-kept (t ∷ taken) [] undone are = absurd are
+none-kept (t ∷ taken) (e ∷ es) undone are =
+    All-cons (λ (entry : Node). first_child CONTENT_ENCODINGS entry ≡ None) e es
+    (find-filter (λ n. id_of n == CONTENT_ENCODINGS) (children e)
+    ∙ ap first_in (are.0 ∙ ap (λ (stored : Bool). if stored then part CONTENT_ENCODINGS (children t.track.entry) else []) (All-head (λ (k : TakenTrack). k.track.stored ≡ false) t taken undone)))
+    (none-kept taken es (All-tail (λ (k : TakenTrack). k.track.stored ≡ false) t taken undone) are.1)
+
 -- ---- together
 
-module _ (documents_sound : MergedDocumentsAreSound) (layouts_hold : LayoutsHoldOutputs) (words : MergeWords) (sources : List Source) (usual : IsDefault words) (good : IsSoundMerge words) (texts : AreTexts words) (are : AreSources words sources) (records : HaveRecords sources) (later : EndsAfterStart (whole_document words sources)) (within : IsWithinLimits (layout (whole_document words sources))) where
+module _ (documents_sound : MergedDocumentsAreSound) (layouts_hold : LayoutsHoldOutputs) (words : MergeWords) (sources : List Source) (usual : IsDefault words) (good : IsSoundMerge words) (texts : AreTexts words) (are : AreSources words sources) (records : HaveRecords sources) (later : EndsAfterStart (whole_document words sources)) (within : IsWithinLimits (layout (whole_document words sources))) (undone : All (λ (t : TakenTrack). t.track.stored ≡ false) (tracks_taken (reads_of sources))) where
   abbrev d : Document
   d = whole_document words sources
 
@@ -60,9 +75,9 @@ module _ (documents_sound : MergedDocumentsAreSound) (layouts_hold : LayoutsHold
   document-sound =
       (one-of-all (λ (o : PlannedOutput). length (layout o.document) ≤ LONGEST_FILE → IsSoundDocument o.document) (documents_sound words sources good texts are records)).2 within.short
 
-  holds : (o : PlannedOutput) × (o.document ≡ d) × HoldsOutput words o (layout d)
+  holds : (o : PlannedOutput) × (o.document ≡ d) × HoldsOutput words sources o (layout d)
   holds =
-      let found = one-of-all (λ (o : PlannedOutput). length (layout o.document) ≤ LONGEST_FILE → HoldsOutput words o (layout o.document)) (layouts_hold words sources good texts are records) in
+      let found = one-of-all (λ (o : PlannedOutput). length (layout o.document) ≤ LONGEST_FILE → HoldsOutput words sources o (layout o.document)) (layouts_hold words sources good texts are records) in
       (record { name = found.0; blocks = found.1; document = d }, refl, found.2 within.short)
 
   taken : All IsTaken (tracks_taken (reads_of sources))
@@ -81,8 +96,10 @@ module _ (documents_sound : MergedDocumentsAreSound) (layouts_hold : LayoutsHold
         octets-keep (as_read d) written.sound (whole-planned words sources are.unrefused) (subst IsWithinLimits (sym written.same) within);
   }
     where
-      plain_one : (o : PlannedOutput) × (o.document ≡ d) × HoldsOutput words o (layout d) → All (λ (entry : Node). first_child CONTENT_ENCODINGS entry ≡ None) (entries_of d.front.tracks)
-      plain_one found = subst (λ (e : Document). All (λ (entry : Node). first_child CONTENT_ENCODINGS entry ≡ None) (entries_of e.front.tracks)) found.1 found.2.plain
+      plain_one : (o : PlannedOutput) × (o.document ≡ d) × HoldsOutput words sources o (layout d) → All (λ (entry : Node). first_child CONTENT_ENCODINGS entry ≡ None) (entries_of d.front.tracks)
+      plain_one found =
+          subst (λ (e : Document). All (λ (entry : Node). first_child CONTENT_ENCODINGS entry ≡ None) (entries_of e.front.tracks)) found.1
+          (none-kept (tracks_taken (reads_of sources)) (entries_of found.0.document.front.tracks) undone found.2.encodings)
 
 pub outputs-repeated : TracksStay → ChaptersStay → TagsStay → LanesAreReadAgain → MergedDocumentsAreSound → LayoutsHoldOutputs → OutputsAreRepeated
 outputs-repeated tracks_stay chapters_stay tags_stay lanes_stay documents_sound layouts_hold words sources out name usual good texts are records plain later within =
@@ -90,10 +107,11 @@ outputs-repeated tracks_stay chapters_stay tags_stay lanes_stay documents_sound 
       taken = all-taken sources are.each;
       types = All-weaker IsReadTrack IsOfTakenType (λ t read. read.kind) (tracks_taken (reads_of sources)) (all-tracks sources are.each);
       cues = plain.cues;
+      undone = plain.undone;
       title = plain.title;
       short = records.numbers;
       records = records;
       unrefused = are.unrefused;
     } in
     repeated tracks_stay chapters_stay tags_stay lanes_stay words sources out name usual known
-    (plain-document documents_sound layouts_hold words sources usual good texts are records later within)
+    (plain-document documents_sound layouts_hold words sources usual good texts are records later within plain.undone)

@@ -1,5 +1,5 @@
 -- The values of the entries that a merge writes for its selected tracks.
-use Rattle.std.proofs.Common.{◌≡◌, ◌<◌, ℕ, ◌+◌, ◌^◌, ◌==◌, true, false, List, [], ◌∷◌, length, map, find, All, Option, None, refl, sym, ap, ap₂, ◌∙◌}
+use Rattle.std.proofs.Common.{◌≡◌, ◌<◌, ℕ, ◌+◌, ◌^◌, ◌==◌, Bool, true, false, List, [], ◌∷◌, length, map, find, All, Option, None, refl, sym, ap, ap₂, ◌∙◌}
 use Rattle.std.specs.Prelude.{unwrap_or}
 use Rattle.std.specs.Option.{option_map}
 use Rattle.std.proofs.lemmas.List.Elements.{All-nil, All-cons, All-head, All-tail}
@@ -33,19 +33,19 @@ use Rattle.remerge_laws.proofs.OwnTrackLemmas.{written-id}
 
 -- ---- an entry
 
-first-is : (c : TrackChange) (id : ℕ) (i at : ℕ) (ns : List Node) → first_child id (master i at (nodes_of (entry_list c ns))) ≡ first_in (part id (entry_list c ns))
-first-is c id i at ns = ap (find (λ n. id_of n == id)) (list-nodes (entry_list c ns)) ∙ find-filter (λ n. id_of n == id) (entry_list c ns)
+first-is : (c : TrackChange) (stored : Bool) (id : ℕ) (i at : ℕ) (ns : List Node) → first_child id (master i at (nodes_of (entry_list c stored ns))) ≡ first_in (part id (entry_list c stored ns))
+first-is c stored id i at ns = ap (find (λ n. id_of n == id)) (list-nodes (entry_list c stored ns)) ∙ find-filter (λ n. id_of n == id) (entry_list c stored ns)
 
-type-kept : (c : TrackChange) (entry : Node) → IsMaster entry → type_of (written_entry c entry) ≡ type_of entry
-type-kept c (leaf id at body) is = let never : true ≡ false = is in absurd (cc)
-type-kept c (master id at kids) is =
-    ap (λ (o : Option Node). unwrap_or (option_map integer_of o) (unwrap_or (uint_default TRACK_TYPE) 0)) (first-type c id at kids)
+type-kept : (c : TrackChange) (stored : Bool) (entry : Node) → IsMaster entry → type_of (written_entry c stored entry) ≡ type_of entry
+type-kept c stored (leaf id at body) is = let never : true ≡ false = is in absurd (cc)
+type-kept c stored (master id at kids) is =
+    ap (λ (o : Option Node). unwrap_or (option_map integer_of o) (unwrap_or (uint_default TRACK_TYPE) 0)) (first-type c stored id at kids)
 
-uid-set : (c : TrackChange) (entry : Node) → IsMaster entry → c.uid < 2 ^ 64 → uid_of (written_entry c entry) ≡ c.uid
-uid-set c (leaf id at body) is small = let never : true ≡ false = is in absurd (cc)
-uid-set c (master id at kids) is small =
-    ap uid_of (written-master c id at kids)
-    ∙ ap (λ (o : Option Node). unwrap_or (option_map integer_of o) (unwrap_or (uint_default TRACK_UID) 0)) (first-is c TRACK_UID id at (list_of kids) ∙ ap first_in (part-uid c (list_of kids)))
+uid-set : (c : TrackChange) (stored : Bool) (entry : Node) → IsMaster entry → c.uid < 2 ^ 64 → uid_of (written_entry c stored entry) ≡ c.uid
+uid-set c stored (leaf id at body) is small = let never : true ≡ false = is in absurd (cc)
+uid-set c stored (master id at kids) is small =
+    ap uid_of (written-master c stored id at kids)
+    ∙ ap (λ (o : Option Node). unwrap_or (option_map integer_of o) (unwrap_or (uint_default TRACK_UID) 0)) (first-is c stored TRACK_UID id at (list_of kids) ∙ ap first_in (part-uid c stored (list_of kids)))
     ∙ uint_value-octets TRACK_UID c.uid (uint_octets c.uid) small refl
 
 pub taken-master : (t : TakenTrack) → IsTaken t → IsMaster t.track.entry
@@ -61,7 +61,7 @@ from-ones number [] taken are = All-nil IsOne
 from-ones number (uid ∷ uids) [] are = All-nil IsOne
 from-ones number (uid ∷ uids) (t ∷ taken) are =
     All-cons IsOne (entry_of number uid t) (entries_from (number + 1) uids taken)
-    (written-id (change_of number uid t) t.track.entry ∙ (All-head IsTaken t taken are).entry.id) (from-ones (number + 1) uids taken (All-tail IsTaken t taken are))
+    (written-id (change_of number uid t) t.track.stored t.track.entry ∙ (All-head IsTaken t taken are).entry.id) (from-ones (number + 1) uids taken (All-tail IsTaken t taken are))
 
 pub entries-are : (taken : List TakenTrack) → All IsTaken taken → entries_of (output_tracks (entries_given taken)) ≡ entries_given taken
 entries-are taken are = entries-all (entries_given taken) (from-ones 1 (uids_of taken) taken are)
@@ -76,7 +76,7 @@ abbrev pub HasUsualCues : TakenTrack → Type 0
 HasUsualCues t = t.cues ≡ None
 
 entry-type : (number uid : ℕ) (t : TakenTrack) → IsTaken t → type_of (entry_of number uid t) ≡ t.track.kind
-entry-type number uid t is = type-kept (change_of number uid t) t.track.entry (taken-master t is) ∙ sym (ap (λ (k : Track). k.kind) is.said)
+entry-type number uid t is = type-kept (change_of number uid t) t.track.stored t.track.entry (taken-master t is) ∙ sym (ap (λ (k : Track). k.kind) is.said)
 
 pub types-from : (number : ℕ) (uids : List ℕ) (taken : List TakenTrack) → All IsTaken taken → All IsOfTakenType taken → All HasTypeTaken (entries_from number uids taken)
 types-from number [] taken are types = All-nil HasTypeTaken
@@ -103,7 +103,7 @@ uids-from : (number : ℕ) (uids : List ℕ) (taken : List TakenTrack) → lengt
 uids-from number [] taken long are small = refl
 uids-from number (uid ∷ uids) [] long are small = absurd (cc)
 uids-from number (uid ∷ uids) (t ∷ taken) long are small =
-    ap₂ (λ (u : ℕ) us. u ∷ us) (uid-set (change_of number uid t) t.track.entry (taken-master t (All-head IsTaken t taken are)) (All-head Small uid uids small))
+    ap₂ (λ (u : ℕ) us. u ∷ us) (uid-set (change_of number uid t) t.track.stored t.track.entry (taken-master t (All-head IsTaken t taken are)) (All-head Small uid uids small))
     (uids-from (number + 1) uids taken (cc) (All-tail IsTaken t taken are) (All-tail Small uid uids small))
 
 pub rules-given : (taken : List TakenTrack) → All IsTaken taken → All HasUsualCues taken → map (λ (entry : Node). default_rule (type_of entry)) (entries_given taken) ≡ map rule_of taken

@@ -1,7 +1,7 @@
 -- The output tracks of an output that is merged by itself: RFC 9559, sections 5.1.3 (Cluster Element) and 10 (Cluster Blocks). This is this project's
 -- promise.
 use Rattle.std.specs.Prelude.{◌≡◌, pos, false, List, [], ◌∷◌, length, map, All, None}
-use Rattle.file_format.specs.Encoding.{prefix_of}
+use Rattle.track_records.specs.Usable.{prefix_for}
 use Rattle.file_format.specs.Info.{scale_of}
 use Rattle.output_model.specs.declared.heads.ClusterLimits.{ClusterLimits}
 use Rattle.output_model.specs.Cluster.{clusters}
@@ -23,7 +23,7 @@ use Rattle.mkv_merge.specs.Merge.{has_damage}
 -- output that is merged by itself. `IsReadOfOutput` uses it.
 pub record IsTakenPlain (t : TakenTrack) : Type 0 where
   pub undelayed : t.delay ≡ pos 0
-  pub prefix : prefix_of t.track.entry ≡ []
+  pub prefix : prefix_for t.track ≡ []
 
 -- The input `again` is read from the output with the document `d`. It has the blocks of the output's Clusters, without damage, at the scale of its
 -- Info. It isn't appended, and no file lists its timestamps. Its tracks are selected plain, and their numbers count from 1. A condition of

@@ -1,5 +1,5 @@
 -- The tracks of an output that is merged by itself: RFC 9559, section 5.1.4 (Tracks Element). This is this project's promise.
-use Rattle.std.specs.Prelude.{◌≡◌, ◌<◌, ◌^◌, ℕ, true, List, length, map, All, None}
+use Rattle.std.specs.Prelude.{◌≡◌, ◌<◌, ◌^◌, ℕ, true, false, List, length, map, All, None}
 use Rattle.mkv_schema.specs.declared.ids.TheConstants.{CONTENT_ENCODINGS, TRACKS}
 use Rattle.tree_format.specs.Node.{Node, master, nodes_of}
 use Rattle.tree_format.specs.NormalForm.{octets}
@@ -40,10 +40,11 @@ TracksAreTakenAgain =
     (name : List ℕ) (tracks : Node) (read : List Track) → ArePlainTracks tracks → AreTracksOf tracks read
     → AreTakenOf tracks (taken_from (plain_file name) 0 read)
 
--- A merge of the selected tracks `taken` wrote TrackEntries, which are read from the file `name` as `read`. If they are plain and have identifiers of
--- 64 bits, a merge of `name` without options writes them as they were. The law `entries_are_written_again` states it.
+-- A merge of the selected tracks `taken`, none of them taken as it is stored, wrote TrackEntries, which are read from the file `name` as `read`. If
+-- they are plain and have identifiers of 64 bits, a merge of `name` without options writes them as they were. The law `entries_are_written_again`
+-- states it.
 abbrev pub EntriesAreWrittenAgain : Type 0
 EntriesAreWrittenAgain =
-    (name : List ℕ) (taken : List TakenTrack) (read : List Track) → All IsTaken taken → All (λ n. n < 2 ^ 64) (uids_of taken)
+    (name : List ℕ) (taken : List TakenTrack) (read : List Track) → All IsTaken taken → All (λ (t : TakenTrack). t.track.stored ≡ false) taken → All (λ n. n < 2 ^ 64) (uids_of taken)
     → ArePlainTracks (master TRACKS 0 (nodes_of (entries_given taken))) → AreTracksOf (master TRACKS 0 (nodes_of (entries_given taken))) read
     → map octets (entries_given (taken_from (plain_file name) 0 read)) ≡ map octets (entries_given taken)

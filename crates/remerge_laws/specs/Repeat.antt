@@ -27,7 +27,7 @@ use Rattle.remerge_laws.specs.AsRead.{EndsAfterStart, as_read}
 use Rattle.remerge_laws.specs.Plain.{merge_again}
 use Rattle.remerge_laws.specs.Whole.{whole_document}
 
--- The command line `words` asks for no WebM, cue points, parts or identifiers, and has the default ticks (1,000,000 ns) and Cluster limits (65,535
+-- The command line `words` asks for no WebM, cue points, parts or identifiers, takes no track as it is stored, and has the default ticks (1,000,000 ns) and Cluster limits (65,535
 -- blocks, 5 s). A condition on the first merge in the law that an output, merged by itself, is written as it was.
 pub record IsDefault (words : MergeWords) : Type 0 where
   pub webm : words.webm ≡ false
@@ -37,11 +37,13 @@ pub record IsDefault (words : MergeWords) : Type 0 where
   pub split : words.split ≡ None
   pub uuids : words.uuids ≡ []
   pub cues : All (λ (f : FileWords). f.cues ≡ []) words.files
+  pub undone : All (λ (f : FileWords). f.keep_encodings ≡ false) words.files
 
--- The sources `sources` of the merge `words` are plain. Only the types of their tracks decide on cue points, and the title of the output has no zero
--- byte. A condition of `OutputsAreRepeated`.
+-- The sources `sources` of the merge `words` are plain. Only the types of their tracks decide on cue points, no frames are taken as they are stored,
+-- and the title of the output has no zero byte. A condition of `OutputsAreRepeated`.
 pub record ArePlainSources (words : MergeWords) (sources : List Source) : Type 0 where
   pub cues : All (λ (t : TakenTrack). t.cues ≡ None) (tracks_taken (reads_of sources))
+  pub undone : All (λ (t : TakenTrack). t.track.stored ≡ false) (tracks_taken (reads_of sources))
   pub title : HasNoZero (title_of words (reads_of sources))
 
 -- the output with the document `d` and the name `name`, as the source of a merge without options. `r` are the records that were read from it. Used by

@@ -133,18 +133,18 @@ module _ (id : ℕ) (times : Listing) (bytes : List ℕ) (segment : Header) (r :
         → (t : TakenTrack) → StandsAt r.tracks t → given_for more shift events t ≡ given_for fewer shift events t
     given-one same found none t stands = by_value (value-more t.id id times before behind none)
       where
-        own : Track → Given
-        own each = track_given (placing_for shift t) each.number events
+        own : ℕ → Given
+        own number = track_given (placing_for shift t) number events
 
         by_value : (value_for t.id more ≡ value_for t.id fewer) ⊎ ((value_for t.id fewer ≡ None) × ((value_for t.id more ≡ Some times) × (id ≡ t.id)))
-            → timed_given (value_for t.id more) 0 (own t.track) ≡ timed_given (value_for t.id fewer) 0 (own t.track)
-        by_value (inl is) = ap (λ (o : Option Listing). timed_given o 0 (own t.track)) is
+            → timed_given (value_for t.id more) 0 (own t.track.number) ≡ timed_given (value_for t.id fewer) 0 (own t.track.number)
+        by_value (inl is) = ap (λ (o : Option Listing). timed_given o 0 (own t.track.number)) is
         by_value (inr is) =
-            let one : track ≡ t.track = some-same track t.track (sym found ∙ ap (slice_get r.tracks) is.1.1 ∙ stands) in
-            let given : timed_given (Some times) 0 (own track) ≡ timed_given None 0 (own track) = ap (λ (bs : List Block). record (own track) { blocks = bs }) same in
-            ap (λ (o : Option Listing). timed_given o 0 (own t.track)) is.1.0
-            ∙ subst (λ (each : Track). timed_given (Some times) 0 (own each) ≡ timed_given None 0 (own each)) one given
-            ∙ ap (λ (o : Option Listing). timed_given o 0 (own t.track)) (sym is.0)
+            let one : track.number ≡ t.track.number = some-same track.number t.track.number (ap (option_map (λ (k : Track). k.number)) (sym found ∙ ap (slice_get r.tracks) is.1.1) ∙ stands) in
+            let given : timed_given (Some times) 0 (own track.number) ≡ timed_given None 0 (own track.number) = ap (λ (bs : List Block). record (own track.number) { blocks = bs }) same in
+            ap (λ (o : Option Listing). timed_given o 0 (own t.track.number)) is.1.0
+            ∙ subst (λ (number : ℕ). timed_given (Some times) 0 (own number) ≡ timed_given None 0 (own number)) one given
+            ∙ ap (λ (o : Option Listing). timed_given o 0 (own t.track.number)) (sym is.0)
 
     given-all : (taken : List TakenTrack) → ((t : TakenTrack) → StandsAt r.tracks t → given_for more shift events t ≡ given_for fewer shift events t) → All (StandsAt r.tracks) taken
         → map (given_for more shift events) taken ≡ map (given_for fewer shift events) taken

@@ -1,5 +1,5 @@
 -- An input as a merge reads it, compared with an extraction from the same file.
-use Rattle.std.proofs.Common.{◌≡◌, ◌<◌, ℕ, suc, ◌+◌, ◌^◌, Bool, true, false, not, ◌&&◌, if◌then◌else◌, nat_eq, List, [], ◌∷◌, length, map, get_or, Option, Some, None, IfSome, Result, Ok, Err, refl, sym, ap, subst, ◌∙◌, arith}
+use Rattle.std.proofs.Common.{◌≡◌, ◌<◌, ℕ, suc, ◌+◌, ◌^◌, Bool, true, false, not, ◌&&◌, if◌then◌else◌, nat_eq, List, [], ◌∷◌, length, map, get_or, Option, Some, None, IfSome, option_map, Result, Ok, Err, refl, sym, ap, subst, ◌∙◌, arith}
 use Rattle.std.specs.List.{All, slice_get, starts_with}
 use Rattle.std.proofs.lemmas.List.Elements.{All-append, All-cons, All-map, All-nil}
 use Rattle.mkv_io.specs.declared.damage.Damage.{Damage}
@@ -96,9 +96,9 @@ tracks-said bytes segment r is =
 
 -- ---- selected tracks
 
--- A selected track is at the place of its ID.
+-- A selected track has the number of the track at the place of its ID.
 abbrev pub StandsAt : List Track → TakenTrack → Type 0
-StandsAt all t = slice_get all t.id ≡ Some t.track
+StandsAt all t = option_map (λ (k : Track). k.number) (slice_get all t.id) ≡ Some t.track.number
 
 -- The selected tracks after the first `k` are at the places of their IDs.
 stand-from : (words : FileWords) (all : List Track) (k : ℕ) (ts : List Track) → ((j : ℕ) → slice_get all (k + j) ≡ slice_get ts j) → All (StandsAt all) (taken_from words k ts)
@@ -112,7 +112,7 @@ stand-from words all k (t ∷ ts) are =
     behind j = let same : k + 1 + j ≡ k + suc j = omega arith in ap (slice_get all) same ∙ are (suc j)
 
     one : slice_get all k ≡ Some t → (taken : Bool) → All (StandsAt all) (if taken then taken_track words k t ∷ [] else [])
-    one here true = All-cons (StandsAt all) (taken_track words k t) [] here (All-nil (StandsAt all))
+    one here true = All-cons (StandsAt all) (taken_track words k t) [] (ap (option_map (λ (k : Track). k.number)) here) (All-nil (StandsAt all))
     one here false = All-nil (StandsAt all)
 
 pub taken-stand : (words : FileWords) (tracks : List Track) → All (StandsAt tracks) (taken_from words 0 tracks)
