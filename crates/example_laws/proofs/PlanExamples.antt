@@ -32,7 +32,10 @@ records = record {
   other_type = refl;
   more_tracks = refl;
   alike = refl;
+  kept_by_one = refl;
+  kept_by_both = refl;
   no_lane = refl;
   not_webm = refl;
   webm = refl;
+  stored_webm = refl;
 }

@@ -45,6 +45,7 @@ taken uid type codec later word = record {
     default_duration = None;
     offset = 0;
     entry = entry uid type codec;
+    stored = false;
   };
   name = None;
   language = None;
@@ -67,6 +68,10 @@ audio uid = taken uid 2 (codes "A_OPUS") (pos 0) None
 -- a selected subtitle track with the TrackUID `uid`, without options, for the examples of `merge`
 abbrev pub subtitles : ℕ → TakenTrack
 subtitles uid = taken uid 17 (codes "S_TEXT/UTF8") (pos 0) None
+
+-- the selected track `t` with its frames taken as they are stored, for the examples of `merge`
+abbrev pub stored : TakenTrack → TakenTrack
+stored t = record t { track = record t.track { stored = true } }
 
 -- an input with the SubRip entries `entries`, the title `title`, and the selected tracks `tracks`, for the examples of `merge`. `begin` is its append
 -- offset in nanoseconds, or None if it isn't appended.
@@ -180,8 +185,12 @@ pub record AreRecords : Type 0 where
   pub more_tracks : append_refusal (first (audio 5 ∷ []) ∷ behind (audio 5 ∷ audio 6 ∷ []) ∷ [])
       ≡ Some (differs_at 1 0xAE)
   pub alike : append_refusal (first (audio 5 ∷ []) ∷ behind (audio 7 ∷ []) ∷ []) ≡ None
+  -- If its frames are taken as they are stored, it must keep the same ContentEncodings.
+  pub kept_by_one : append_refusal (first (stored (audio 5) ∷ []) ∷ behind (audio 7 ∷ []) ∷ []) ≡ Some (differs_at 1 0x6D80)
+  pub kept_by_both : append_refusal (first (stored (audio 5) ∷ []) ∷ behind (stored (audio 7) ∷ []) ∷ []) ≡ None
   -- A merge needs an output track, and WebM allows only certain codecs.
   pub no_lane : lanes_refusal true [] ≡ Some NoLane
   pub not_webm : lanes_refusal true (audio 5 ∷ taken 6 2 (codes "A_AC3") (pos 0) None ∷ [])
       ≡ Some (NotWebm (codes "A_AC3"))
   pub webm : lanes_refusal true (audio 5 ∷ []) ≡ None
+  pub stored_webm : lanes_refusal true (stored (audio 5) ∷ []) ≡ Some (NotWebm (codes "A_OPUS"))
