@@ -1,5 +1,5 @@
 -- Options of each input of a merge, collected from the items of its command line. All of it is this project's, after mkvmerge(1).
-use Rattle.std.specs.Prelude.{ℕ, ℤ, Bool, false, not, ◌==◌, if◌then◌else◌, List, [], ◌∷◌, ◌++◌, map, Option, Some, None, unwrap_or, option_and_then}
+use Rattle.std.specs.Prelude.{ℕ, ℤ, Bool, not, ◌==◌, if◌then◌else◌, List, [], ◌∷◌, ◌++◌, map, Option, Some, None, unwrap_or, option_and_then}
 use Rattle.std.specs.List.{filter, flat_map, list_any, slice_split, zip}
 use Rattle.requests.specs.declared.track.Select.{Select}
 use Rattle.requests.specs.declared.track.Select.TheVariants.{All, These, AllBut, Off}
@@ -147,7 +147,7 @@ file items name = record {
   global_tags = not (stands subject.GlobalTags items);
   statistics = not (stands subject.Statistics items);
   chapters = not (stands subject.Chapters items);
-  keep_encodings = false;
+  keep_encodings = stands subject.KeepEncodings items;
   syncs = delays_in items;
   names = names_in items;
   languages = languages_in items;

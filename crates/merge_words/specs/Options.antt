@@ -53,6 +53,7 @@ table =
     option (codes "") (codes "--no-global-tags") s.GlobalTags File f.Flag ∷
     option (codes "") (codes "--no-statistics-tags") s.Statistics File f.Flag ∷
     option (codes "") (codes "--no-chapters") s.Chapters File f.Flag ∷
+    option (codes "") (codes "--keep-encodings") s.KeepEncodings File f.Flag ∷
     option (codes "-y") (codes "--sync") s.Sync Track f.TrackDelay ∷
     option (codes "") (codes "--track-name") s.TrackName Track f.TrackText ∷
     option (codes "") (codes "--language") s.Language Track f.TrackLanguage ∷

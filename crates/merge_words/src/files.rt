@@ -78,7 +78,7 @@ fn file(alloc: Global, items: &[Item], name: &Value) -> Result<FileWords, AllocE
         global_tags: !stands(Subject::GlobalTags, items),
         statistics: !stands(Subject::Statistics, items),
         chapters: !stands(Subject::Chapters, items),
-        keep_encodings: false,
+        keep_encodings: stands(Subject::KeepEncodings, items),
         syncs: marks.syncs,
         names: texts.names,
         languages: texts.languages,

@@ -28,6 +28,7 @@ pub enum Subject {
     GlobalTags,
     Statistics,
     Chapters,
+    KeepEncodings,
     Sync,
     TrackName,
     Language,
@@ -80,7 +81,7 @@ pub struct OptionRow(
 );
 
 #[rattlefmt::skip]
-static MERGE_OPTIONS: [OptionRow; 37] = [
+static MERGE_OPTIONS: [OptionRow; 38] = [
     OptionRow("-o", "--output", Subject::Output, Scope::Output, ValueForm::Name),
     OptionRow("-w", "--webm", Subject::Webm, Scope::Output, ValueForm::Flag),
     OptionRow("", "--title", Subject::Title, Scope::Output, ValueForm::Text),
@@ -104,6 +105,7 @@ static MERGE_OPTIONS: [OptionRow; 37] = [
     OptionRow("", "--no-global-tags", Subject::GlobalTags, Scope::File, ValueForm::Flag),
     OptionRow("", "--no-statistics-tags", Subject::Statistics, Scope::File, ValueForm::Flag),
     OptionRow("", "--no-chapters", Subject::Chapters, Scope::File, ValueForm::Flag),
+    OptionRow("", "--keep-encodings", Subject::KeepEncodings, Scope::File, ValueForm::Flag),
     OptionRow("-y", "--sync", Subject::Sync, Scope::Track, ValueForm::TrackDelay),
     OptionRow("", "--track-name", Subject::TrackName, Scope::Track, ValueForm::TrackText),
     OptionRow("", "--language", Subject::Language, Scope::Track, ValueForm::TrackLanguage),

@@ -54,7 +54,7 @@ pub(crate) const INFO_PAGE: [&str; 11] = [
 
 /// The page of `merge`.
 #[rattlefmt::skip]
-pub(crate) const MERGE_PAGE: [&str; 92] = [
+pub(crate) const MERGE_PAGE: [&str; 94] = [
     "usage: mkvsuite merge -o OUT [OUTPUT OPTIONS] [FILE OPTIONS] FILE",
     "                      [[+] [FILE OPTIONS] FILE]..",
     "       mkvsuite merge -J FILE",
@@ -100,6 +100,8 @@ pub(crate) const MERGE_PAGE: [&str; 92] = [
     "    --no-statistics-tags        copy no statistics among the tags, which may no",
     "                                longer hold",
     "    --no-chapters               copy no chapters",
+    "    --keep-encodings            copy compressed or encrypted tracks as they are",
+    "                                stored (default: refuse them)",
     "  track options:",
     "    -y, --sync ID:MS            delay by MS milliseconds; a negative MS makes",
     "                                the track earlier and drops blocks before 0",

@@ -80,6 +80,7 @@ file_pieces f =
     record { subject = subject.GlobalTags; scope = scope.File; said = said_flag (codes "--no-global-tags") Flag (not f.global_tags) } ∷
     record { subject = subject.Statistics; scope = scope.File; said = said_flag (codes "--no-statistics-tags") Flag (not f.statistics) } ∷
     record { subject = subject.Chapters; scope = scope.File; said = said_flag (codes "--no-chapters") Flag (not f.chapters) } ∷
+    record { subject = subject.KeepEncodings; scope = scope.File; said = said_flag (codes "--keep-encodings") Flag f.keep_encodings } ∷
     record { subject = subject.Sync; scope = scope.Track; said = said_syncs f } ∷
     record { subject = subject.TrackName; scope = scope.Track; said = said_names f } ∷
     record { subject = subject.Language; scope = scope.Track; said = said_languages f } ∷
@@ -117,6 +118,7 @@ file_spelled f = pieces_spelled (file_pieces f) (file_options f) (
     flag_words (codes "--no-global-tags") Flag (not f.global_tags) &
     flag_words (codes "--no-statistics-tags") Flag (not f.statistics) &
     flag_words (codes "--no-chapters") Flag (not f.chapters) &
+    flag_words (codes "--keep-encodings") Flag f.keep_encodings &
     tracks_spelled (codes "--sync") delay_word TrackDelay f.syncs &
     tracks_spelled (codes "--track-name") (λ name. name) TrackText f.names &
     tracks_spelled (codes "--language") (λ name. name) TrackLanguage f.languages &
@@ -155,6 +157,7 @@ file_readable f sound is = (
     flag_readable subject.GlobalTags scope.File (codes "--no-global-tags") (not f.global_tags) (refl, refl) &
     flag_readable subject.Statistics scope.File (codes "--no-statistics-tags") (not f.statistics) (refl, refl) &
     flag_readable subject.Chapters scope.File (codes "--no-chapters") (not f.chapters) (refl, refl) &
+    flag_readable subject.KeepEncodings scope.File (codes "--keep-encodings") f.keep_encodings (refl, refl) &
     tracks_readable (codes "--sync") delay_word TrackDelay subject.Sync form.TrackDelay IsSoundDelay f.syncs (refl, refl) refl refl (λ id x. refl)
     (λ id x short whole. track_delay_read id x short whole.0 whole.1) (sound_delays f sound is) &
     tracks_readable (codes "--track-name") (λ name. name) TrackText subject.TrackName form.TrackText IsText f.names (refl, refl) refl refl (λ id x. refl)

@@ -169,7 +169,7 @@ unfolding said_by
 said_is w sound is =
     let some = sound.files.least in
     rw (webm_is w is) (rw (title_is w is) (rw (chapters_is w is) (rw (scale_is w is) (rw (blocks_is w is) (rw (span_is w is)
-    (rw (split_is w is) (rw (parted_files (all_items w) ∙ all_files w w.files (omega arith) is.files) (rw (uuids_is w is) (rw (link_is w is) (rw (duration_is w is) (rw (append_damaged_is w is) refl)))))))))))
+    (rw (split_is w is) (rw (parted_files (all_items w) ∙ all_files w w.files (omega arith) is.files) (rw (uuids_is w is) (rw (link_is w is) (rw (duration_is w is) (rw (append_damaged_is w is) (rw is.attached (rw is.order refl)))))))))))))
 
 -- ---- arguments are read as the items
 since_all : (fs : List FileWords) (before : List Item) (at : ℕ) → since_file before ≡ [] → since_file (before ++ files_items at fs) ≡ []
@@ -182,7 +182,7 @@ out_since w = since_grows [] (out_items w) (other_stands 1 subject.File (output_
 
 -- The options for the output have no subject of a file.
 free_first : (w : MergeWords) (f : FileWords) → AreFree (out_items w) (group f)
-free_first w f = (free subject.Append refl & free subject.Video refl & free subject.Audio refl & free subject.Subtitles refl & free subject.Attachments refl & free subject.TrackTags refl & free subject.GlobalTags refl & free subject.Statistics refl & free subject.Chapters refl & free subject.Sync refl & free subject.TrackName refl & free subject.Language refl & free subject.LanguageTag refl & free subject.DefaultFlag refl & free subject.ForcedFlag refl & free subject.EnabledFlag refl & free subject.HearingImpairedFlag refl & free subject.VisualImpairedFlag refl & free subject.TextDescriptionsFlag refl & free subject.OriginalFlag refl & free subject.CommentaryFlag refl & free subject.Cues refl & free subject.Times refl & tt)
+free_first w f = (free subject.Append refl & free subject.Video refl & free subject.Audio refl & free subject.Subtitles refl & free subject.Attachments refl & free subject.TrackTags refl & free subject.GlobalTags refl & free subject.Statistics refl & free subject.Chapters refl & free subject.KeepEncodings refl & free subject.Sync refl & free subject.TrackName refl & free subject.Language refl & free subject.LanguageTag refl & free subject.DefaultFlag refl & free subject.ForcedFlag refl & free subject.EnabledFlag refl & free subject.HearingImpairedFlag refl & free subject.VisualImpairedFlag refl & free subject.TextDescriptionsFlag refl & free subject.OriginalFlag refl & free subject.CommentaryFlag refl & free subject.Cues refl & free subject.Times refl & tt)
   where
     free : (t : Subject) → none_about t (output_pieces w) ≡ true → stands t (since_file (out_items w)) ≡ false
     free t none = ap (stands t) (out_since w) ∙ other_stands 1 t (output_pieces w) none

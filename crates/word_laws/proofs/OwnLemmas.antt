@@ -27,6 +27,7 @@ pub record IsSaidOf (f : FileWords) (ps : List Piece) : Type 0 where
   pub global_tags : about subject.GlobalTags ps ≡ said_flag (codes "--no-global-tags") Flag (not f.global_tags) ++ []
   pub statistics : about subject.Statistics ps ≡ said_flag (codes "--no-statistics-tags") Flag (not f.statistics) ++ []
   pub chapters : about subject.Chapters ps ≡ said_flag (codes "--no-chapters") Flag (not f.chapters) ++ []
+  pub keep_encodings : about subject.KeepEncodings ps ≡ said_flag (codes "--keep-encodings") Flag f.keep_encodings ++ []
   pub names : about subject.TrackName ps ≡ said_names f ++ []
   pub languages : about subject.Language ps ≡ said_languages f ++ []
   pub language_tags : about subject.LanguageTag ps ≡ said_tags f ++ []
@@ -78,6 +79,9 @@ module _ (f : FileWords) (ps : List Piece) (at : ℕ) (is : IsSaidOf f ps) where
   chapters_is : not (stands subject.Chapters (piece_items at ps)) ≡ f.chapters
   chapters_is = rw (stands_about subject.Chapters ps at) (rw is.chapters (flag_kept (codes "--no-chapters") Flag f.chapters))
 
+  keep_encodings_is : stands subject.KeepEncodings (piece_items at ps) ≡ f.keep_encodings
+  keep_encodings_is = stands_about subject.KeepEncodings ps at ∙ rw is.keep_encodings (flag_stands (codes "--keep-encodings") Flag f.keep_encodings)
+
   syncs_is : delays_in (piece_items at ps) ≡ f.syncs
   syncs_is = all_about delay_of subject.Sync ps at ∙ rw is.syncs (rw append-nil (tracks_said (codes "--sync") delay_word TrackDelay delay_of f.syncs (λ id x. refl)))
 
@@ -127,14 +131,14 @@ module _ (f : FileWords) (ps : List Piece) (at : ℕ) (is : IsSaidOf f ps) where
   pub file_is : f.named ≡ named_tracks f → file (piece_items at ps) (File f.name) ≡ f
   unfolding file
   file_is named =
-      rw joins_is (rw video_is (rw audio_is (rw subtitles_is (rw attachments_is (rw track_tags_is (rw global_tags_is (rw statistics_is (rw chapters_is
+      rw joins_is (rw video_is (rw audio_is (rw subtitles_is (rw attachments_is (rw track_tags_is (rw global_tags_is (rw statistics_is (rw chapters_is (rw keep_encodings_is
       (rw syncs_is (rw names_is (rw languages_is (rw tags_is (rw defaults_is (rw forced_is
       (rw enabled_is (rw hearing_impaired_is (rw visual_impaired_is (rw text_descriptions_is (rw original_is (rw commentary_is
-      (rw cues_is (rw times_is (rw (named_is named) refl)))))))))))))))))))))))
+      (rw cues_is (rw times_is (rw (named_is named) refl))))))))))))))))))))))))
 
 -- ---- the pieces give the options
 abbrev id_lists : FileWords → List (List ℕ)
-id_lists f = [] ∷ ids_of_select f.video ∷ ids_of_select f.audio ∷ ids_of_select f.subtitles ∷ [] ∷ [] ∷ [] ∷ [] ∷ [] ∷ ids_in f.syncs ∷ ids_in f.names ∷ ids_in f.languages ∷ ids_in f.language_tags ∷ ids_in f.defaults ∷ ids_in f.forced ∷ ids_in f.flags.enabled ∷ ids_in f.flags.hearing_impaired ∷ ids_in f.flags.visual_impaired ∷ ids_in f.flags.text_descriptions ∷ ids_in f.flags.original ∷ ids_in f.flags.commentary ∷ ids_in f.cues ∷ ids_in f.times ∷ []
+id_lists f = [] ∷ ids_of_select f.video ∷ ids_of_select f.audio ∷ ids_of_select f.subtitles ∷ [] ∷ [] ∷ [] ∷ [] ∷ [] ∷ [] ∷ ids_in f.syncs ∷ ids_in f.names ∷ ids_in f.languages ∷ ids_in f.language_tags ∷ ids_in f.defaults ∷ ids_in f.forced ∷ ids_in f.flags.enabled ∷ ids_in f.flags.hearing_impaired ∷ ids_in f.flags.visual_impaired ∷ ids_in f.flags.text_descriptions ∷ ids_in f.flags.original ∷ ids_in f.flags.commentary ∷ ids_in f.cues ∷ ids_in f.times ∷ []
 
 id_parts : (f : FileWords) → AreIdsOf (group f) (id_lists f)
 id_parts f = (
@@ -147,6 +151,7 @@ id_parts f = (
     flag_ids (codes "--no-global-tags") (not f.global_tags) &
     flag_ids (codes "--no-statistics-tags") (not f.statistics) &
     flag_ids (codes "--no-chapters") (not f.chapters) &
+    flag_ids (codes "--keep-encodings") f.keep_encodings &
     tracks_ids (codes "--sync") delay_word TrackDelay f.syncs (λ id x. refl) &
     tracks_ids (codes "--track-name") (λ name. name) TrackText f.names (λ id x. refl) &
     tracks_ids (codes "--language") (λ name. name) TrackLanguage f.languages (λ id x. refl) &

@@ -74,6 +74,8 @@ module _ (output name : List ℕ) where
     split = tt;
     uuids = All-nil _;
     link = tt;
+    attached = refl;
+    order = refl;
     files = All-cons IsMergeFile (plain_file name) [] (file-spelled name input) (All-nil IsMergeFile);
   }
 

@@ -48,6 +48,7 @@ first_file = record (plain_file (codes "f.mkv")) {
   audio = Off;
   subtitles = AllBut (1 ∷ 3 ∷ []);
   chapters = false;
+  keep_encodings = true;
   syncs = (0, neg_ℤ (pos 20000000)) ∷ [];
   languages = (0, codes "eng") ∷ [];
   language_tags = (0, codes "en-GB") ∷ [];
@@ -70,7 +71,7 @@ merging = record (plain_words (codes "o.mkv") (Some (splits.Duration 37235000000
 }
 
 abbrev merge_line : List ℕ
-merge_line = codes "merge --output o.mkv --title x --cluster-length 250ms --split duration:1:02:03.500000000 --segment-uid 0000000000000000000000000000000a --link --no-audio --subtitle-tracks !1,3 --no-chapters --sync 0:-20 --language 0:eng --language-ietf 0:en-GB --forced-display-flag 2:1 --commentary-flag 2:0 --cues 0:none f.mkv + g.mkv"
+merge_line = codes "merge --output o.mkv --title x --cluster-length 250ms --split duration:1:02:03.500000000 --segment-uid 0000000000000000000000000000000a --link --no-audio --subtitle-tracks !1,3 --no-chapters --keep-encodings --sync 0:-20 --language 0:eng --language-ietf 0:en-GB --forced-display-flag 2:1 --commentary-flag 2:0 --cues 0:none f.mkv + g.mkv"
 
 pub a_merge : spelled (commands.Merge merging) ≡ words merge_line
 unfolding digits last_digits
@@ -144,5 +145,7 @@ a_merge_is_spelled = record {
   split = tt;
   uuids = All-cons (λ u. u < 2 ^ 128) 10 [] (omega arith) (All-nil (λ u. u < 2 ^ 128));
   link = omega arith;
+  attached = refl;
+  order = refl;
   files = All-cons IsMergeFile first_file (second_file ∷ []) first_spelled (All-cons IsMergeFile second_file [] second_spelled (All-nil IsMergeFile));
 }

@@ -122,4 +122,6 @@ pub record IsSpellableMerge (words : MergeWords) : Type 0 where
   pub split : IfSome words.split IsSplit
   pub uuids : All (λ u. u < 2 ^ 128) words.uuids
   pub link : IsLinkable words.link words.uuids
+  pub attached : words.attached ≡ []
+  pub order : words.order ≡ []
   pub files : All IsMergeFile words.files

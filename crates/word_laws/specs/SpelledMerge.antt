@@ -73,6 +73,7 @@ file_options file =
     flag (codes "--no-global-tags") (not file.global_tags) ∷
     flag (codes "--no-statistics-tags") (not file.statistics) ∷
     flag (codes "--no-chapters") (not file.chapters) ∷
+    flag (codes "--keep-encodings") file.keep_encodings ∷
     for_tracks (codes "--sync") delay_word file.syncs ∷
     for_tracks (codes "--track-name") (λ name. name) file.names ∷
     for_tracks (codes "--language") (λ name. name) file.languages ∷
