@@ -33,7 +33,7 @@ pub record ScannedElement : Type 0 where
   pub counted : ℕ
   pub fits : Bool
 
--- the length in bytes of the header of the Element `h`. For the limit of an Attachments.
+-- the length in bytes of the header of the Element `h`, for the limit on the size of an Attachments. Used by `refused_in`.
 abbrev pub header_len : Header → ℕ
 header_len h = h.body - h.offset
 
@@ -46,7 +46,7 @@ counted_of h = if h.id == FILE_DATA then header_len h else header_len h + known 
 abbrev pub part_of : List ℕ → Header → ScannedElement
 part_of bytes h = record { header = h; counted = counted_of h; fits = is_known_value ATTACHED_FILE h.id (body_of bytes h) }
 
--- The child `h` of an Attachments is an AttachedFile. For the choice of the children that are read.
+-- The child `h` of an Attachments is an AttachedFile. Used by `child_of`, `at_child` and `attached_in`, for the choice of the children that are read.
 abbrev pub is_attached : Header → Bool
 is_attached h = h.id == ATTACHED_FILE
 
@@ -60,8 +60,8 @@ abbrev pub ended : Option Damage → List (Result ScannedElement Damage)
 ended None = []
 ended (Some d) = Err d ∷ []
 
--- the Elements of a run as they are checked, in order, and then the damage after it; `at` gives the ones for each child. For `parts_in` and
--- `refused_in`, when the attached files of a file are read.
+-- the Elements of the siblings `run` as they are checked, in order, and then the damage after them; `at` gives the ones for each sibling. For
+-- `parts_in` and `refused_in`, when the attached files of a file are read.
 abbrev pub met_in : (Header → List (Result ScannedElement Damage)) → Run → List (Result ScannedElement Damage)
 met_in at run = flat_map at run.list ++ ended run.damage
 
@@ -74,14 +74,14 @@ at_part bytes h = Ok (part_of bytes h) ∷ []
 abbrev pub parts_in : List ℕ → Header → List (Result ScannedElement Damage)
 parts_in bytes h = met_in (at_part bytes) (children_of bytes h)
 
--- the child `h` of an Attachments as it is checked, and after it its children, if it is an AttachedFile. For `refused_in`, when the attached files of
--- a file are read.
+-- the child `h` of an Attachments in the content `bytes` as it is checked, and after it its children, if it is an AttachedFile. For `refused_in`,
+-- when the attached files of a file are read.
 abbrev pub at_child : List ℕ → Header → List (Result ScannedElement Damage)
 at_child bytes h = Ok (child_of h) ∷ (if is_attached h then parts_in bytes h else [])
 
 -- ---- refusals
 
--- the damage of the kind `kind` at the Element `h`. For the refusals of an Attachments.
+-- the damage of the kind `kind` at the Element `h`. Used by `too_large`, `one_too_many` and `no_value`.
 abbrev pub told_at : Kind → Header → Damage
 told_at kind h = damage kind h.id h.offset
 
@@ -122,8 +122,8 @@ refused_from octets nodes (Err d ∷ rest) = Some d
 refused_from octets nodes (Ok m ∷ rest) =
     first_refusal (first_damage (causes octets nodes m)) (refused_from (octets + m.counted) (nodes + 1) rest)
 
--- the first damage at an Element of the Attachments `h`, which counts as an Element itself. For `attachments_causes`, when the attached files of a
--- file are read.
+-- the first damage at an Element of the Attachments `h` in the content `bytes`; `h` counts as an Element itself. For `attachments_causes`, when the
+-- attached files of a file are read.
 abbrev pub refused_in : List ℕ → Header → Option Damage
 refused_in bytes h = refused_from 0 1 (met_in (at_child bytes) (children_of bytes h))
 
@@ -131,7 +131,8 @@ refused_in bytes h = refused_from 0 1 (met_in (at_child bytes) (children_of byte
 abbrev pub data_in : List ℕ → Header → Option Header
 data_in bytes h = first_of FILE_DATA (children_of bytes h).list
 
--- the damage of the AttachedFile `h` if it has no FileData, at its own offset. For `attachments_causes`, when the attached files of a file are read.
+-- the damage of the AttachedFile `h` in the content `bytes` if it has no FileData, at its own offset. For `attachments_causes`, when the attached
+-- files of a file are read.
 abbrev pub missing_data : List ℕ → Header → Option Damage
 missing_data bytes h = where_it (is_none (data_in bytes h)) (damage MissingChild FILE_DATA h.offset)
 
@@ -143,7 +144,8 @@ attached_in bytes h = filter is_attached (children_of bytes h).list
 abbrev pub too_many_files : List Header → Option Damage
 too_many_files files = option_map (λ (h : Header). damage TooMany ATTACHED_FILE h.offset) (slice_get files MAX_ATTACHMENTS)
 
--- the possible damage of the Attachments `h`, in the order of the checks. For `attachments_in`, when the attached files of a file are read.
+-- the possible damage of the Attachments `h` in the content `bytes`, in the order of the checks. For `attachments_in`, when the attached files of a
+-- file are read.
 abbrev pub attachments_causes : List ℕ → Header → List (Option Damage)
 attachments_causes bytes h =
     refused_in bytes h ∷
@@ -153,13 +155,13 @@ attachments_causes bytes h =
 
 -- ---- values
 
--- the child `h` of an AttachedFile as a tree, with its content, or with no content for FileData. For `entry_of`, when the attached files of a file
--- are read.
+-- the child `h` of an AttachedFile in the content `bytes` as a tree, with its content, or with no content for FileData. For `entry_of`, when the
+-- attached files of a file are read.
 abbrev pub leaf_of : List ℕ → Header → Node
 leaf_of bytes h = leaf h.id 0 (if h.id == FILE_DATA then [] else body_of bytes h)
 
--- the AttachedFile `h` as a tree, with one empty FileData in the place of its first. A part of an attached file that was read. Used by `file_at`,
--- `attachment_of` and others.
+-- the AttachedFile `h` in the content `bytes` as a tree, with one empty FileData in the place of its first. A part of an attached file that was read.
+-- Used by `file_at`, `attachment_of` and others.
 abbrev pub entry_of : List ℕ → Header → Node
 entry_of bytes h = master ATTACHED_FILE h.offset (nodes_of (with_child (leaf FILE_DATA 0 []) (map (leaf_of bytes) (children_of bytes h).list)))
 

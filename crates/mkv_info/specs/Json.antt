@@ -8,7 +8,8 @@ use Rattle.serde_json.specs.View.{items_of}
 abbrev pub whole : ℕ → Data
 whole n = number (unsigned n)
 
--- a member of an object: its key, and its value; without a value it is left out. The objects of `merge -J` are lists of them.
+-- a member of an object: its key, and its value; without a value it is left out. The objects of `merge -J` are lists of them. `object_of` makes an
+-- object of them.
 abbrev pub Member : Type 0
 Member = List ℕ × Option Data
 
@@ -31,11 +32,13 @@ abbrev pub members_of : List Member → Members
 members_of [] = no_members
 members_of (m ∷ ms) = with_first m.0 m.1 (members_of ms)
 
--- the object with the members `ms` that have a value, in this order. All objects of `merge -J` are made so.
+-- the object with the members `ms` that have a value, in this order. All objects of `merge -J` are made so. Used by `container_value`, `track_value`
+-- and others.
 abbrev pub object_of : List Member → Data
 object_of ms = object (members_of ms)
 
--- the array with the values `ds`, in this order. The lists in the JSON of `merge -J` are made so.
+-- the array with the values `ds`, in this order. The lists in the JSON of `merge -J` are made so. Used by `attachments_value`, `tracks_value` and
+-- others.
 abbrev pub array_of : List Data → Data
 array_of ds = array (items_of ds)
 

@@ -43,17 +43,20 @@ abbrev pub change_verdict : Bool → List ℕ → FileChange → List ℕ → Li
 change_verdict is_there name change media sidecar = file_verdict is_there name sidecar (change_told name change media)
 
 -- The call prints the outcome of `change` for the file `name`. `disk` is the state of the disk before, `report` and `report'` are the states of the
--- report before and after. It is promised if the disk is visible to the proof. Used by the contract of `change_file`.
+-- report before and after. It is promised if the disk is visible to the proof. Used by the contract of `change_file`. `d` and `p` give the proof's
+-- view of the disk and the report. `result` is what the call returned.
 abbrev pub SaysOfChange : {D P : Type 0} → Ghosts D → ReportGhosts P → D → P → P → Result Status CommandEnd → List ℕ → FileChange → Type 0
 SaysOfChange d p disk report report' result name change = SaysOfDisk d p disk report report' result (change_verdict (d.is_there disk name) name change)
 
 -- The call prints the outcome of `change` for the file `name`, which is open with its journal on `disk`. `report` and `report'` are the states of the
--- report before and after. It is promised if the disk is visible to the proof. Used by the contract of `change_open`.
+-- report before and after. It is promised if the disk is visible to the proof. Used by the contract of `change_open`. `d` and `p` give the proof's
+-- view of the disk and the report. `result` is what the call returned.
 abbrev pub SaysOfOpened : {D P : Type 0} → Ghosts D → ReportGhosts P → D → P → P → Result Status CommandEnd → List ℕ → FileChange → Type 0
 SaysOfOpened d p disk report report' result name change = SaysOfDisk d p disk report report' result (λ M S. unless_begun name (state S) (change_told name change M))
 
 -- The call prints the outcome of `change` for the file `name`, which is open on `disk` without a pending edit. `report` and `report'` are the states
--- of the report before and after. It is promised if the disk is visible to the proof. Used by the contract of `change_quiet`.
+-- of the report before and after. It is promised if the disk is visible to the proof. Used by the contract of `change_quiet`. `d` and `p` give the
+-- proof's view of the disk and the report. `result` is what the call returned.
 abbrev pub SaysOfQuiet : {D P : Type 0} → Ghosts D → ReportGhosts P → D → P → P → Result Status CommandEnd → List ℕ → FileChange → Type 0
 SaysOfQuiet d p disk report report' result name change = SaysOfDisk d p disk report report' result (λ M S. change_told name change M)
 

@@ -95,7 +95,7 @@ pub record StaysOpen {D : Type 0} (r : reads.Ghosts D) (d : Ghosts D) (old new :
   pub octets : r.octets_read new ≤ r.octets_read old + most
 
 -- From the state `old` to `new`, the file and its journal stay open under their name. The number of bytes that are read is bounded by `most` of the
--- file's length in `old`. Used by the contracts of `change_open` and `change_quiet`.
+-- file's length in `old`. Used by the contracts of `change_open` and `change_quiet`. `r` and `d` give the proof's view of the disk.
 abbrev pub StaysOpenOf : {D : Type 0} → reads.Ghosts D → Ghosts D → D → D → (ℕ → ℕ) → Type 0
 StaysOpenOf r d old new most = StaysOpen r d old new (most (file_size r old MEDIA))
 
@@ -125,7 +125,7 @@ LeftByPlan e plan M S m s = IsEditing plan M m s
 
 -- A call printed the outcome of a change, which gave the result in the first argument. If the change failed, the call fails with the disk and prints
 -- nothing. If not, it can fail only to print, and not for memory. `before` and `now` count the failed prints. Used by the contract of `tell` for
--- `propedit` and `reindex`.
+-- `propedit` and `reindex`. `result` is what the call returned.
 abbrev pub HasMadeCause : {A E T : Type 0} → Result A E → ℕ → ℕ → Result T CommandEnd → Type 0
 HasMadeCause (Ok _) before now result = HasSayCause before now result × (result ≢ Err stop.Memory)
 HasMadeCause (Err _) before now result = (result ≡ Err stop.Disk) × (now ≡ before)

@@ -70,7 +70,8 @@ abbrev pub propedit_verdict : Bool → List ℕ → List Edit → List ℕ → L
 propedit_verdict is_there name edits media sidecar = file_verdict is_there name sidecar (told name (edited media edits))
 
 -- The call prints the outcome of `edits` for the file `name`. `disk` is the state of the disk before, `report` and `report'` are the states of the
--- report before and after. It is promised if the disk is visible to the proof. Used by the contract of `propedit`.
+-- report before and after. It is promised if the disk is visible to the proof. Used by the contract of `propedit`. `d` and `p` give the proof's view
+-- of the disk and the report. `result` is what the call returned.
 abbrev pub SaysOfEdits : {D P : Type 0} → Ghosts D → ReportGhosts P → D → P → P → Result Status CommandEnd → List ℕ → List Edit → Type 0
 SaysOfEdits d p disk report report' result name edits = SaysOfDisk d p disk report report' result (propedit_verdict (d.is_there disk name) name edits)
 

@@ -27,12 +27,14 @@ abbrev pub recover_verdict : Bool → List ℕ → List ℕ → List ℕ → Ver
 recover_verdict is_there name media sidecar = if is_there then told name (recovery media sidecar) else refused (missing_line name)
 
 -- The call prints the outcome of `recover` for the file `name`. `disk` is the state of the disk before, `report` and `report'` are the states of the
--- report before and after. It is promised if the disk is visible to the proof. Used by the contract of `recover_of`.
+-- report before and after. It is promised if the disk is visible to the proof. Used by the contract of `recover_of`. `d` and `p` give the proof's
+-- view of the disk and the report. `result` is what the call returned.
 abbrev pub SaysOfRecover : {D P : Type 0} → Ghosts D → ReportGhosts P → D → P → P → Result Status CommandEnd → List ℕ → Type 0
 SaysOfRecover d p disk report report' result name = SaysOfDisk d p disk report report' result (recover_verdict (d.is_there disk name) name)
 
 -- The call prints the outcome of `recover` for the file `name`, which is open with its journal on `disk`. `report` and `report'` are the states of
--- the report before and after. It is promised if the disk is visible to the proof. Used by the contract of `recover_open`.
+-- the report before and after. It is promised if the disk is visible to the proof. Used by the contract of `recover_open`. `d` and `p` give the
+-- proof's view of the disk and the report. `result` is what the call returned.
 abbrev pub SaysOfRecovery : {D P : Type 0} → Ghosts D → ReportGhosts P → D → P → P → Result Status CommandEnd → List ℕ → Type 0
 SaysOfRecovery d p disk report report' result name = SaysOfDisk d p disk report report' result (λ M S. told name (recovery M S))
 
@@ -44,7 +46,7 @@ pub record DiskWorld : Type 0 where
   pub sidecar : List ℕ
 
 -- the content of the disk in the state `disk`, if it is visible to the proof, or None. The contract of a run uses it. Used by `execute` of `mkv_run`
--- and others.
+-- and others. `d` gives the proof's view of the disk.
 abbrev pub disk_world : {D : Type 0} → Ghosts D → D → Option DiskWorld
 disk_world d disk =
     if d.told then Some record { is_there = d.is_there disk; media = (d.pair disk).media.reads; sidecar = (d.pair disk).sidecar.reads }

@@ -60,7 +60,8 @@ pub record IsRecoveryOf {D : Type 0} (r : reads.Ghosts D) (d : Ghosts D) (name :
 -- ---- the reasons why it stops
 
 -- From the state `old` to `new`, the call fails with the disk only if one of its failure counts increased. It fails with the report only if the
--- report's own count increased, from `before` to `now`. Used by the contracts of `propedit`, `reindex` and `recover`.
+-- report's own count increased, from `before` to `now`. Used by the contracts of `propedit`, `reindex` and `recover`. `r` and `d` give the proof's
+-- view of the disk.
 abbrev pub HasDiskStop : {D T : Type 0} → reads.Ghosts D → Ghosts D → D → D → ℕ → ℕ → Result T CommandEnd → Type 0
 HasDiskStop r d old new before now (Ok _) = HasNoFault r d old new × (now ≡ before)
 HasDiskStop r d old new before now (Err stop.Memory) = HasNoFault r d old new × (now ≡ before)
@@ -70,6 +71,7 @@ HasDiskStop r d old new before now (Err stop.Files) = ⊥
 
 -- A call printed the outcome of a recovery, which gave the result in the first argument. If the disk failed, the call fails with it. If an edit was
 -- completed, it can fail only to print, and not for memory. `before` and `now` count the failed prints. Used by the contract of `tell` for `recover`.
+-- `result` is what the call returned.
 abbrev pub HasTellCause : {T : Type 0} → Result Recovered RecoverEnd → ℕ → ℕ → Result T CommandEnd → Type 0
 HasTellCause (Err DiskFault) before now result = (result ≡ Err stop.Disk) × (now ≡ before)
 HasTellCause (Ok Applied) before now result = HasSayCause before now result × (result ≢ Err stop.Memory)

@@ -32,7 +32,8 @@ abbrev pub reindex_verdict : Bool → List ℕ → List ℕ → List ℕ → Ver
 reindex_verdict is_there name media sidecar = file_verdict is_there name sidecar (indexed_told name (index_of media))
 
 -- The call prints the outcome of `reindex` for the file `name`. `disk` is the state of the disk before, `report` and `report'` are the states of the
--- report before and after. It is promised if the disk is visible to the proof. Used by the contract of `reindex`.
+-- report before and after. It is promised if the disk is visible to the proof. Used by the contract of `reindex`. `d` and `p` give the proof's view
+-- of the disk and the report. `result` is what the call returned.
 abbrev pub SaysOfReindex : {D P : Type 0} → Ghosts D → ReportGhosts P → D → P → P → Result Status CommandEnd → List ℕ → Type 0
 SaysOfReindex d p disk report report' result name = SaysOfDisk d p disk report report' result (reindex_verdict (d.is_there disk name) name)
 

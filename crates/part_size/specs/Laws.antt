@@ -50,8 +50,9 @@ PartsAreFull =
 abbrev pub IsSmall : Split → ℕ → Part → Type 0
 IsSmall s limit p = (k : ℕ) (b : OutputBlock) → slice_get p.blocks k ≡ Some b → may_cut s b ≡ true → load (take k p.blocks) < limit
 
--- If `limit` is at least 1, no part continues with a full size over a place that allows a cut. The earlier blocks of the part have fewer than `limit`
--- bytes there. Only some keyframes allow a cut, so a whole part may be larger. The law `parts_are_small` states it.
+-- If the merged list `blocks` is cut by the size `limit`, at least 1, no part continues with a full size over a place that allows a cut. A tick has
+-- `scale` nanoseconds, and `drives` are the output tracks that allow a cut. The earlier blocks of the part have fewer than `limit` bytes there. Only
+-- some keyframes allow a cut, so a whole part may be larger. The law `parts_are_small` states it.
 abbrev pub PartsAreSmall : Type 0
 PartsAreSmall =
     (limit scale : ℕ) (drives : ℕ → Bool) (blocks : List OutputBlock) → 1 ≤ limit

@@ -78,7 +78,7 @@ AddsPointIn r src i given old new before clusters = IfTold r src before.level.fi
 
 -- A call of `add_point` that succeeded appended the cue point of the block at `cursor` to `old`, which became `new`. It did so only if the block gets
 -- one, by the properties `i` of the file, and there is room. The walk `before` became `clusters`. It is promised if the content is visible to the
--- proof in the state `src`. `r` gives the proof's view of the files.
+-- proof in the state `src`. `r` gives the proof's view of the files. `result` is what the call returned.
 abbrev pub AddsPointOf : {S T E : Type 0} → Ghosts S → S → Indexing → Reading → List Point → List Point → Clusters → Clusters → Result T E → Type 0
 AddsPointOf r src i cursor old new before clusters result = OnOk result (AddsPointIn r src i cursor.block old new before clusters)
 

@@ -102,7 +102,8 @@ Writes old new name d (Ok _) = WritesLayout old new name d
 Writes old new name d (Err _) = AreWrittenInOrder old new (draft_of name d ∷ [])
 
 -- From `old` to `new` the current part of `b` was written to the file `name`, as `Writes` requires. `o` describes the output, and `r` and `f` show
--- the files to the proof. It is promised if the links' files are visible to the proof. The contract of `write_output` states it.
+-- the files to the proof. It is promised if the links' files are visible to the proof. The contract of `write_output` states it. `result` is what the
+-- call returned.
 abbrev pub WritesPart : {S T : Type 0} → Ghosts S → writing.Ghosts S → S → S → OutputSpec → List ℕ → PlacedBlocks → Result T RemuxEnd → Type 0
 WritesPart r f old new o name b result =
     IsTold (live_files r old) b.merge → Writes (f.names old) (f.names new) name (document_with (live_files r old) o (part_in (live_files r old) b)) result
@@ -232,7 +233,7 @@ next_output f o written part = own_output f o (length written + 1) part
 
 -- From `old` to `new` the current part of `b` was written as the output with the number `number`, counted from 1, as `WritesPart` requires. `o` is
 -- the common description, and it is promised if the links' files are visible to the proof. The contract of `write_own` states it. `r` and `f` give
--- the proof's view of the files.
+-- the proof's view of the files. `result` is what the call returned.
 abbrev pub WritesOwn : {S T : Type 0} → Ghosts S → writing.Ghosts S → S → S → OutputSpec → ℕ → PlacedBlocks → Result T RemuxEnd → Type 0
 WritesOwn r f old new o number b result = WritesPart r f old new (own_spec o number) (own_name o number) b result
 

@@ -58,7 +58,7 @@ block_lent k l = in_lane (k + 1) (lent_block (lent l))
 abbrev pub lent_in : ℕ → ℕ → LaneSeen → OutputBlock
 lent_in start k l = in_part start (block_lent k l)
 
--- the last block of the output track `k`, counted from 0, of the merge `m`, as a list of one, or none without this track. For the block ahead.
+-- the last block of the output track `k`, counted from 0, of the merge `m`, as a list of one, or none without this track. Used by `ahead_at`.
 abbrev pub lent_at : MergeSeen → ℕ → List OutputBlock
 lent_at m k = option_map_or (λ (q : Queue). block_lent k q.lane ∷ []) (slice_get m.queues k) []
 

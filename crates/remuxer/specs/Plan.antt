@@ -64,7 +64,8 @@ abbrev pub ReadsFew : {S : Type 0} → Ghosts S → S → S → MergePlan → Ty
 ReadsFew r old new p = r.octets_read new ≤ r.octets_read old + 2 * inputs_length (live_files r old) p + data_length p
 
 -- From `old` to `new` the outputs of the plan `p` were written, as `WritesOutputs` requires, if the links' files are visible to the proof. The
--- contract of `remux` states it, with its result in the last argument. `r` and `f` give the proof's view of the files.
+-- contract of `remux` states it, with its result in the last argument. `r` and `f` give the proof's view of the files. `result` is what the call
+-- returned.
 abbrev pub WritesPlan : {S T : Type 0} → Ghosts S → writing.Ghosts S → S → S → MergePlan → Result T RemuxEnd → Type 0
 WritesPlan r f old new p result = IsToldPlan (live_files r old) p → WritesOutputs (f.names old) (f.names new) (outputs_in (live_files r old) p) result
 

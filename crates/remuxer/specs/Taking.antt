@@ -52,7 +52,7 @@ pub record WritesInto {S T : Type 0} (r : Ghosts S) (f : writing.Ghosts S) (old 
 -- ---- contents of the buffer
 
 -- If the buffer was within its limits in `w`, it is in `w'`, unless the call failed. It then has one small Cluster, or a single larger block. The
--- contracts of `add_lent` and `add_part` state it.
+-- contracts of `add_lent` and `add_part` state it. `result` is what the call returned.
 abbrev pub StaysSmall : {T : Type 0} → BlockWriter → BlockWriter → Result T RemuxEnd → Type 0
 StaysSmall w w' result = OnOk result (HoldsSmall w.buffer → HoldsSmall w'.buffer)
 
@@ -90,7 +90,8 @@ TakesNext r f rules b old new w w' (Err _) = (left : List OutputBlock) → Stays
 abbrev pub TakesLent : {S T : Type 0} → Ghosts S → writing.Ghosts S → List CueRule → ℕ → ℕ → LaneSeen → S → S → BlockWriter → BlockWriter → Result T RemuxEnd → Type 0
 TakesLent r f rules start k lane old new w w' result = TakesNext r f rules (lent_in start k lane) old new w w' result
 
--- The output in `w` has got `n` more blocks in `w'`, unless the call failed. The contract of `add_lent` states it.
+-- The output in `w` has got `n` more blocks in `w'`, unless the call failed. The contract of `add_lent` states it. `result` is what the call
+-- returned.
 abbrev pub TakesMore : {T : Type 0} → ℕ → BlockWriter → BlockWriter → Result T RemuxEnd → Type 0
 TakesMore n w w' result = OnOk result (w'.blocks ≡ counted w.blocks n)
 
@@ -100,7 +101,7 @@ abbrev pub end_with : Durations → ℕ → List OutputBlock → ℕ
 end_with d end blocks = max end (end_of_blocks d blocks)
 
 -- The output in `w` got the block `b` and became `w'`, unless the call failed. Its end is then the end of `b` in ticks, or its earlier end if that is
--- later. The contract of `add_lent` states it.
+-- later. The contract of `add_lent` states it. `result` is what the call returned.
 abbrev pub EndsAfter : {T : Type 0} → OutputBlock → BlockWriter → BlockWriter → Result T RemuxEnd → Type 0
 EndsAfter b w w' result = OnOk result (w'.end ≡ end_with w.durations w.end (b ∷ []))
 

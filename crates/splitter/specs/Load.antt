@@ -4,7 +4,8 @@ use Rattle.std.specs.List.{sum_by}
 use Rattle.output_model.specs.OutputBlock.{OutputBlock}
 use Rattle.cluster_writer.specs.Lengths.{octets_taken}
 
--- the load of blocks: the number of bytes of their SimpleBlocks and BlockGroups. Used for the cuts of `merge --split size:`.
+-- the load of blocks: the number of bytes of their SimpleBlocks and BlockGroups. Used by the clauses of `part_size`, for the cuts of `merge --split
+-- size:`.
 abbrev pub load : List OutputBlock → ℕ
 load blocks = sum_by octets_taken blocks
 

@@ -106,7 +106,8 @@ next_start (x ∷ xs) = Some x.start
 abbrev pub part_of : Section → Option ℕ → Part
 part_of x end = record { start = x.start; end = option_map (max x.start) end; blocks = map (in_part x.start) x.blocks }
 
--- The section `x` is written as a part, by the rule `s`. For `parts_in`, when `merge` cuts its output.
+-- The section `x` is written as a part, by the rule `s`: only its start decides, in nanoseconds; its end and its blocks don't. For `parts_in`, when
+-- `merge` cuts its output.
 abbrev pub is_written : Split → Section → Bool
 is_written s x = keeps s.spec (x.start * s.scale)
 
