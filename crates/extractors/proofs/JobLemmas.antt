@@ -1,10 +1,11 @@
 -- The outputs of targets.
-use Rattle.std.proofs.Common.{◌≡◌, ℕ, zero, suc, ◌+◌, ◌<◌, ◌^◌, List, [], ◌∷◌, ◌++◌, length, take, drop, get_or, map, Option, Some, None, IfSome, slice_get, unwrap_or, Result, Ok, Err, refl, sym, ◌∙◌, ap, subst, arith, append-nil}
-use Rattle.std.specs.List.{All}
-use Rattle.std.specs.Option.{option_map, option_or}
-use Rattle.std.proofs.Math.Seq.{take-suc}
+use Rattle.std.proofs.Common.{◌≡◌, ℕ, zero, suc, ◌+◌, ◌<◌, ◌^◌, Bool, true, false, if◌then◌else◌, List, [], ◌∷◌, ◌++◌, length, take, drop, get_or, map, Option, Some, None, IfSome, slice_get, unwrap_or, Result, Ok, Err, IfOk, refl, sym, ◌∙◌, ap, subst, arith, append-nil}
+use Rattle.std.specs.List.{All, find}
+use Rattle.std.specs.Option.{option_map, option_map_or, option_or}
+use Rattle.std.proofs.Math.Seq.{drop-cons, take-suc}
 use Rattle.std.proofs.lemmas.Grind.{flat_map-append}
 use Rattle.mkv_io.specs.Names.{AreApart, AreOthers}
+use Rattle.mkv_io.specs.Results.{unless}
 use Rattle.requests.specs.declared.job.Job.{Job}
 use Rattle.requests.specs.declared.job.Job.TheVariants as jobs
 use Rattle.requests.specs.declared.job.Target.{Target}
@@ -15,10 +16,11 @@ use Rattle.file_format.specs.Tracks.{IsTrack}
 use Rattle.track_records.specs.declared.track.Track.{Track}
 use Rattle.meta_records.specs.Records.{AreRead}
 use Rattle.extractors.specs.Content.{names_in}
-use Rattle.extractors.specs.Job.{first_unfit, job_outputs, names_for, output_with, names_of, output_for, outputs_for, outputs_taken, form_of, targets_of, track_output}
+use Rattle.extractors.specs.Job.{first_unfit, is_unfit, job_outputs, names_for, names_unfit, output_with, names_of, output_for, outputs_for, outputs_or_refusal, outputs_taken, form_of, refusal, refusal_of, refusal_taken, targets_of, track_output}
 use Rattle.extractors.specs.Codec.{coding_of}
 use Rattle.extractors.proofs.CodecLemmas.{coding_of-can}
 use Rattle.extractors.specs.declared.frame_form.Coding.{Coding}
+use Rattle.extractors.specs.declared.frame_form.Refusal.{Refusal}
 use Rattle.extractors.specs.declared.frame_form.UnsupportedTrack.{UnsupportedTrack}
 use Rattle.extractors.specs.declared.frame_form.UnsupportedTrack.TheVariants.{NoExtractor, BadConfig}
 use Rattle.requests.specs.declared.job.Form.{Form}
@@ -70,6 +72,86 @@ usable-at targets tracks k t track usable below is found =
 pub record AreLeft (kind : Form) (targets : List Target) (entries : List Node) (k : ℕ) (bad_config : Option ℕ) : Type 0 where
   pub codec : first_unfit NoExtractor kind targets entries ≡ first_unfit NoExtractor kind (drop k targets) entries
   pub config : first_unfit BadConfig kind targets entries ≡ option_or bad_config (first_unfit BadConfig kind (drop k targets) entries)
+
+-- The outputs `list` are the ones of the first `k` targets, and the targets from `k` on remain to be checked.
+pub record AreMade (kind : Form) (targets : List Target) (entries : List Node) (k : ℕ) (list : List TrackOutput) (bad_config : Option ℕ) : Type 0 where
+  pub outputs : list ≡ outputs_for kind (take k targets) entries
+  pub left : AreLeft kind targets entries k bad_config
+
+-- A target is asked: the first one of the rest that can't be written is it, or one behind it.
+unfit-next : (why : UnsupportedTrack) (kind : Form) (targets : List Target) (entries : List Node) (k : ℕ) (t : Target) (unfit : Bool) → k < length targets → t ≡ get_or targets k t → names_unfit why kind entries t ≡ unfit → first_unfit why kind (drop k targets) entries ≡ (if unfit then Some t.id else first_unfit why kind (drop (k + 1) targets) entries)
+unfit-next why kind targets entries k t unfit below is same =
+    ap (λ (ts : List Target). first_unfit why kind ts entries) (drop-cons targets k t below ∙ ap (λ (each : Target). each ∷ drop (suc k) targets) (sym is))
+    ∙ ap (λ (n : ℕ). first_unfit why kind (t ∷ drop n targets) entries) (one_more k)
+    ∙ split (names_unfit why kind entries t) same
+  where
+    one_more : (n : ℕ) → suc n ≡ n + 1
+    one_more n = omega arith
+
+    split : (b : Bool) → b ≡ unfit → option_map (λ (each : Target). each.id) (if b then Some t else find (names_unfit why kind entries) (drop (k + 1) targets)) ≡ (if unfit then Some t.id else first_unfit why kind (drop (k + 1) targets) entries)
+    split true same = ap (λ (u : Bool). if u then Some t.id else first_unfit why kind (drop (k + 1) targets) entries) same
+    split false same = ap (λ (u : Bool). if u then Some t.id else first_unfit why kind (drop (k + 1) targets) entries) same
+
+-- A target's track decides, if it is there.
+unfit-missing : (why : UnsupportedTrack) (kind : Form) (tracks : List Track) (t : Target) → slice_get tracks t.id ≡ None → names_unfit why kind (map entry_in tracks) t ≡ false
+unfit-missing why kind tracks t found =
+    ap (λ (entry : Option Node). option_map_or (λ (e : Node). is_unfit why (coding_of kind e)) entry false) (entry-at tracks t.id ∙ ap (option_map entry_in) found)
+
+unfit-found : (why : UnsupportedTrack) (kind : Form) (tracks : List Track) (t : Target) (track : Track) (read : Result Coding UnsupportedTrack) → slice_get tracks t.id ≡ Some track → coding_of kind track.entry ≡ read → names_unfit why kind (map entry_in tracks) t ≡ is_unfit why read
+unfit-found why kind tracks t track read found is =
+    ap (λ (entry : Option Node). option_map_or (λ (e : Node). is_unfit why (coding_of kind e)) entry false) (entry-at tracks t.id ∙ ap (option_map entry_in) found)
+    ∙ ap (is_unfit why) is
+
+module _ (tracks : List Track) {kind : Form} {targets : List Target} {k : ℕ} {list : List TrackOutput} {bad_config : Option ℕ} (so : AreMade kind targets (map entry_in tracks) k list bad_config) (t : Target) (below : k < length targets) (is : t ≡ get_or targets k t) where
+  -- The file doesn't have the target's track.
+  pub made-missing : slice_get tracks t.id ≡ None → AreMade kind targets (map entry_in tracks) (k + 1) list bad_config
+  made-missing found = record {
+    outputs = so.outputs ∙ sym (outputs_for-none kind targets tracks k t below is found);
+    left = record {
+      codec = so.left.codec ∙ unfit-next NoExtractor kind targets (map entry_in tracks) k t false below is (unfit-missing NoExtractor kind tracks t found);
+      config = so.left.config ∙ ap (option_or bad_config) (unfit-next BadConfig kind targets (map entry_in tracks) k t false below is (unfit-missing BadConfig kind tracks t found));
+    };
+  }
+
+  module _ (track : Track) (found : slice_get tracks t.id ≡ Some track) where
+    -- A further output is made.
+    pub made-good : (coding : Coding) → coding_of kind track.entry ≡ Ok coding → AreMade kind targets (map entry_in tracks) (k + 1) (list ++ output_with t.name track.entry coding ∷ []) bad_config
+    made-good coding read = record {
+      outputs =
+          ap (λ (os : List TrackOutput). os ++ output_with t.name track.entry coding ∷ []) so.outputs
+          ∙ ap (λ (r : Result Coding UnsupportedTrack). outputs_for kind (take k targets) (map entry_in tracks) ++ track_output t.name track.entry r) (sym read)
+          ∙ sym (outputs_for-found kind targets tracks k t track below is found);
+      left = record {
+        codec = so.left.codec ∙ unfit-next NoExtractor kind targets (map entry_in tracks) k t false below is (unfit-found NoExtractor kind tracks t track (Ok coding) found read);
+        config = so.left.config ∙ ap (option_or bad_config) (unfit-next BadConfig kind targets (map entry_in tracks) k t false below is (unfit-found BadConfig kind tracks t track (Ok coding) found read));
+      };
+    }
+
+    -- The first bad configuration is kept.
+    pub made-bad : coding_of kind track.entry ≡ Err BadConfig → AreMade kind targets (map entry_in tracks) (k + 1) list (option_or bad_config (Some t.id))
+    made-bad read = record {
+      outputs =
+          so.outputs
+          ∙ sym (outputs_for-found kind targets tracks k t track below is found
+          ∙ ap (λ (r : Result Coding UnsupportedTrack). outputs_for kind (take k targets) (map entry_in tracks) ++ track_output t.name track.entry r) read
+          ∙ append-nil (outputs_for kind (take k targets) (map entry_in tracks)));
+      left = record {
+        codec = so.left.codec ∙ unfit-next NoExtractor kind targets (map entry_in tracks) k t false below is (unfit-found NoExtractor kind tracks t track (Err BadConfig) found read);
+        config =
+            so.left.config ∙ ap (option_or bad_config) (unfit-next BadConfig kind targets (map entry_in tracks) k t true below is (unfit-found BadConfig kind tracks t track (Err BadConfig) found read))
+            ∙ kept bad_config (first_unfit BadConfig kind (drop (k + 1) targets) (map entry_in tracks));
+      };
+    }
+      where
+        kept : (bad rest : Option ℕ) → option_or bad (Some t.id) ≡ option_or (option_or bad (Some t.id)) rest
+        kept (Some b) rest = refl
+        kept None rest = refl
+
+    -- The track's codec has no form.
+    pub made-refused : coding_of kind track.entry ≡ Err NoExtractor → outputs_or_refusal kind targets (map entry_in tracks) ≡ Err (refusal NoExtractor t.id)
+    made-refused read =
+        ap (λ (codec : Option ℕ). unless (refusal_of codec (first_unfit BadConfig kind targets (map entry_in tracks))) (outputs_for kind targets (map entry_in tracks)))
+        (so.left.codec ∙ unfit-next NoExtractor kind targets (map entry_in tracks) k t true below is (unfit-found NoExtractor kind tracks t track (Err NoExtractor) found read))
 
 -- ---- their names
 
@@ -151,3 +233,14 @@ each-entry tracks read = mapped tracks read.each
 -- The outputs of a job are the outputs of its targets in its form.
 pub job_outputs-taken : (job : Job) (kind : Form) (entries : List Node) → form_of job ≡ Some kind → outputs_for kind (targets_of job) entries ≡ job_outputs job entries
 job_outputs-taken job kind entries is = sym (ap (λ (form : Option Form). outputs_taken form (targets_of job) entries) is)
+
+-- The outputs that aren't refused can be written.
+pub fit-ready : {E : Type 0} (kind : Form) (targets : List Target) (tracks : List Track) → AreRead tracks → (result : Result (Result (List TrackOutput) Refusal) E) → IfOk result (λ made. made ≡ outputs_or_refusal kind targets (map entry_in tracks)) → IfOk result (λ made. IfOk made (All IsReady))
+fit-ready kind targets tracks read (Err why) is = tt
+fit-ready kind targets tracks read (Ok made) is =
+    subst (λ (r : Result (List TrackOutput) Refusal). IfOk r (All IsReady)) (sym is)
+    (each (refusal_taken (Some kind) targets (map entry_in tracks)) (outputs_for-steps kind targets (map entry_in tracks) (each-entry tracks read)))
+  where
+    each : (why : Option Refusal) → All IsReady (outputs_for kind targets (map entry_in tracks)) → IfOk (unless why (outputs_for kind targets (map entry_in tracks))) (All IsReady)
+    each None ready = ready
+    each (Some why) ready = tt

@@ -43,14 +43,14 @@ HasAttached r files s = All (IsAttachedIn s.file (file_size r files s.file)) s.a
 
 -- A call of `write_attachment` has written the output of the target `t` from the source `s`: `old` and `new` are the states before and after. After
 -- success the output is complete. It is absent if the source has no such attached file. After a failure the file may have only a first part. No other
--- name changes. `r` and `f` give the proof's view of the files.
+-- name changes. `r` and `f` give the proof's view of the files. `result` is what the call returned.
 abbrev pub WritesAttachment : {S T E : Type 0} → Ghosts S → writing.Ghosts S → Source → Target → S → S → Result T E → Type 0
 WritesAttachment r f s t old new result =
     IfTold r old s.file (λ bytes. AreWritten (f.names old) (f.names new) (attached_output bytes t (attached_at (map in_file s.attachments) t.id)) result)
 
 -- A call of `write_attachments` has written the outputs of `targets` from the source `s`. `old` and `new` are the states before and after. After
 -- success they are complete. After a failure some first outputs exist, each with a first part of its content. No other name changes. `r` and `f` give
--- the proof's view of the files.
+-- the proof's view of the files. `result` is what the call returned.
 abbrev pub WritesAttached : {S T E : Type 0} → Ghosts S → writing.Ghosts S → Source → List Target → S → S → Result T E → Type 0
 WritesAttached r f s targets old new result =
     IfTold r old s.file (λ bytes. AreWritten (f.names old) (f.names new) (attached_outputs bytes targets (map in_file s.attachments)) result)

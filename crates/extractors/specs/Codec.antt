@@ -29,7 +29,8 @@ times_head = codes "# timestamp format v2\n"
 
 -- ---- the codecs
 
--- The CodecIDs of the codecs that `extract` writes in a form of their own, each with this form. Another codec is refused (NoExtractor).
+-- The CodecIDs of the codecs that `extract` writes in a form of their own, each with this form. Another codec is refused (NoExtractor). Used by
+-- `codec_form`.
 abbrev pub codecs : List (List ℕ × CodecForm)
 codecs =
     (codes "S_TEXT/UTF8", of.SubRip) ∷
@@ -49,16 +50,17 @@ codecs =
     (codes "V_MPEG1", of.Joined) ∷
     (codes "V_MPEG2", of.Joined) ∷ []
 
--- the form of the codec with the CodecID `codec`, if `codecs` has it; the comparison is exact
+-- the form of the codec with the CodecID `codec`, if `codecs` has it; the comparison is exact. Used by `codec_coding`.
 abbrev pub codec_form : List ℕ → Option CodecForm
 codec_form codec = option_map (λ (row : List ℕ × CodecForm). row.1) (find (λ (row : List ℕ × CodecForm). bytes_eq codec row.0) codecs)
 
--- the coding with the frames in the given form and no bytes before them
+-- the coding with the frames in the form `kind` and no bytes before them. Used by `form_coding` and `aac_coding`.
 abbrev pub bare : FrameForm → Coding
 bare kind = record { head = []; form = kind }
 
 -- the coding in which `extract` writes an H.264 or H.265 track, given the configuration in its CodecPrivate. Its parameter sets come first, and then
--- the units of each frame, each after a start code. Without a valid configuration (None) the track is refused (BadConfig).
+-- the units of each frame, each after a start code. Without a valid configuration (None) the track is refused (BadConfig). Used by `GivesCoding` and
+-- `form_coding`.
 abbrev pub stream_coding : Option Avc → Result Coding UnsupportedTrack
 stream_coding None = Err BadConfig
 stream_coding (Some avc) = Ok (record { head = byte_stream avc.sets; form = form.AnnexB avc.length_size })
@@ -74,7 +76,7 @@ abbrev pub aac_coding : Option Aac → Result Coding UnsupportedTrack
 aac_coding None = Err BadConfig
 aac_coding (Some aac) = Ok (bare (form.Adts aac))
 
--- the first bytes of a FLAC stream, which the CodecPrivate of a FLAC track has (RFC 9639, section 6, Format Layout Overview)
+-- the first bytes of a FLAC stream, which the CodecPrivate of a FLAC track has (RFC 9639, section 6, Format Layout Overview). Used by `flac_coding`.
 abbrev pub flac_mark : List ℕ
 flac_mark = codes "fLaC"
 
@@ -83,7 +85,8 @@ flac_mark = codes "fLaC"
 abbrev pub flac_coding : List ℕ → Result Coding UnsupportedTrack
 flac_coding private = if starts_with nat_eq private flac_mark then Ok (record { head = private; form = form.Plain }) else Err BadConfig
 
--- the coding in which `extract` writes a track with the CodecPrivate `private` in the given form of its codec, or BadConfig
+-- the coding in which `extract` writes a track with the CodecPrivate `private` in the form of its codec, the second argument, or BadConfig. Used by
+-- `codec_coding`.
 abbrev pub form_coding : List ℕ → CodecForm → Result Coding UnsupportedTrack
 form_coding private of.SubRip = Ok (bare form.SubRip)
 form_coding private of.H264 = stream_coding (avc_of private)
@@ -94,7 +97,7 @@ form_coding private of.Joined = Ok (bare form.Plain)
 form_coding private of.Pgs = Ok (bare form.Pgs)
 
 -- the coding in which `extract` writes a track in the form of its codec, by its CodecID `codec` and CodecPrivate `private`, or the reason why it has
--- none
+-- none. Used by `coding_of`.
 abbrev pub codec_coding : List ℕ → List ℕ → Result Coding UnsupportedTrack
 codec_coding codec private = option_map_or (form_coding private) (codec_form codec) (Err NoExtractor)
 
@@ -110,8 +113,8 @@ coding_of asked.Full entry = Ok (record { head = private_of entry; form = form.P
 coding_of asked.ByCodec entry = codec_coding (codec_of entry) (private_of entry)
 coding_of asked.Times entry = Ok (record { head = times_head; form = form.Time })
 
--- Frames can be written in the given form: its length size of H.264 or H.265 is valid, or an ADTS header can express its configuration of AAC. The other forms
--- have no parameters. All writers of frames require it.
+-- Frames can be written in the given form: its length size of H.264 or H.265 is valid, or an ADTS header can express its configuration of AAC. The
+-- other forms have no parameters. `give_frame` and the other writers of frames require it.
 abbrev pub CanWrite : FrameForm → Type 0
 CanWrite form.Plain = ⊤
 CanWrite form.SubRip = ⊤

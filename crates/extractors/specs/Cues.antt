@@ -33,13 +33,13 @@ cues_outputs scale cues targets entries = flat_map (λ (t : Target). cues_output
 
 -- A call of `write_track_cues` has written the output of the target `t` from the source `s`; `old` and `new` are the states before and after. After
 -- success the output is complete. It is absent if the source has no such track. After a failure it may have only a first part. No other name changes.
--- `f` gives the proof's view of the files.
+-- `f` gives the proof's view of the files. `result` is what the call returned.
 abbrev pub WritesTrackCues : {S T E : Type 0} → Ghosts S → Source → Target → S → S → Result T E → Type 0
 WritesTrackCues f s t old new result =
     AreWritten (f.names old) (f.names new) (cues_output (scale_of_info s.info) s.cues t (slice_get (entries_in s) t.id)) result
 
 -- A call of `write_cues` has written the outputs of `targets` from the source `s`; `old` and `new` are the states before and after. After success
 -- they are complete. After a failure some first outputs exist, each with a first part of its content. No other name changes. `f` gives the proof's
--- view of the files.
+-- view of the files. `result` is what the call returned.
 abbrev pub WritesCues : {S T E : Type 0} → Ghosts S → Source → List Target → S → S → Result T E → Type 0
 WritesCues f s targets old new result = AreWritten (f.names old) (f.names new) (cues_outputs (scale_of_info s.info) s.cues targets (entries_in s)) result

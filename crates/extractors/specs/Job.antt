@@ -3,8 +3,8 @@
 use Rattle.std.specs.Prelude.{◌≤◌, ⊤, ℕ, Bool, true, false, List, [], ◌∷◌, map, Option, Some, None, Result, Ok, Err, option_map, slice_get, unwrap_or}
 use Rattle.std.specs.List.{All, find, flat_map}
 use Rattle.std.specs.Option.{option_map_or}
-use Rattle.std.specs.Result.{result_err}
 use Rattle.mkv_io.specs.Names.{AreApart}
+use Rattle.mkv_io.specs.Results.{unless}
 use Rattle.requests.specs.declared.job.Job.{Job}
 use Rattle.requests.specs.declared.job.Job.TheVariants as jobs
 use Rattle.requests.specs.declared.job.Form.{Form}
@@ -70,21 +70,20 @@ is_unfit BadConfig (Err BadConfig) = true
 abbrev pub names_unfit : UnsupportedTrack → Form → List Node → Target → Bool
 names_unfit why kind entries t = option_map_or (λ entry. is_unfit why (coding_of kind entry)) (slice_get entries t.id) false
 
--- the reason why the track of the target `t` of `extract`, by its index in the TrackEntries `entries`, can't be written in the form `kind`. There is
--- none if it can, or if the track is missing.
-abbrev pub unfit_of : Form → List Node → Target → Option UnsupportedTrack
-unfit_of kind entries t = option_map_or (λ entry. result_err (coding_of kind entry)) (slice_get entries t.id) None
-
 -- the index, from 0, of the track of the first of `targets` that can't be written in the form `kind`, for the reason `why`, or None; for the refusal
 -- of a job. `entries` has the TrackEntries of the file. Used by `refusal_taken`.
 abbrev pub first_unfit : UnsupportedTrack → Form → List Target → List Node → Option ℕ
 first_unfit why kind targets entries = option_map (λ (t : Target). t.id) (find (names_unfit why kind entries) targets)
 
+-- the refusal of a job of `extract` for the track with the index `track`, from 0, which can't be written for the reason `why`. Used by `refusal_of`.
+abbrev pub refusal : UnsupportedTrack → ℕ → Refusal
+refusal why track = record { why = why; track = track }
+
 -- The refusal of a job of `extract`: for the first track whose codec has no form, the first argument, or else for the first with a bad configuration
 -- (`bad_config`). Both are indexes of tracks, from 0, or None without such a track.
 abbrev pub refusal_of : Option ℕ → Option ℕ → Option Refusal
-refusal_of (Some track) bad_config = Some (record { why = NoExtractor; track = track })
-refusal_of None (Some track) = Some (record { why = BadConfig; track = track })
+refusal_of (Some track) bad_config = Some (refusal NoExtractor track)
+refusal_of None (Some track) = Some (refusal BadConfig track)
 refusal_of None None = None
 
 -- the output of `extract` with the name `name` for the track with the TrackEntry `entry`, in the coding `coding`. Its prefix has the bytes that
@@ -134,3 +133,12 @@ refusal_taken (Some kind) targets entries = refusal_of (first_unfit NoExtractor 
 -- the refusal of the job `job` of `extract` for one of the tracks that it names, or None; `entries` has the TrackEntries of the file
 abbrev pub job_refusal : Job → List Node → Option Refusal
 job_refusal job entries = refusal_taken (form_of job) (targets_of job) entries
+
+-- the outputs of `extract` in the form `kind` for `targets`, or the refusal for the track of one of them; `entries` has the TrackEntries of the file.
+-- The contract of `outputs_for` promises it.
+abbrev pub outputs_or_refusal : Form → List Target → List Node → Result (List TrackOutput) Refusal
+outputs_or_refusal kind targets entries = unless (refusal_taken (Some kind) targets entries) (outputs_for kind targets entries)
+
+-- the outputs of the job `job` of `extract`, or its refusal; `entries` has the TrackEntries of the file. The contract of `job_outputs` promises it.
+abbrev pub fit_outputs : Job → List Node → Result (List TrackOutput) Refusal
+fit_outputs job entries = unless (job_refusal job entries) (job_outputs job entries)

@@ -15,11 +15,10 @@ use Rattle.meta_records.specs.Walk.{IsAttachedIn}
 use Rattle.meta_records.specs.Records.{AreRead, IsGoodInfo, scale_of_info}
 use Rattle.block_format.specs.Elements.{with_limits}
 use Rattle.block_format.specs.Events.{Event, events_of}
-use Rattle.extractors.specs.Job.{job_outputs}
 use Rattle.extractors.specs.declared.track_output.TrackOutput.{TrackOutput}
 use Rattle.extractors.specs.declared.source.Source.{Source}
 
--- the TrackEntry of the track `t` that was read from a file to extract from. Used by `track_outputs`, `job_refusal` and others.
+-- the TrackEntry of the track `t` that was read from a file to extract from. Used by `job_outputs` and others.
 abbrev pub entry_in : Track → Node
 entry_in t = t.entry
 
@@ -32,10 +31,6 @@ entries_in s = map entry_in s.tracks
 -- `TellsTaken`
 abbrev pub events_in : Source → List ℕ → List Event
 events_in s bytes = events_of (with_limits (scale_of_info s.info)) bytes s.outline.segment
-
--- the outputs of the job `job` of `extract` for the tracks of the source `s`, in order
-abbrev pub outputs_in : Source → Job → List TrackOutput
-outputs_in s job = job_outputs job (entries_in s)
 
 -- ---- requirements of a source
 

@@ -9,7 +9,6 @@ use Rattle.mkv_io.specs.declared.outside.FileId.{FileId}
 use Rattle.mkv_io.specs.Writing.{KeepsOthers}
 use Rattle.mkv_io.specs.declared.reads.Reads.{Ghosts}
 use Rattle.mkv_io.specs.declared.files.Files as writing
-use Rattle.requests.specs.declared.job.Job.{Job}
 use Rattle.elementary.specs.Avc.{annex_b}
 use Rattle.elementary.specs.Aac.{adts}
 use Rattle.elementary.specs.Pgs.{pgs, segments_of}
@@ -28,7 +27,7 @@ use Rattle.extractors.specs.BadFrames.{TellsMore, bad_in, told_of}
 use Rattle.extractors.specs.Content.{counted, entries_from, entry_of, outputs_of}
 use Rattle.extractors.specs.Codec.{CanWrite}
 use Rattle.extractors.specs.Frames.{Frame, frames_for, frames_of_block, frames_of}
-use Rattle.extractors.specs.Source.{events_in, outputs_in}
+use Rattle.extractors.specs.Source.{events_in}
 use Rattle.extractors.specs.Takes.{IsEnoughFor, IsEnoughForAll}
 use Rattle.extractors.specs.Whole.{AreWritten}
 use Rattle.extractors.specs.declared.extracted.Extracted.{Extracted}
@@ -61,8 +60,8 @@ pub record IsReady (o : TrackOutput) : Type 0 where
   pub step : o.step < 2 ^ 48
   pub can : CanWrite o.form
 
--- the bytes that `give_units` writes for the whole frame `octets` of H.264 or H.265, whose units have lengths of `length_size` bytes: each unit after a start
--- code. A bad frame has none.
+-- the bytes that `give_units` writes for the whole frame `octets` of H.264 or H.265, whose units have lengths of `length_size` bytes: each unit after
+-- a start code. A bad frame has none.
 abbrev pub annexed : ℕ → List ℕ → List ℕ
 annexed length_size octets = unwrap_or (annex_b length_size octets) []
 
@@ -88,13 +87,13 @@ Adds f old new sinks later k octets result = Gives f old new sinks later (with_m
 
 -- The frame `frame` was appended, in the form of the output `o`, to the output with index `k`; nothing was for a bad frame. `old` and `new` are the
 -- states before and after the call, `sinks` and `later` the open outputs. It is the contract of `give_frame`. `f` gives the proof's view of the
--- files.
+-- files. `result` is what the call returned.
 abbrev pub AddsFrame : {S T E : Type 0} → writing.Ghosts S → TrackOutput → Framed → S → S → List Sink → List Sink → ℕ → Result T E → Type 0
 AddsFrame f o frame old new sinks later k result = Adds f old new sinks later k (entry_of o frame.number (frame_of frame)) result
 
 -- The frames of the block at the cursor `c` were appended, in the form of the output `o`, to the output with index `k`. The first has number `n` in
 -- its track. `old` and `new` are the states before and after the call, `sinks` and `later` the open outputs. It is the contract of `give_frames`. `f`
--- gives the proof's view of the files.
+-- gives the proof's view of the files. `result` is what the call returned.
 abbrev pub AddsLent : {S T E : Type 0} → writing.Ghosts S → TrackOutput → ℕ → Reading → S → S → List Sink → List Sink → ℕ → Result T E → Type 0
 AddsLent f o n c old new sinks later k result = Adds f old new sinks later k (entries_from o n (frames_of_block o.step (block_of c.block))) result
 
@@ -105,7 +104,8 @@ CountsFrames o n c result = IfOk result (λ next. next ≡ counted (n + length (
 
 -- The timestamps of the frames of a block were appended, in the form of the output `o`, to the output with index `k`. The first frame has number `n`
 -- in its track. The cursor `c` needs only the head of this block and its number of frames. `old` and `new` are the states before and after the call,
--- `sinks` and `later` the open outputs. It is the contract of `give_times`. `f` gives the proof's view of the files.
+-- `sinks` and `later` the open outputs. It is the contract of `give_times`. `f` gives the proof's view of the files. `result` is what the call
+-- returned.
 abbrev pub AddsTime : {S T E : Type 0} → writing.Ghosts S → TrackOutput → ℕ → Reading → S → S → List Sink → List Sink → ℕ → Result T E → Type 0
 AddsTime f o n c old new sinks later k result = (b : Block) → IsKnownByHead b c.block → Adds f old new sinks later k (entries_from o n (frames_of_block o.step b)) result
 
@@ -116,7 +116,7 @@ CountsTimes o n c result = (b : Block) → IsKnownByHead b c.block → IfOk resu
 
 -- The frames of a block were appended to the output `o`, with index `k`, if the block is of its track. The next frame of `o` has number `n`. The
 -- cursor `c` has enough of the block for it. `old` and `new` are the states before and after the call, `sinks` and `later` the open outputs. It is
--- the contract of `give_to`. `f` gives the proof's view of the files.
+-- the contract of `give_to`. `f` gives the proof's view of the files. `result` is what the call returned.
 abbrev pub AddsPart : {S T E : Type 0} → writing.Ghosts S → TrackOutput → ℕ → Reading → S → S → List Sink → List Sink → ℕ → Result T E → Type 0
 AddsPart f o n c old new sinks later k result = (b : Block) → IsEnoughFor o b c.block → Adds f old new sinks later k (piece o n b) result
 
@@ -156,7 +156,7 @@ WritesBlock f list old new sinks later before after b (Err _) = (since : Names) 
 
 -- The block at the cursor `c` was appended to all outputs of `list` that are for its track. The cursor has enough of it for them. `before` and
 -- `after` have the number of each output's next frame, before and after the call. `old` and `new` are the states, `sinks` and `later` the open
--- outputs. It is the contract of `give_block`. `f` gives the proof's view of the files.
+-- outputs. It is the contract of `give_block`. `f` gives the proof's view of the files. `result` is what the call returned.
 abbrev pub GivesLent : {S T E : Type 0} → writing.Ghosts S → List TrackOutput → Reading → S → S → List Sink → List Sink → List ℕ → List ℕ → Result T E → Type 0
 GivesLent f list c old new sinks later before after result = (b : Block) → IsEnoughForAll list b c.block → WritesBlock f list old new sinks later before after b result
 
@@ -191,13 +191,13 @@ ReadsFew size before now (Err _) = now ≤ before + 2 * size
 
 -- The remaining blocks in the file of the cursor `c` were appended to the outputs `list`, which had none in the state `old`. After a failure, in
 -- `new`, they may be there in part. `sinks` and `later` are the open outputs before and after the call. It is promised if the file's content is
--- visible to the proof. It is the contract of `write_blocks`. `r` and `f` give the proof's view of the files.
+-- visible to the proof. It is the contract of `write_blocks`. `r` and `f` give the proof's view of the files. `result` is what the call returned.
 abbrev pub GivesLeft : {S T E : Type 0} → Ghosts S → writing.Ghosts S → List TrackOutput → Reading → S → S → List Sink → List Sink → Result T E → Type 0
 GivesLeft r f list c old new sinks later result = IfTold r old c.file (λ bytes. GivesBlocks f list old new sinks later (blocks_of (left_of bytes c)) result)
 
 -- The outputs `list` were created, written with the remaining blocks in the file of the cursor `c`, and closed, between the states `old` and `new`.
 -- After a failure they may be there in part. It is promised if the file's content is visible to the proof. It is the contract of `write_tracks`. `r`
--- and `f` give the proof's view of the files.
+-- and `f` give the proof's view of the files. `result` is what the call returned.
 abbrev pub WritesLeft : {S T E : Type 0} → Ghosts S → writing.Ghosts S → List TrackOutput → Reading → S → S → Result T E → Type 0
 WritesLeft r f list c old new result = IfTold r old c.file (λ bytes. AreWritten (f.names old) (f.names new) (outputs_of list (blocks_of (left_of bytes c))) result)
 
@@ -207,18 +207,18 @@ abbrev pub TellsLeft : {S E : Type 0} → Ghosts S → List TrackOutput → Read
 TellsLeft r list c old result = IfTold r old c.file (λ bytes. IfOk result (λ extracted. extracted ≡ told_of list (left_of bytes c)))
 
 -- A call of `extract` for tracks, or a step of it, has read at most the length of the file `file`, in bytes, or twice that length if it failed. `old`
--- and `new` are the states before and after the call, and `r` gives the proof's view of them.
+-- and `new` are the states before and after the call, and `r` gives the proof's view of them. `result` is what the call returned.
 abbrev pub ReadsFewOf : {S T E : Type 0} → Ghosts S → FileId → S → S → Result T E → Type 0
 ReadsFewOf r file old new result = ReadsFew (file_size r old file) (r.octets_read old) (r.octets_read new) result
 
--- The outputs of `job` were written between the states `old` and `new`, with all blocks of the source `s`. After a failure they may be there in part.
--- It is promised if the source's content is visible to the proof. It is the contract of `extract` for tracks. `r` and `f` give the proof's view of
--- the files.
-abbrev pub WritesTaken : {S T E : Type 0} → Ghosts S → writing.Ghosts S → Source → Job → S → S → Result T E → Type 0
-WritesTaken r f s job old new result =
-    IfTold r old s.file (λ bytes. AreWritten (f.names old) (f.names new) (outputs_of (outputs_in s job) (blocks_of (events_in s bytes))) result)
+-- The outputs `list` were written between the states `old` and `new`, with all blocks of the source `s`. After a failure they may be there in part.
+-- It is promised if the source's content is visible to the proof. It is the contract of `extract` for tracks, which returned `result`. `r` and `f`
+-- give the proof's view of the files.
+abbrev pub WritesTaken : {S T E : Type 0} → Ghosts S → writing.Ghosts S → Source → List TrackOutput → S → S → Result T E → Type 0
+WritesTaken r f s list old new result =
+    IfTold r old s.file (λ bytes. AreWritten (f.names old) (f.names new) (outputs_of list (blocks_of (events_in s bytes))) result)
 
--- `result` has all damaged places of the source `s` and the bad frames that `job` leaves out. It is promised if the source's content is visible to
--- the proof in the state `old`. It is the contract of `extract` for tracks. `r` gives the proof's view of the files.
-abbrev pub TellsTaken : {S E : Type 0} → Ghosts S → Source → Job → S → Result Extracted E → Type 0
-TellsTaken r s job old result = IfTold r old s.file (λ bytes. IfOk result (λ extracted. extracted ≡ told_of (outputs_in s job) (events_in s bytes)))
+-- `result` has all damaged places of the source `s` and the bad frames that the outputs `list` leave out. It is promised if the source's content is
+-- visible to the proof in the state `old`. It is the contract of `extract` for tracks. `r` gives the proof's view of the files.
+abbrev pub TellsTaken : {S E : Type 0} → Ghosts S → Source → List TrackOutput → S → Result Extracted E → Type 0
+TellsTaken r s list old result = IfTold r old s.file (λ bytes. IfOk result (λ extracted. extracted ≡ told_of list (events_in s bytes)))

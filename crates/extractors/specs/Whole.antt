@@ -36,6 +36,6 @@ pub record WritesFile {S T : Type 0} (r : Ghosts S) (f : writing.Ghosts S) (name
   pub reads : r.octets_read new ≤ r.octets_read old + most
 
 -- A call of `copy_file` has created or replaced the file `name` with `len` bytes of the open file `from`, starting at the offset `at`. Each of them
--- is read once. `old` and `new` are the states before and after. `r` and `f` give the proof's view of the files.
+-- is read once. `old` and `new` are the states before and after. `r` and `f` give the proof's view of the files. `result` is what the call returned.
 abbrev pub CopiesFile : {S T : Type 0} → Ghosts S → writing.Ghosts S → List ℕ → FileId → ℕ → ℕ → S → S → Result T RemuxEnd → Type 0
 CopiesFile r f name from at len old new result = WritesFile r f name (octets_in r old from at len) len old new result

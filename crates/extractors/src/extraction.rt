@@ -1,6 +1,6 @@
 //! Extraction of tracks: the outputs are created, written and closed.
 
-ghost use Rattle.std.specs.Prelude.{◌≡◌, ◌<◌, [], IsSome};
+ghost use Rattle.std.specs.Prelude.{◌≡◌, ◌<◌, []};
 ghost use Rattle.std.specs.List.{All};
 ghost use Rattle.mkv_io.specs.Faults.{HasCause, is_make_failure};
 ghost use Rattle.mkv_io.specs.Names.{AreApart, AreOthers};
@@ -10,57 +10,48 @@ ghost use Rattle.mkv_io.specs.Ends.{HasRemuxCause};
 ghost use Rattle.cluster_reader.specs.Reading.{CanRead};
 ghost use Rattle.mkv_outputs.specs.Sinks.{AreOpen, HaveBeenGiven, MadeSince};
 ghost use Rattle.extractors.specs.Content.{names_in, outputs_of};
-ghost use Rattle.extractors.specs.Job.{form_of, names_of, targets_of};
-ghost use Rattle.extractors.specs.Source.{AreUsable, IsSource, outputs_in};
+ghost use Rattle.extractors.specs.Source.{IsSource};
 ghost use Rattle.extractors.specs.Walks.{IsReady, MakesOutputs, ReadsFewOf, TellsLeft, TellsTaken, WritesLeft, WritesTaken};
 
 use crate::blocks::write_blocks;
 use crate::extracted::Extracted;
-use crate::job::{form_of, targets_of, track_outputs};
 use crate::source::Source;
 use crate::track_output::TrackOutput;
 use cluster_reader::Cursor;
 use meta_records::scale_of;
 use mkv_io::{Files, MakeFault, RemuxEnd};
 use mkv_outputs::Outputs;
-use requests::Job;
 use std::alloc::Global;
 
-/// Extracts tracks: it creates or replaces the file of each target of `job`, in one pass over the source. A file has
-/// the frames of its track, or their timestamps. Returns the damage of the source and the frames that were left out
-/// because they can't be written in their codec's form. A target whose track is missing, or can't be written in the
-/// job's form, makes no file; `job_refusal` reports that beforehand.
+/// Extracts tracks: it creates or replaces the file of each of the outputs `list`, in one pass over `source`. A file has
+/// the bytes before the frames of its track, and the frames, or their timestamps. Returns the damage of the source and
+/// the frames that were left out because they can't be written in their codec's form. `mkvsuite extract` calls it with
+/// the outputs that `job_outputs` makes of the job.
 ///
-/// `source` must have been read from its file, and `job` must be one that writes frames. Its output names must differ
-/// from each other and from the source's name. The frames of its tracks must be usable.
+/// `source` must have been read from its file. The outputs must be for its tracks; their names must differ from each
+/// other and from the source's name.
 pub fn extract<F: Files>(
     alloc: Global,
     files: &mut F,
     source: &Source,
-    job: &Job,
+    list: &[TrackOutput],
 ) -> Result<Extracted, RemuxEnd>
     requires source { IsSource F.Reads files.old source.now }
-    requires takes { IsSome (form_of job.now) }
-    requires usable { AreUsable source.now (targets_of job.now) }
-    requires apart { AreApart (names_of (targets_of job.now)) }
-    requires other { AreOthers (F.holder files.old source.now.file.n) (names_of (targets_of job.now)) }
+    requires ready { All IsReady list.now }
+    requires apart { AreApart (names_in list.now) }
+    requires other { AreOthers (F.holder files.old source.now.file.n) (names_in list.now) }
 
-    // Each output is the one that its target asks for, and no other name changes. On failure the first outputs exist,
-    // each a first part.
-    ensures writes { WritesTaken F.Reads F.Files.own source.now job.now files.old files.new result }
-    ensures tells { TellsTaken F.Reads source.now job.now files.old result }
+    // Each output is complete, and no other name changes. On failure the first outputs exist, each a first part.
+    ensures writes { WritesTaken F.Reads F.Files.own source.now list.now files.old files.new result }
+    ensures tells { TellsTaken F.Reads source.now list.now files.old result }
 
     // No file stays open in any case.
-    ensures kept { KeepsOthers F.Reads F.Files.own (names_in (outputs_in source.now job.now)) files.old files.new }
+    ensures kept { KeepsOthers F.Reads F.Files.own (names_in list.now) files.old files.new }
     ensures cause { HasRemuxCause F.Reads F.Files.own files.old files.new result }
     ensures octets { ReadsFewOf F.Reads source.now.file files.old files.new result }
 {
-    let Some(form) = form_of(job) else {
-        unreachable!()
-    };
-    let list = track_outputs(alloc, form, targets_of(job), &source.tracks)?;
     let mut cursor = Cursor::start(alloc, &source.outline, source.file, scale_of(&source.info))?;
-    write_tracks(alloc, &list, files, &mut cursor)
+    write_tracks(alloc, list, files, &mut cursor)
 }
 
 /// Creates the outputs `list`, writes the remaining blocks of `cursor` to them and closes them, also after a failure.

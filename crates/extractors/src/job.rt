@@ -1,11 +1,13 @@
 //! The outputs of a job, and the reasons to refuse it.
 
-ghost use Rattle.std.specs.Prelude.{◌≡◌, map, IfOk, Some};
+ghost use Rattle.std.specs.Prelude.{◌≡◌, map, IfOk};
+ghost use Rattle.std.specs.List.{All};
 ghost use Rattle.track_records.specs.Sound.{IsEntry};
 ghost use Rattle.track_records.specs.Track.{track_of};
-ghost use Rattle.extractors.specs.Job.{form_of, job_refusal, output_with, outputs_for, refusal_of, refusal_taken, targets_of, unfit_of};
+ghost use Rattle.extractors.specs.Job.{fit_outputs, form_of, output_with, outputs_or_refusal, refusal, targets_of};
 ghost use Rattle.meta_records.specs.Records.{AreRead};
 ghost use Rattle.extractors.specs.Source.{AreUsableOf, IsUsable, entry_in};
+ghost use Rattle.extractors.specs.Walks.{IsReady};
 
 use crate::coding::{bytes_of, coding_of};
 use crate::frame_form::{Coding, Refusal, UnsupportedTrack};
@@ -16,8 +18,8 @@ use std::alloc::{AllocError, Global};
 use track_records::{Track, usable};
 
 /// Returns the form of the frames that `job`, the extraction that the command line asks for, writes; None if it
-/// extracts attached files, cue points or chapters. Used by `extract` and `job_refusal`.
-pub fn form_of(job: &Job) -> Option<Form>
+/// extracts attached files, cue points or chapters. Used by `job_outputs`.
+fn form_of(job: &Job) -> Option<Form>
     ensures { result ≡ form_of job.now }
 {
     match job {
@@ -27,8 +29,8 @@ pub fn form_of(job: &Job) -> Option<Form>
 }
 
 /// Returns the targets of `job`, the extraction that the command line asks for, whose IDs are indexes of tracks: for
-/// frames, timestamps and cue points. It returns none for attached files and chapters. Used by `extract` and
-/// `job_refusal`.
+/// frames, timestamps and cue points. It returns none for attached files and chapters. Used by `job_outputs`, and by
+/// the command, which warns of tracks that are missing.
 pub fn targets_of(job: &Job) -> &[Target]
     ensures { result.now ≡ targets_of job.now }
 {
@@ -38,20 +40,41 @@ pub fn targets_of(job: &Job) -> &[Target]
     }
 }
 
-/// Returns the outputs that are created for `targets` in the form `form`, in order. `tracks` has the tracks of the
-/// file. A target gets none if its track is missing, or can't be written in this form. No file is touched. Used by
-/// `extract`.
-pub fn track_outputs(
+/// Returns the outputs that `extract` writes for `job`, in the order of its targets, each with the coding of its track.
+/// The inner error is the reason to refuse the job: one of the tracks that it names can't be written in the job's form.
+/// `tracks` has the file's tracks. A target whose track is missing has no output, and neither has a job that writes no
+/// frames. No file is touched. The command asks for them before it creates a file.
+pub fn job_outputs(
+    alloc: Global,
+    job: &Job,
+    tracks: &List<Track>,
+) -> Result<Result<List<TrackOutput>, Refusal>, AllocError>
+    requires read { AreRead tracks.now }
+    requires usable { AreUsableOf (map entry_in tracks.now) (targets_of job.now) }
+    ensures exact { IfOk result (λ made. made ≡ fit_outputs job.now (map entry_in tracks.now)) }
+    ensures ready { IfOk result (λ made. IfOk made (All IsReady)) }
+{
+    match form_of(job) {
+        Some(form) => outputs_for(alloc, form, targets_of(job), tracks),
+        None => Ok(Ok(List::new(alloc))),
+    }
+}
+
+/// Returns the outputs for the tracks of `targets` in the form `form`, in order. The inner error is the refusal: for the
+/// first track whose codec has no form, or else for the first with a missing or invalid configuration. `tracks` has the
+/// file's tracks. Used by `job_outputs`.
+fn outputs_for(
     alloc: Global,
     form: Form,
     targets: &[Target],
     tracks: &List<Track>,
-) -> Result<Vec<TrackOutput>, AllocError>
+) -> Result<Result<List<TrackOutput>, Refusal>, AllocError>
     requires read { AreRead tracks.now }
     requires usable { AreUsableOf (map entry_in tracks.now) targets.now }
-    ensures { IfOk result (λ list. list.items ≡ outputs_for form targets.now (map entry_in tracks.now)) }
+    ensures { IfOk result (λ made. made ≡ outputs_or_refusal form targets.now (map entry_in tracks.now)) }
 {
-    let mut list = Vec::new(alloc);
+    let mut list = List::new(alloc);
+    let mut bad_config = None;
     for target in targets {
         let Some(track) = tracks.get(target.id as usize) else {
             continue;
@@ -59,14 +82,20 @@ pub fn track_outputs(
         let read = coding_of(alloc, form, track)?;
         match read {
             Ok(coding) => list.push(output_with(alloc, coding, &target.name, track)?)?,
-            Err(_) => continue,
+            Err(why) => match why {
+                UnsupportedTrack::BadConfig => bad_config = bad_config.or(Some(target.id)),
+                UnsupportedTrack::NoExtractor => return Ok(Err(refusal(why, target.id))),
+            },
         }
     }
-    Ok(list)
+    match bad_config {
+        Some(track) => Ok(Err(refusal(UnsupportedTrack::BadConfig, track))),
+        None => Ok(Ok(list)),
+    }
 }
 
 /// Returns the description of the output `name` for the frames of `track`, with the head and form of `coding`. No file
-/// is created yet. Used by `track_outputs`.
+/// is created yet. Used by `outputs_for`.
 fn output_with(
     alloc: Global,
     coding: Coding,
@@ -91,81 +120,12 @@ fn output_with(
     })
 }
 
-/// Returns the reason why the extraction `job` is refused for one of the tracks that it names, if any; `tracks` has the
-/// file's tracks. The command asks before it creates a file.
-pub fn job_refusal(
-    alloc: Global,
-    job: &Job,
-    tracks: &[Track],
-) -> Result<Option<Refusal>, AllocError>
-    requires { AreRead tracks.now }
-    ensures { IfOk result (λ refusal. refusal ≡ job_refusal job.now (map entry_in tracks.now)) }
+/// Returns the refusal of a job for the track with the index `track`, from 0, which can't be written for the reason
+/// `why`. Used by `outputs_for`.
+fn refusal(why: UnsupportedTrack, track: u64) -> Refusal
+    ensures { result ≡ refusal why track }
 {
-    match form_of(job) {
-        Some(form) => first_refusal(alloc, form, targets_of(job), tracks),
-        None => Ok(None),
-    }
-}
-
-/// Returns the refusal for the tracks of `targets` in the form `form`, or None. It is for the first track whose codec
-/// has no form, or else for the first with a missing or invalid configuration. `tracks` has the file's tracks. Used by
-/// `job_refusal`.
-fn first_refusal(
-    alloc: Global,
-    form: Form,
-    targets: &[Target],
-    tracks: &[Track],
-) -> Result<Option<Refusal>, AllocError>
-    requires { AreRead tracks.now }
-    ensures { IfOk result (λ refusal. refusal ≡ refusal_taken (Some form) targets.now (map entry_in tracks.now)) }
-{
-    let mut bad_config = None;
-    for target in targets {
-        let unfit = unfit_of(alloc, form, target, tracks)?;
-        match unfit {
-            None => {}
-            Some(UnsupportedTrack::BadConfig) => bad_config = bad_config.or(Some(target.id)),
-            Some(UnsupportedTrack::NoExtractor) => return Ok(refusal_of(Some(target.id), None)),
-        }
-    }
-    Ok(refusal_of(None, bad_config))
-}
-
-/// Returns the refusal for the first track without a form for its codec (`no_extractor`), or else for the first with a
-/// bad configuration (`bad_config`). Both are indexes in the Tracks, from 0, or None without such a track. Used by
-/// `first_refusal`.
-fn refusal_of(no_extractor: Option<u64>, bad_config: Option<u64>) -> Option<Refusal>
-    ensures { result ≡ refusal_of no_extractor bad_config }
-{
-    match (no_extractor, bad_config) {
-        (Some(track), _) => Some(Refusal {
-            why: UnsupportedTrack::NoExtractor,
-            track,
-        }),
-        (None, Some(track)) => Some(Refusal {
-            why: UnsupportedTrack::BadConfig,
-            track,
-        }),
-        (None, None) => None,
-    }
-}
-
-/// Returns the reason why the track of `target` can't be written in the form `form`, or None if it can. A track that is
-/// missing in `tracks` has none. Used by `first_refusal`.
-fn unfit_of(
-    alloc: Global,
-    form: Form,
-    target: &Target,
-    tracks: &[Track],
-) -> Result<Option<UnsupportedTrack>, AllocError>
-    requires { AreRead tracks.now }
-    ensures { IfOk result (λ unfit. unfit ≡ unfit_of form (map entry_in tracks.now) target.now) }
-{
-    let Some(track) = tracks.get(target.id as usize) else {
-        return Ok(None);
-    };
-    let read = coding_of(alloc, form, track)?;
-    Ok(read.err())
+    Refusal { why, track }
 }
 
 /// Returns a copy of `text`, an output's name, that the output owns. Used by `output_with`.

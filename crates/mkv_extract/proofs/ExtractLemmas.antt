@@ -1,5 +1,5 @@
 -- The steps from an extraction to its result.
-use Rattle.std.proofs.Common.{◌≡◌, ◌+◌, ◌≤◌, ℕ, zero, suc, nat_lt, if◌then◌else◌, slice_get, arith, List, [], ◌∷◌, ◌++◌, length, Bool, true, false, ◌||◌, map, cond, append-nil, Option, Some, None, option_map, option_to_list, IsSome, Result, Err, IfOk, inl, refl, sym, ◌∙◌, ap, subst}
+use Rattle.std.proofs.Common.{◌≡◌, ◌+◌, ◌≤◌, ℕ, zero, suc, nat_lt, if◌then◌else◌, slice_get, arith, List, [], ◌∷◌, ◌++◌, length, Bool, true, false, ◌||◌, map, cond, append-nil, Option, Some, None, Ok, option_map, option_to_list, IsSome, Result, Err, IfOk, inl, refl, sym, ◌∙◌, ap, subst}
 use Rattle.std.specs.List.{All, find}
 use Rattle.std.specs.Str.{bytes_eq}
 use Rattle.std.proofs.lemmas.Bool.{le-ltb, lt-ltb}
@@ -7,7 +7,7 @@ use Rattle.std.proofs.lemmas.List.{length-map}
 use Rattle.std.proofs.lemmas.Slice.Eq.{bytes_eq-Decides}
 use Rattle.mkv_io.specs.Asked.{AsksFor, AsksOnly, IsNotAmong}
 use Rattle.mkv_io.specs.Lines.{with_lines}
-use Rattle.mkv_io.specs.Names.{AreOthers}
+use Rattle.mkv_io.specs.Names.{AreApart, AreOthers}
 use Rattle.mkv_io.specs.declared.asked.Asked.{Asked}
 use Rattle.mkv_io.specs.declared.asked.Asked.TheVariants.{Opened}
 use Rattle.mkv_io.proofs.AskedLemmas.{asks-both, asks-more, asks-none, asks-one}
@@ -28,11 +28,14 @@ use Rattle.block_format.specs.Events.{Event, blocks_of}
 use Rattle.cluster_reader.specs.ToldDamages.{told_damages}
 use Rattle.meta_records.specs.Records.{scale_of_info}
 use Rattle.extractors.specs.Content.{names_in}
-use Rattle.extractors.specs.Job.{first_unfit, form_of, job_outputs, job_refusal, names_for, outputs_taken, refusal_of, refusal_taken, targets_of}
+use Rattle.extractors.specs.Job.{first_unfit, fit_outputs, form_of, job_outputs, job_refusal, names_for, outputs_taken, refusal_of, refusal_taken, targets_of}
 use Rattle.extractors.specs.declared.frame_form.UnsupportedTrack.TheVariants.{NoExtractor, BadConfig}
 use Rattle.extractors.specs.Job as jobs
 use Rattle.extractors.proofs.ContentLemmas.{names_of-outputs}
-use Rattle.extractors.proofs.JobLemmas.{job_outputs-others}
+use Rattle.extractors.proofs.JobLemmas.{job_outputs-others, outputs_for-apart}
+use Rattle.mkv_io.specs.Results.{unless}
+use Rattle.extractors.specs.declared.frame_form.Refusal.{Refusal}
+use Rattle.extractors.specs.declared.track_output.TrackOutput.{TrackOutput}
 use Rattle.extractors.specs.Source.{entry_in}
 use Rattle.mkv_lines.specs.Line.{no_attachment_line, no_track_line, wrote_line}
 use Rattle.mkv_lines.specs.Said.{ReportLines, Says, SaysPart}
@@ -96,6 +99,25 @@ none-refused : (unknown bad : Option ℕ) → refusal_of unknown bad ≡ None �
 none-refused (Some k) bad is = absurd (cc)
 none-refused None (Some k) is = absurd (cc)
 none-refused None None is = (refl, refl)
+
+-- A job whose files have different names has outputs with different names.
+pub job_outputs-apart : (job : Job) (entries : List Node) → AreApart (names_for job) → AreApart (names_in (job_outputs job entries))
+job_outputs-apart (form.Tracks kind list) entries apart = outputs_for-apart kind list entries apart
+job_outputs-apart (form.Attachments list) entries apart = tt
+job_outputs-apart (form.Cues list) entries apart = tt
+job_outputs-apart (form.Chapters out) entries apart = tt
+
+-- Outputs that were made are the job's, and the job isn't refused.
+module _ (job : Job) (entries : List Node) (list : List TrackOutput) (fit : Ok list ≡ fit_outputs job entries) where
+  parts : (why : Option Refusal) → Ok list ≡ unless why (job_outputs job entries) → (why ≡ None) × (list ≡ job_outputs job entries)
+  parts (Some why) is = absurd (cc)
+  parts None is = let same : list ≡ job_outputs job entries = cc in (refl, same)
+
+  pub fit-none : job_refusal job entries ≡ None
+  fit-none = (parts (job_refusal job entries) fit).0
+
+  pub fit-same : list ≡ job_outputs job entries
+  fit-same = (parts (job_refusal job entries) fit).1
 
 -- The outputs of a job that isn't refused have the names of the targets whose tracks the file has.
 taken-names : (kind : Option Form) (targets : List Target) (entries : List Node) → IsSome kind → refusal_taken kind targets entries ≡ None → names_in (outputs_taken kind targets entries) ≡ written (length entries) targets

@@ -17,7 +17,8 @@ use Rattle.mkv_lines.specs.declared.status.CommandEnd.{CommandEnd}
 use Rattle.mkv_extract.specs.Extract.{extract_verdict}
 
 -- The call has the outcome of `extract` for the file `name` and `job`. `files` and `files'` are the states of the files before and after, `report`
--- and `report'` of the report. It is promised if the contents are visible to the proof. The contract of `extract_of` states it.
+-- and `report'` of the report. It is promised if the contents are visible to the proof. The contract of `extract_of` states it. `r`, `f` and `p` give
+-- the proof's view of the files and the report. `result` is what the call returned.
 abbrev pub Takes : {F P : Type 0} → ReadsGhosts F → FilesGhosts F → ReportGhosts P → F → F → P → P → Result Status CommandEnd → List ℕ → Job → Type 0
 Takes r f p files files' report report' result name job =
     IfVisible (f.names files) (λ world. Fulfils r f p files files' report report' result (extract_verdict world name job))

@@ -49,43 +49,49 @@ settled_taken name job pending bytes =
 
 -- The call has the outcome of `taken` for the content of the open file `file` with the name `name`. `files` and `files'` are the states of the files
 -- before and after, `report` and `report'` of the report. It is promised if the content is visible to the proof. Used by the contracts of `extract`'s
--- steps.
+-- steps. `r`, `f` and `p` give the proof's view of the files and the report. `result` is what the call returned.
 abbrev pub ComesToTaken : {F P : Type 0} → ReadsGhosts F → FilesGhosts F → ReportGhosts P → FileId → F → F → P → P → Result Status CommandEnd → List ℕ → (List ℕ → Result Taken (List ℕ)) → Type 0
 ComesToTaken r f p file files files' report report' result name taken =
     IfTold r files file (λ bytes. Fulfils r f p files files' report report' result (verdict_of name (taken bytes)))
 
 -- The call did `job` on the open file `file` with the name `name`, unless its journal has a pending edit. `files` and `files'` are the states of the
--- files before and after, `report` and `report'` of the report. The contract of `extract_settled` states it.
+-- files before and after, `report` and `report'` of the report. The contract of `extract_settled` states it. `r`, `f` and `p` give the proof's view
+-- of the files and the report. `result` is what the call returned.
 abbrev pub TakesSettled : {F P : Type 0} → ReadsGhosts F → FilesGhosts F → ReportGhosts P → FileId → F → F → P → P → Result Status CommandEnd → List ℕ → Job → Type 0
 TakesSettled r f p file files files' report report' result name job =
     IfVisible (f.names files) (λ world. ComesToTaken r f p file files files' report report' result name (settled_taken name job (is_pending world name)))
 
 -- The call did `job` on the open file `file` with the name `name`, or refused the file. `files` and `files'` are the states of the files before and
--- after, `report` and `report'` of the report. The contract of `extract_file` states it.
+-- after, `report` and `report'` of the report. The contract of `extract_file` states it. `r`, `f` and `p` give the proof's view of the files and the
+-- report. `result` is what the call returned.
 abbrev pub TakesFile : {F P : Type 0} → ReadsGhosts F → FilesGhosts F → ReportGhosts P → FileId → F → F → P → P → Result Status CommandEnd → List ℕ → Job → Type 0
 TakesFile r f p file files files' report report' result name job = ComesToTaken r f p file files files' report report' result name (file_taken name job)
 
 -- The call did `job` on `source`, which was read from the file `name`, unless a track can't be extracted in its form. `files` and `files'` are the
--- states of the files before and after, `report` and `report'` of the report. The contract of `extract_job` states it.
+-- states of the files before and after, `report` and `report'` of the report. The contract of `extract_job` states it. `r`, `f` and `p` give the
+-- proof's view of the files and the report. `result` is what the call returned.
 abbrev pub TakesSource : {F P : Type 0} → ReadsGhosts F → FilesGhosts F → ReportGhosts P → Source → F → F → P → P → Result Status CommandEnd → List ℕ → Job → Type 0
 TakesSource r f p source files files' report report' result name job =
     ComesToTaken r f p source.file files files' report report' result name (λ bytes. fit_taken name job bytes (read_in source) (events_in source bytes))
 
 -- The call extracted the frames that `job` asks for from `source`, the file `name`, unless a track can't be extracted in its form. `files` and
--- `files'` are the states of the files before and after, `report` and `report'` of the report. The contract of `extract_fit` states it.
+-- `files'` are the states of the files before and after, `report` and `report'` of the report. The contract of `extract_fit` states it. `r`, `f` and
+-- `p` give the proof's view of the files and the report. `result` is what the call returned.
 abbrev pub TakesFrames : {F P : Type 0} → ReadsGhosts F → FilesGhosts F → ReportGhosts P → Source → F → F → P → P → Result Status CommandEnd → List ℕ → Job → Type 0
 TakesFrames r f p source files files' report report' result name job =
     ComesToTaken r f p source.file files files' report report' result name (λ bytes.
     unless (unfit_track name job (read_in source)) (frames_taken name job (read_in source) (events_in source bytes)))
 
 -- The call extracted the frames that `job` asks for from `source`, the file `name`, whose tracks can all be extracted in its form. `files` and
--- `files'` are the states of the files before and after, `report` and `report'` of the report. The contract of `extract_source` states it.
+-- `files'` are the states of the files before and after, `report` and `report'` of the report. The contract of `extract_source` states it. `r`, `f`
+-- and `p` give the proof's view of the files and the report. `result` is what the call returned.
 abbrev pub TakesFit : {F P : Type 0} → ReadsGhosts F → FilesGhosts F → ReportGhosts P → Source → F → F → P → P → Result Status CommandEnd → List ℕ → Job → Type 0
 TakesFit r f p source files files' report report' result name job = IfTold r files source.file (λ bytes.
     Fulfils r f p files files' report report' result (done_verdict name (frames_taken name job (read_in source) (events_in source bytes))))
 
 -- The call extracted the attached files that `targets` name from `source`, which was read from the file `name`. `files` and `files'` are the states
--- of the files before and after, `report` and `report'` of the report. The contract of `extract_attachments` states it.
+-- of the files before and after, `report` and `report'` of the report. The contract of `extract_attachments` states it. `r`, `f` and `p` give the
+-- proof's view of the files and the report. `result` is what the call returned.
 abbrev pub TakesAttached : {F P : Type 0} → ReadsGhosts F → FilesGhosts F → ReportGhosts P → Source → F → F → P → P → Result Status CommandEnd → List ℕ → List Target → Type 0
 TakesAttached r f p source files files' report report' result name targets = IfTold r files source.file (λ bytes.
     Fulfils r f p files files' report report' result (done_verdict name (attached_taken name targets bytes (read_in source))))

@@ -1,9 +1,11 @@
 //! The command `extract`: a file is opened, its parts are written to outputs, and it is closed.
 
-ghost use Rattle.std.specs.Prelude.{◌≡◌, ◌*◌, [], ◌∷◌, None, IsSome};
+ghost use Rattle.std.specs.Prelude.{◌≡◌, ◌*◌, [], ◌∷◌, IsSome, Ok};
+ghost use Rattle.std.specs.List.{All};
 ghost use Rattle.mkv_io.specs.Asked.{AsksOnly};
-ghost use Rattle.extractors.specs.Job.{CanBeDone, form_of, job_refusal, names_for};
+ghost use Rattle.extractors.specs.Job.{CanBeDone, fit_outputs, form_of, names_for};
 ghost use Rattle.extractors.specs.Source.{entries_in};
+ghost use Rattle.extractors.specs.Walks.{IsReady};
 ghost use Rattle.sidecar_edit.specs.Name.{sidecar_of, with_sidecar};
 ghost use Rattle.mkv_lines.specs.Command.{HasEnded, with_sidecar_head};
 ghost use Rattle.mkv_io.specs.Bounds.{ReadsOf};
@@ -20,7 +22,9 @@ use crate::names::first_written;
 use crate::reading::read_source;
 use crate::telling::{Missing, say_absent, tell};
 use element_reader::OutlineEnd;
-use extractors::{Refusal, Source, UnsupportedTrack, extract, job_refusal, targets_of};
+use extractors::{
+    Refusal, Source, TrackOutput, UnsupportedTrack, extract, job_outputs, targets_of,
+};
 use mkv_io::{FileId, Files, OpenFault, Report};
 use mkv_lines::{CommandEnd, Line, Status, refuse, stop_of};
 use requests::Job;
@@ -160,9 +164,17 @@ fn extract_fit<F: Files, P: Report>(
     ensures asks { AsksOnly [] (names_for job.now) (F.asked files.old) (F.asked files.new) }
     ensures octets { ReadsOf F.Reads files.old files.new source.now.file (λ octets. 2 * octets) }
 {
-    match job_refusal(alloc, job, source.tracks.as_slice()) {
-        Ok(None) => extract_source(alloc, name, job, source, files, report),
-        Ok(Some(refusal)) => refuse(alloc, &line_of(name, refusal), report),
+    match job_outputs(alloc, job, &source.tracks) {
+        Ok(Ok(outputs)) => extract_source(
+            alloc,
+            name,
+            job,
+            source,
+            outputs.as_slice(),
+            files,
+            report,
+        ),
+        Ok(Err(refusal)) => refuse(alloc, &line_of(name, refusal), report),
         Err(AllocError) => Err(CommandEnd::Memory),
     }
 }
@@ -179,18 +191,20 @@ fn line_of(name: &str, refusal: Refusal) -> Line<'_>
     }
 }
 
-/// Writes the outputs of `job`, which extracts tracks, from `source`, the open file `name`, and prints the messages.
-/// Tracks that the file lacks are warned of first. For `extract_fit`, after all tracks were checked.
+/// Writes `outputs`, the ones of `job`, which extracts tracks, from `source`, the open file `name`, and prints the
+/// messages. Tracks that the file lacks are warned of first. For `extract_fit`, after all tracks were checked.
 fn extract_source<F: Files, P: Report>(
     alloc: Global,
     name: &str,
     job: &Job,
     source: &Source,
+    outputs: &[TrackOutput],
     files: &mut F,
     report: &mut P,
 ) -> Result<Status, CommandEnd>
     requires takes { IsSome (form_of job.now) }
-    requires fit { job_refusal job.now (entries_in source.now) ≡ None }
+    requires fit { Ok outputs.now ≡ fit_outputs job.now (entries_in source.now) }
+    requires ready { All IsReady outputs.now }
     requires can { CanTakeFrom F.Reads F.Files.own files.old source.now job.now }
     ensures verdict { TakesFit F.Reads F.Files.own P.Report source.now files.old files.new report.old report.new result name.now job.now }
     ensures ended { HasEnded F.Reads F.Files.own P.Report files.old files.new report.old report.new result }
@@ -200,7 +214,7 @@ fn extract_source<F: Files, P: Report>(
     let targets = targets_of(job);
     let count = source.tracks.len() as u64;
     say_absent(alloc, Missing::Track, name, targets, count, report)?;
-    let extracted = match extract(alloc, files, source, job) {
+    let extracted = match extract(alloc, files, source, outputs) {
         Ok(extracted) => extracted,
         Err(end) => return Err(stop_of(end)),
     };

@@ -34,12 +34,13 @@ abbrev pub IsBesidesAfter : Result Command Usage → Asked → Type 0
 IsBesidesAfter (Ok command) asked = IsNotRequested command asked
 IsBesidesAfter (Err usage) asked = ⊤
 
--- From the state `files` to `files'`, no name is opened or created that `command` doesn't ask for. The contract of `execute` states it.
+-- From the state `files` to `files'`, no name is opened or created that `command` doesn't ask for. The contract of `execute` states it. `f` gives the
+-- proof's view of the files.
 abbrev pub AsksToObey : {F : Type 0} → FilesGhosts F → F → F → Command → Type 0
 AsksToObey f files files' command = AsksNone (IsNotRequested command) (f.asked files) (f.asked files')
 
 -- From the state `files` to `files'`, no name is opened or created that the command line `words` doesn't ask for. The contract of `carry_out` states
--- it.
+-- it. `f` gives the proof's view of the files.
 abbrev pub AsksByWords : {F : Type 0} → FilesGhosts F → F → F → List (String Global) → Type 0
 AsksByWords f files files' words = AsksNone (IsBesidesAfter (command (texts words))) (f.asked files) (f.asked files')
 

@@ -52,7 +52,7 @@ IsInPlace (indexed file) = ⊤
 
 -- A run with the status `s` changes only what its command works on. `old` and `new` are the states of the files before and after, `disk` and
 -- `disk_now` of the disk. An edit in place leaves the files, any other command the disk, and help or refused words both. A file in place is left as
--- its recovery, edit or new index allows. The contract of `run_command_line` states it.
+-- its recovery, edit or new index allows. The contract of `run_command_line` states it. `r` and `d` give the proof's view of the disk.
 abbrev pub Touches : {F D : Type 0} → reads.Ghosts D → disks.Ghosts D → Reach → F → F → D → D → Status → Type 0
 Touches r d nothing old new disk disk_now s = (new ≡ old) × (disk_now ≡ disk)
 Touches r d files old new disk disk_now s = disk_now ≡ disk
@@ -61,7 +61,7 @@ Touches r d (edited file edits) old new disk disk_now s = (new ≡ old) × IsEdi
 Touches r d (indexed file) old new disk disk_now s = (new ≡ old) × IsEditOf r d file writes_of_index disk disk_now s
 
 -- A command that ended with `result` changes only what it works on, `reach`. `old` and `new` are the states of the files before and after, `disk` and
--- `disk_now` of the disk. The contracts of `execute` and `carry_out` state it.
+-- `disk_now` of the disk. The contracts of `execute` and `carry_out` state it. `r` and `d` give the proof's view of the disk.
 abbrev pub Touched : {F D : Type 0} → reads.Ghosts D → disks.Ghosts D → Reach → F → F → D → D → Result Status CommandEnd → Type 0
 Touched r d reach old new disk disk_now result = Touches r d reach old new disk disk_now (status_of result)
 

@@ -53,7 +53,7 @@ pub record Outside : Type 1 where
   pub left_since : ℕ → List ℕ → List ℕ → Type 0
 
 -- the state of the files `files`, the disk `disk` and the report `report`, as plain values, for the contracts of `run` and `program`. The other
--- arguments have the parts of their states.
+-- arguments have the parts of their states. `r`, `f`, `d`, `s` and `p` give the proof's view of the files, the disk and the report.
 abbrev pub outside : {F D R : Type 0} → ReadsGhosts F → FilesGhosts F → ReadsGhosts D → DiskGhosts D → ReportGhosts R → F → D → R → Outside
 outside r f s d p files disk report = record {
   names = f.names files;
