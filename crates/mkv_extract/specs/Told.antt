@@ -1,5 +1,5 @@
 -- The lines that an extraction prints for its targets and for damage. They are this project's.
-use Rattle.std.specs.Prelude.{◌≡◌, ℕ, ◌==◌, nat_le, nat_lt, Bool, if◌then◌else◌, List, [], ◌∷◌, ◌++◌, map, Option, Some, None, option_to_list, Result, IfOk}
+use Rattle.std.specs.Prelude.{◌≡◌, ℕ, ◌==◌, nat_le, nat_lt, Bool, if◌then◌else◌, List, [], ◌∷◌, ◌++◌, map, Option, Some, None, Result, IfOk}
 use Rattle.std.specs.List.{list_any}
 use Rattle.mkv_io.specs.declared.damage.Damage.{Damage}
 use Rattle.requests.specs.declared.job.Target.{Target}
