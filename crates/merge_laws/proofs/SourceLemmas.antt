@@ -84,8 +84,7 @@ use Rattle.mkv_merge.specs.declared.refusal.Refusal.TheVariants.{Plan}
 use Rattle.requests.specs.Texts.{HasTexts, AreTexts}
 use Rattle.merge_laws.specs.Sources.{HoldsOctets, IsReadSource, IsReadTrack, AreSources, is_taken_type}
 use Rattle.merge_laws.proofs.PlaceLemmas.{placed-read}
-use Rattle.merge_laws.proofs.TextLemmas.{entries-within, text-read, text-uids}
-use Rattle.merge_inputs.proofs.TextLemmas.{text-usable}
+use Rattle.merge_laws.proofs.TextLemmas.{entries-within, text-read, text-uids, text-usable}
 use Rattle.merge_laws.proofs.TreeLemmas.{HasChildrenRead, tree_of-children, entries-octets, uid-small, IsOfOctets}
 
 -- ---- an Element that was read as a tree

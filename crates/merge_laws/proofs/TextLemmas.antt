@@ -17,6 +17,7 @@ use Rattle.file_format.specs.Encoding.{usable_causes}
 use Rattle.file_format.specs.Tracks.{IsTrack}
 use Rattle.track_records.specs.Sound.{IsEntry}
 use Rattle.track_records.specs.Track.{track_of}
+use Rattle.track_records.specs.Usable.{as_stored, causes_of}
 use Rattle.track_records.specs.declared.track.Track.{Track}
 use Rattle.ebml_tree.proofs.LeafLemmas.{uint-stands, text-stands}
 use Rattle.meta_records.specs.Records.{AreRead}
@@ -42,7 +43,7 @@ use Rattle.merge_model.specs.Links.{entry_block}
 use Rattle.output_laws.specs.Read.{IsReadBlock}
 use Rattle.requests.specs.declared.merge.FileWords.{FileWords}
 use Rattle.merge_inputs.specs.Select.{is_taken}
-use Rattle.merge_inputs.specs.Taken.{first_unusable, taken_from, taken_track}
+use Rattle.merge_inputs.specs.Taken.{first_unusable, taken_from, taken_track, track_for}
 
 -- ---- optional values
 
@@ -241,3 +242,15 @@ text-read = record {
 -- Its identifier has 64 bits.
 pub text-uids : All (λ (t : Track). t.uid < 2 ^ 64) (track_of text_entry ∷ [])
 text-uids = only (λ (t : Track). t.uid < 2 ^ 64) (omega (arith, says.uid))
+
+-- Its frames can be used, whatever the options are.
+pub text-usable : (words : FileWords) → first_unusable (taken_from words 0 (track_of text_entry ∷ [])) ≡ None
+text-usable words = of (is_taken words 0 (track_of text_entry).kind)
+  where
+    own : (keep : Bool) → causes_of (record (track_of text_entry) { stored = keep && (as_stored (track_of text_entry)).stored }) ≡ usable_causes text_entry
+    own true = refl
+    own false = refl
+
+    of : (taken : Bool) → first_unusable ((if taken then taken_track words 0 (track_of text_entry) ∷ [] else []) ++ []) ≡ None
+    of true = ap first_damage (append-nil (causes_of (track_for words (track_of text_entry))) ∙ own words.keep_encodings) ∙ is_usable
+    of false = refl
