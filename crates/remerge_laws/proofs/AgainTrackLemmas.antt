@@ -25,7 +25,7 @@ use Rattle.merge_inputs.specs.Taken.{IsTaken, taken_from, taken_track}
 use Rattle.merge_inputs.specs.declared.taken.TakenTrack.{TakenTrack}
 use Rattle.mkv_schema.specs.declared.track_type.TheConstants.{AUDIO_TRACK, SUBTITLE_TRACK, VIDEO_TRACK}
 use Rattle.merge_plan.specs.Plan.{rule_of, default_rule}
-use Rattle.merge_plan.specs.Records.{change_of, entries_from, entry_of, uids_of}
+use Rattle.merge_plan.specs.Records.{change_of, entries_from, uids_of}
 use Rattle.merge_plan.specs.Records.{entries_of as entries_given}
 use Rattle.merge_laws.specs.Sources.{is_taken_type}
 use Rattle.merge_laws.proofs.EntryLemmas.{taken-whole}
