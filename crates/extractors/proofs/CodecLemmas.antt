@@ -1,5 +1,5 @@
 -- The coding of a track can be written, and bad frames are reported block by block.
-use Rattle.std.proofs.Common.{◌≡◌, ℕ, ◌+◌, ◌<◌, ◌≤◌, nat_eq, nat_le, length, unwrap_or, arith, length-append, Bool, true, false, if◌then◌else◌, List, [], ◌∷◌, ◌++◌, append-nil, Option, None, Some, Result, Ok, Err, refl, sym, ◌∙◌, ap, subst}
+use Rattle.std.proofs.Common.{◌≡◌, ℕ, ◌+◌, ◌<◌, ◌≤◌, nat_eq, nat_le, length, unwrap_or, arith, length-append, Bool, true, false, if◌then◌else◌, List, [], ◌∷◌, ◌++◌, append-nil, Option, None, Some, Result, Ok, Err, refl, sym, ◌∙◌, ap, subst, is_some}
 use Rattle.std.specs.List.{starts_with}
 use Rattle.std.specs.Option.{option_map_or}
 use Rattle.std.proofs.lemmas.Bool.{cond-true, cond-false}
@@ -94,3 +94,16 @@ adts-bad aac prefix octets long =
 pub bad_frames-more : (list : List TrackOutput) (blocks : List Block) (b : Block) → bad_frames list (blocks ++ b ∷ []) ≡ bad_frames list blocks ++ bad_in list b
 bad_frames-more list blocks b =
     flat_map-append (bad_in list) blocks (b ∷ []) ∙ ap (λ (x : List Damage). bad_frames list blocks ++ x) (append-nil (bad_in list b))
+
+-- A frame has a written form exactly if it isn't too long.
+pub adts-some : (aac : Aac) (prefix octets : List ℕ) (n : ℕ) → n ≡ length prefix + length octets → n ≤ longest_frame → is_some (adts aac (prefix ++ octets)) ≡ true
+adts-some aac prefix octets n is few =
+    let long : length (prefix ++ octets) ≡ n = length-append prefix octets ∙ sym is in
+    let test : nat_le (length (prefix ++ octets)) longest_frame ≡ true = grind (arith, nat_tests, long, few) in
+    ap (λ (written : Option (List ℕ)). is_some written) (cond-true (nat_le (length (prefix ++ octets)) longest_frame) _ _ test)
+
+pub adts-none : (aac : Aac) (prefix octets : List ℕ) → longest_frame < length prefix + length octets → is_some (adts aac (prefix ++ octets)) ≡ false
+adts-none aac prefix octets long =
+    let len = length-append prefix octets in
+    let test : nat_le (length (prefix ++ octets)) longest_frame ≡ false = grind (arith, nat_tests, len, long) in
+    ap (λ (written : Option (List ℕ)). is_some written) (cond-false (nat_le (length (prefix ++ octets)) longest_frame) _ _ test)

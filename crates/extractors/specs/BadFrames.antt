@@ -1,6 +1,6 @@
 -- The frames that can't be written in the form of their codec ("bad frames"): an extraction leaves them out and reports them. The choice is this
 -- project's; the forms are the codecs'.
-use Rattle.std.specs.Prelude.{◌≡◌, ◌==◌, Bool, ℕ, pos, if◌then◌else◌, is_none, List, [], ◌++◌, map, filter, Option, None, Some}
+use Rattle.std.specs.Prelude.{◌≡◌, ◌==◌, Bool, ℕ, pos, if◌then◌else◌, is_none, List, [], ◌++◌, length, map, filter, Option, None, Some}
 use Rattle.std.specs.List.{find, flat_map}
 use Rattle.mkv_schema.specs.declared.ids.TheConstants.{SIMPLE_BLOCK, BLOCK}
 use Rattle.mkv_io.specs.declared.damage.Damage.{Damage}
@@ -25,8 +25,13 @@ is_bad o octets = is_none (written_of o.form 1 (untimed octets) (o.prefix ++ oct
 abbrev pub bad_frame : Block → Damage
 bad_frame b = record { kind = BadFrame; id = if b.group then BLOCK else SIMPLE_BLOCK; offset = b.offset }
 
+-- the number of the frames of the block `b` that can't be written to the output `o`, or None if the block is of another track. Used by
+-- `CountsBadPiece`.
+abbrev pub bad_count : TrackOutput → Block → Option ℕ
+bad_count o b = if o.track == b.track then Some (length (filter (is_bad o) b.frames)) else None
+
 -- the reports of the bad frames of the block `b`, if it is written to the given output, one for each bad frame; none without an output (None). Used
--- by `bad_in` and the contract of `add_bad_of`.
+-- by `bad_in`.
 abbrev pub bad_for : Block → Option TrackOutput → List Damage
 bad_for b None = []
 bad_for b (Some o) = map (λ octets. bad_frame b) (filter (is_bad o) b.frames)
@@ -52,6 +57,6 @@ told_of list events = record {
 }
 
 -- The reports of the bad frames `more` were appended: whatever places `old` reports, `new` reports them and then `more`. Both are counts with the
--- first hundred places. Used by `TellsBad` and the contract of `add_bad_of`.
+-- first hundred places. Used by `TellsBad` and the contract of `add_bad_frames`.
 abbrev pub TellsMore : ToldDamages → ToldDamages → List Damage → Type 0
 TellsMore old new more = (list : List Damage) → old ≡ told_damages list → new ≡ told_damages (list ++ more)

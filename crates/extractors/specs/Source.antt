@@ -4,7 +4,6 @@ use Rattle.std.specs.List.{All}
 use Rattle.mkv_io.specs.Sources.{IsLive, file_size}
 use Rattle.mkv_io.specs.declared.reads.Reads.{Ghosts}
 use Rattle.mkv_schema.specs.declared.ids.TheConstants.{CHAPTERS, CUES}
-use Rattle.requests.specs.declared.job.Job.{Job}
 use Rattle.requests.specs.declared.job.Target.{Target}
 use Rattle.mkv_schema.specs.Outline.{first_damage}
 use Rattle.tree_format.specs.Node.{Node}
@@ -15,7 +14,6 @@ use Rattle.meta_records.specs.Walk.{IsAttachedIn}
 use Rattle.meta_records.specs.Records.{AreRead, IsGoodInfo, scale_of_info}
 use Rattle.block_format.specs.Elements.{with_limits}
 use Rattle.block_format.specs.Events.{Event, events_of}
-use Rattle.extractors.specs.declared.track_output.TrackOutput.{TrackOutput}
 use Rattle.extractors.specs.declared.source.Source.{Source}
 
 -- the TrackEntry of the track `t` that was read from a file to extract from. Used by `job_outputs` and others.

@@ -1,7 +1,7 @@
 -- The effects of one pass over the blocks of a file: the bytes that it writes to the outputs, reads, and reports. `old` and `new` are the states
 -- before and after a call, and `result` is the result of the call. `sinks` and `later` are the open outputs before and after it.
-use Rattle.std.specs.Prelude.{◌≡◌, ◌≤◌, ◌<◌, ℕ, ◌+◌, ◌*◌, ◌^◌, List, [], ◌∷◌, ◌++◌, length, map, option_map, unwrap_or, Result, Ok, Err, IfOk}
-use Rattle.std.specs.List.{flat_map}
+use Rattle.std.specs.Prelude.{◌≡◌, ◌≤◌, ◌<◌, ℕ, ◌+◌, ◌*◌, ◌^◌, List, [], ◌∷◌, ◌++◌, length, map, option_map, unwrap_or, Some, Result, Ok, Err, IfOk}
+use Rattle.std.specs.List.{filter, flat_map}
 use Rattle.text_formats.specs.Writing.{put_srt}
 use Rattle.mkv_io.specs.Names.{Names}
 use Rattle.mkv_io.specs.Sources.{IfTold, file_size}
@@ -11,7 +11,7 @@ use Rattle.mkv_io.specs.declared.reads.Reads.{Ghosts}
 use Rattle.mkv_io.specs.declared.files.Files as writing
 use Rattle.elementary.specs.Avc.{annex_b}
 use Rattle.elementary.specs.Aac.{adts}
-use Rattle.elementary.specs.Pgs.{pgs, segments_of}
+use Rattle.elementary.specs.Pgs.{segments_of}
 use Rattle.elementary.specs.declared.audio.Aac.{Aac}
 use Rattle.block_format.specs.Block.{Block}
 use Rattle.block_format.specs.Events.{blocks_of}
@@ -23,7 +23,7 @@ use Rattle.mkv_outputs.specs.Outputs.{Output, with_more}
 use Rattle.mkv_outputs.specs.Sinks.{AreOpen, Gives, HaveBeenGiven, ids_of, names_under}
 use Rattle.mkv_outputs.specs.Starts.{ArePrefixes}
 use Rattle.mkv_outputs.specs.declared.sink.Sink.{Sink}
-use Rattle.extractors.specs.BadFrames.{TellsMore, bad_in, told_of}
+use Rattle.extractors.specs.BadFrames.{TellsMore, bad_count, bad_in, is_bad, told_of}
 use Rattle.extractors.specs.Content.{counted, entries_from, entry_of, outputs_of}
 use Rattle.extractors.specs.Codec.{CanWrite}
 use Rattle.extractors.specs.Frames.{Frame, frames_for, frames_of_block, frames_of}
@@ -34,6 +34,7 @@ use Rattle.extractors.specs.declared.extracted.Extracted.{Extracted}
 use Rattle.extractors.specs.declared.source.Source.{Source}
 use Rattle.extractors.specs.declared.track_output.TrackOutput.{TrackOutput}
 use Rattle.extractors.specs.declared.frames.Framed.{Framed}
+use Rattle.extractors.specs.declared.frames.Given.{Given}
 
 -- ---- one block
 
@@ -69,11 +70,6 @@ annexed length_size octets = unwrap_or (annex_b length_size octets) []
 abbrev pub segmented : List ℕ → List ℕ → List ℕ
 segmented header octets = unwrap_or (option_map (flat_map (λ segment. header ++ segment)) (segments_of octets)) []
 
--- the bytes that `give_set` writes for the PGS frame `f`, with the bytes `prefix` before its own: each segment after a header with the frame's time.
--- A bad frame has none.
-abbrev pub as_set : List ℕ → Framed → List ℕ
-as_set prefix f = unwrap_or (pgs f.time (prefix ++ f.octets.now)) []
-
 -- the bytes that `give_headed` writes for an AAC frame with the bytes `prefix` and `octets`: its ADTS header for the configuration `aac`, and the
 -- frame. A bad frame has none.
 abbrev pub headed : Aac → List ℕ → List ℕ → List ℕ
@@ -97,10 +93,14 @@ AddsFrame f o frame old new sinks later k result = Adds f old new sinks later k 
 abbrev pub AddsLent : {S T E : Type 0} → writing.Ghosts S → TrackOutput → ℕ → Reading → S → S → List Sink → List Sink → ℕ → Result T E → Type 0
 AddsLent f o n c old new sinks later k result = Adds f old new sinks later k (entries_from o n (frames_of_block o.step (block_of c.block))) result
 
--- `result`, which `give_frames` returned, is the number of the frame after the block at the cursor `c`. The block's first frame has number `n` in the
--- track of the output `o`, counted from 1.
-abbrev pub CountsFrames : {E : Type 0} → TrackOutput → ℕ → Reading → Result ℕ E → Type 0
-CountsFrames o n c result = IfOk result (λ next. next ≡ counted (n + length (frames_of_block o.step (block_of c.block))))
+-- The result of `give_frames` has the number of the frame after the block at the cursor `c`. The block's first frame has number `n` in the track of
+-- the output `o`, counted from 1.
+abbrev pub CountsFrames : {E : Type 0} → TrackOutput → ℕ → Reading → Result Given E → Type 0
+CountsFrames o n c result = IfOk result (λ given. given.next ≡ counted (n + length (frames_of_block o.step (block_of c.block))))
+
+-- The result of `give_frames` has the number of the frames of the block at the cursor `c` that can't be written to the output `o`.
+abbrev pub CountsBad : {E : Type 0} → TrackOutput → Reading → Result Given E → Type 0
+CountsBad o c result = IfOk result (λ given. given.bad ≡ Some (length (filter (is_bad o) (block_of c.block).frames)))
 
 -- The timestamps of the frames of a block were appended, in the form of the output `o`, to the output with index `k`. The first frame has number `n`
 -- in its track. The cursor `c` needs only the head of this block and its number of frames. `old` and `new` are the states before and after the call,
@@ -109,10 +109,10 @@ CountsFrames o n c result = IfOk result (λ next. next ≡ counted (n + length (
 abbrev pub AddsTime : {S T E : Type 0} → writing.Ghosts S → TrackOutput → ℕ → Reading → S → S → List Sink → List Sink → ℕ → Result T E → Type 0
 AddsTime f o n c old new sinks later k result = (b : Block) → IsKnownByHead b c.block → Adds f old new sinks later k (entries_from o n (frames_of_block o.step b)) result
 
--- `result`, which `give_times` returned, is the number of the frame after a block, if its first frame has number `n` in the track of the output `o`,
--- counted from 1. The cursor `c` needs only the head of this block and its number of frames.
-abbrev pub CountsTimes : {E : Type 0} → TrackOutput → ℕ → Reading → Result ℕ E → Type 0
-CountsTimes o n c result = (b : Block) → IsKnownByHead b c.block → IfOk result (λ next. next ≡ counted (n + length (frames_of_block o.step b)))
+-- The result of `give_times` has the number of the frame after a block, if its first frame has number `n` in the track of the output `o`, counted
+-- from 1. The cursor `c` needs only the head of this block and its number of frames.
+abbrev pub CountsTimes : {E : Type 0} → TrackOutput → ℕ → Reading → Result Given E → Type 0
+CountsTimes o n c result = (b : Block) → IsKnownByHead b c.block → IfOk result (λ given. given.next ≡ counted (n + length (frames_of_block o.step b)))
 
 -- The frames of a block were appended to the output `o`, with index `k`, if the block is of its track. The next frame of `o` has number `n`. The
 -- cursor `c` has enough of the block for it. `old` and `new` are the states before and after the call, `sinks` and `later` the open outputs. It is
@@ -120,12 +120,22 @@ CountsTimes o n c result = (b : Block) → IsKnownByHead b c.block → IfOk resu
 abbrev pub AddsPart : {S T E : Type 0} → writing.Ghosts S → TrackOutput → ℕ → Reading → S → S → List Sink → List Sink → ℕ → Result T E → Type 0
 AddsPart f o n c old new sinks later k result = (b : Block) → IsEnoughFor o b c.block → Adds f old new sinks later k (piece o n b) result
 
--- `result`, which `give_to` returned, is the number of the next frame of the output `o` after the block at the cursor `c`. It was `n` before the
--- block. A block of another track adds none.
-abbrev pub CountsPiece : {E : Type 0} → TrackOutput → ℕ → Reading → Result ℕ E → Type 0
-CountsPiece o n c result = (b : Block) → IsEnoughFor o b c.block → IfOk result (λ next. next ≡ counted (n + count_in o b))
+-- The result of `give_to` has the number of the next frame of the output `o` after the block at the cursor `c`. It was `n` before the block. A block
+-- of another track adds none.
+abbrev pub CountsPiece : {E : Type 0} → TrackOutput → ℕ → Reading → Result Given E → Type 0
+CountsPiece o n c result = (b : Block) → IsEnoughFor o b c.block → IfOk result (λ given. given.next ≡ counted (n + count_in o b))
 
--- The bad frames of the block at the cursor `c` were added to the reports `old`, which gave `new`, as `add_bad_frames` promises; `list` has the
+-- The result of `give_to` has the number of the bad frames of the block at the cursor `c` for the output `o`, or None if the block is of another
+-- track.
+abbrev pub CountsBadPiece : {E : Type 0} → TrackOutput → Reading → Result Given E → Type 0
+CountsBadPiece o c result = (b : Block) → IsEnoughFor o b c.block → IfOk result (λ given. given.bad ≡ bad_count o b)
+
+-- The result of `give_block` is the number of the bad frames of the block at the cursor `c`, each once, if `list` has the outputs. The cursor has
+-- enough of the block for them.
+abbrev pub CountsAllBad : {E : Type 0} → List TrackOutput → Reading → Result ℕ E → Type 0
+CountsAllBad list c result = (b : Block) → IsEnoughForAll list b c.block → IfOk result (λ count. count ≡ length (bad_in list b))
+
+-- The bad frames of the block at the cursor `c` were added to the reports `old`, which gave `new`, as `take_block` promises; `list` has the
 -- outputs. The cursor has enough of the block for them.
 abbrev pub TellsBad : List TrackOutput → Reading → ToldDamages → ToldDamages → Type 0
 TellsBad list c old new = (b : Block) → IsEnoughForAll list b c.block → TellsMore old new (bad_in list b)

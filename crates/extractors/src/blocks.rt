@@ -8,12 +8,12 @@ ghost use Rattle.mkv_io.specs.Sources.{live_files};
 ghost use Rattle.mkv_io.specs.Ends.{HasRemuxCause};
 ghost use Rattle.cluster_reader.specs.Reading.{CanRead};
 ghost use Rattle.mkv_outputs.specs.Sinks.{AreOpen, WritesOutputs, names_under};
-ghost use Rattle.extractors.specs.Walks.{AddsPart, CountsPiece, GivesLeft, GivesLent, IsReady, ReadsFewOf, TellsBad, TellsLeft, WritesAndReads};
+ghost use Rattle.extractors.specs.Walks.{AddsPart, CountsAllBad, CountsBadPiece, CountsPiece, GivesLeft, GivesLent, IsReady, ReadsFewOf, TellsBad, TellsLeft, WritesAndReads};
 
 use crate::bad_frames::add_bad_frames;
 use crate::extracted::Extracted;
 use crate::frame_form::FrameForm;
-use crate::frames::{Scratch, give_frames, give_times};
+use crate::frames::{Given, Scratch, give_frames, give_times};
 use crate::takes::takes_of;
 use crate::track_output::TrackOutput;
 use cluster_reader::{Cursor, Damages, Step};
@@ -22,9 +22,9 @@ use mkv_outputs::Outputs;
 use std::alloc::Global;
 
 /// Writes the frames of the cursor's block, or their timestamps, to `output`, which has index `k` in `outputs`. A block
-/// of another track is passed over. The next frame of the output's track has number `number`, counted from 1; returns
-/// the number of the frame after the block. The cursor needs only the head of a block of another track, and of each
-/// block if only timestamps are written. Used by `give_block`.
+/// of another track is passed over. The next frame of the output's track has number `number`, counted from 1. The cursor
+/// needs only the head of a block of another track, and of each block if only timestamps are written. Used by
+/// `give_block`.
 fn give_to<F: Files>(
     outputs: &mut Outputs,
     files: &mut F,
@@ -33,17 +33,21 @@ fn give_to<F: Files>(
     number: u64,
     cursor: &Cursor,
     scratch: &mut Scratch,
-) -> Result<u64, MakeFault>
+) -> Result<Given, MakeFault>
     requires below { k < length outputs.old }
     requires open { AreOpen F.Reads files.old outputs.old }
     requires ready { IsReady output.now }
     ensures gives { AddsPart F.Files.own output.now number cursor.now files.old files.new outputs.old outputs.new k result }
     ensures number { CountsPiece output.now number cursor.now result }
+    ensures bad { CountsBadPiece output.now cursor.now result }
     ensures only { WritesOutputs F.Reads F.Files.own files.old files.new outputs.old outputs.new }
     ensures cause { HasCause is_make_failure (F.writing_faults files.old) (F.writing_faults files.new) result }
 {
     if cursor.head().track != output.track {
-        return Ok(number);
+        return Ok(Given {
+            next: number,
+            bad: None,
+        });
     }
     match output.form {
         FrameForm::Time => give_times(outputs, files, k, output, number, cursor, scratch),
@@ -52,7 +56,8 @@ fn give_to<F: Files>(
 }
 
 /// Writes the cursor's block to each output of `list` that is for its track, open in `outputs`. `numbers` has, for each
-/// output, the number of its next frame, counted from 1, and is advanced. Used by `take_block`.
+/// output, the number of its next frame, counted from 1, and is advanced. Returns the number of the block's bad frames,
+/// which weren't written: each counts once, since all outputs of a track have the same form. Used by `take_block`.
 fn give_block<F: Files>(
     list: &[TrackOutput],
     outputs: &mut Outputs,
@@ -60,24 +65,28 @@ fn give_block<F: Files>(
     numbers: &mut Vec<u64>,
     cursor: &Cursor,
     scratch: &mut Scratch,
-) -> Result<(), MakeFault>
+) -> Result<u64, MakeFault>
     requires count { length list.now ≡ length outputs.old }
     requires numbers { length list.now ≡ length numbers.old.items }
     requires open { AreOpen F.Reads files.old outputs.old }
     requires steps { All IsReady list.now }
     ensures gives { GivesLent F.Files.own list.now cursor.now files.old files.new outputs.old outputs.new numbers.old.items numbers.new.items result }
     ensures count { length numbers.new.items ≡ length numbers.old.items }
+    ensures bad { CountsAllBad list.now cursor.now result }
     ensures only { WritesOutputs F.Reads F.Files.own files.old files.new outputs.old outputs.new }
     ensures cause { HasCause is_make_failure (F.writing_faults files.old) (F.writing_faults files.new) result }
 {
+    let mut bad = None;
     for k in 0..list.len() {
-        numbers[k] = give_to(outputs, files, k, &list[k], numbers[k], cursor, scratch)?;
+        let given = give_to(outputs, files, k, &list[k], numbers[k], cursor, scratch)?;
+        numbers[k] = given.next;
+        bad = bad.or(given.bad);
     }
-    Ok(())
+    Ok(bad.unwrap_or(0))
 }
 
-/// Adds the bad frames of the cursor's block to `bad`, and writes its good frames to the outputs in `list` of its
-/// track, open in `outputs`. `numbers` has the number of each output's next frame, counted from 1, and is advanced.
+/// Writes the good frames of the cursor's block to the outputs in `list` of its track, open in `outputs`, and adds the
+/// bad ones to `bad`. `numbers` has the number of each output's next frame, counted from 1, and is advanced.
 /// `scratch` is working memory. Used by `write_blocks`.
 fn take_block<F: Files>(
     list: &[TrackOutput],
@@ -98,8 +107,9 @@ fn take_block<F: Files>(
     ensures only { WritesOutputs F.Reads F.Files.own files.old files.new outputs.old outputs.new }
     ensures cause { HasCause is_make_failure (F.writing_faults files.old) (F.writing_faults files.new) result }
 {
-    add_bad_frames(list, cursor, scratch, bad)?;
-    give_block(list, outputs, files, numbers, cursor, scratch)
+    let count = give_block(list, outputs, files, numbers, cursor, scratch)?;
+    add_bad_frames(count, cursor, bad);
+    Ok(())
 }
 
 /// Writes all remaining blocks of `cursor` to the outputs in `list` of their tracks, in one pass over the source, for

@@ -23,8 +23,7 @@ pub enum CodecForm {
     Pgs,
 }
 
-/// Written form of a frame in an output. To add a form, add a case here, and one each to `give_frame`, `is_bad` and
-/// `is_of_times`.
+/// Written form of a frame in an output. To add a form, add a case here, and one each to `give_frame` and `is_of_times`.
 #[derive(Clone, Copy, Debug, PartialEq, Eq)]
 pub enum FrameForm {
     /// The frame as it is.

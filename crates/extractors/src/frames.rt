@@ -1,13 +1,15 @@
 //! Writing of the frames of one block to one output.
 
-ghost use Rattle.std.specs.Prelude.{◌≡◌, ◌≢◌, ◌<◌, ◌++◌, ◌^◌, length, IfOk, OnOk};
+ghost use Rattle.std.specs.Prelude.{◌≡◌, ◌≢◌, ◌<◌, ◌++◌, ◌^◌, length, not, is_some, Some, IfOk, OnOk};
 ghost use Rattle.mkv_io.specs.Faults.{HasCause, is_make_failure};
 ghost use Rattle.mkv_outputs.specs.Sinks.{AreOpen, WritesOutputs};
-ghost use Rattle.elementary.specs.Aac.{IsAac};
-ghost use Rattle.elementary.specs.Avc.{IsLengthSize};
+ghost use Rattle.elementary.specs.Aac.{IsAac, adts};
+ghost use Rattle.elementary.specs.Avc.{IsLengthSize, annex_b};
+ghost use Rattle.elementary.specs.Pgs.{segments_of};
+ghost use Rattle.extractors.specs.BadFrames.{is_bad};
 ghost use Rattle.extractors.specs.Codec.{CanWrite};
 ghost use Rattle.extractors.specs.Times.{time_line};
-ghost use Rattle.extractors.specs.Walks.{Adds, AddsFrame, AddsLent, AddsTime, CountsFrames, CountsTimes, annexed, as_set, as_text, headed, segmented};
+ghost use Rattle.extractors.specs.Walks.{Adds, AddsFrame, AddsLent, AddsTime, CountsBad, CountsFrames, CountsTimes, annexed, as_text, headed, segmented};
 ghost use Rattle.extractors.specs.declared.frame_form.FrameForm.TheVariants as form;
 
 use crate::frame_form::FrameForm;
@@ -34,11 +36,20 @@ struct Framed<'a> {
     duration: u64,
 }
 
+/// What an output was given of a block.
+#[derive(Clone, Copy)]
+pub(crate) struct Given {
+    /// Number of the next frame of the output's track, counted from 1.
+    pub(crate) next: u64,
+    /// Number of the block's frames that can't be written in the output's form; None if the block is of another track.
+    pub(crate) bad: Option<u64>,
+}
+
 /// Buffers that are reused from frame to frame; they hold one frame before it is written.
 #[derive(Drop)]
 pub struct Scratch {
     line: String,
-    pub(crate) text: Bytes,
+    text: Bytes,
     entry: Bytes,
 }
 
@@ -56,11 +67,7 @@ impl Scratch {
 /// Returns a frame as it was before the track's header stripping: `prefix`, the bytes that were removed, followed by
 /// `octets`. The bytes are joined in `text` only if the prefix isn't empty. `extract` does this for codecs whose whole
 /// frame is needed at once.
-pub(crate) fn whole<'a>(
-    text: &'a mut Bytes,
-    prefix: &[u8],
-    octets: &'a [u8],
-) -> Result<&'a [u8], AllocError>
+fn whole<'a>(text: &'a mut Bytes, prefix: &[u8], octets: &'a [u8]) -> Result<&'a [u8], AllocError>
     ensures { IfOk result (λ all. all.now ≡ prefix.now ++ octets.now) }
 {
     if prefix.is_empty() {
@@ -73,9 +80,9 @@ pub(crate) fn whole<'a>(
 }
 
 /// Writes the frames of the cursor's block to `output`, which has index `k` in `outputs`. It has any form except the
-/// timestamps. Returns the number of the frame after the block, whose first frame has number `number` in its track,
-/// counted from 1. Bad frames are counted, and left out. The content of `scratch` before and after the call doesn't
-/// matter. Used by `give_to`.
+/// timestamps. The first frame has number `number` in its track, counted from 1. Bad frames have numbers, too, but are
+/// left out; the result has how many they are. The content of `scratch` before and after the call doesn't matter. Used
+/// by `give_to`.
 pub fn give_frames<F: Files>(
     outputs: &mut Outputs,
     files: &mut F,
@@ -84,7 +91,7 @@ pub fn give_frames<F: Files>(
     number: u64,
     cursor: &Cursor,
     scratch: &mut Scratch,
-) -> Result<u64, MakeFault>
+) -> Result<Given, MakeFault>
     requires below { k < length outputs.old }
     requires open { AreOpen F.Reads files.old outputs.old }
     requires step { output.now.step < 2 ^ 48 }
@@ -92,11 +99,13 @@ pub fn give_frames<F: Files>(
     requires octets { output.now.form ≢ form.Time }
     ensures gives { AddsLent F.Files.own output.now number cursor.now files.old files.new outputs.old outputs.new k result }
     ensures number { CountsFrames output.now number cursor.now result }
+    ensures bad { CountsBad output.now cursor.now result }
     ensures only { WritesOutputs F.Reads F.Files.own files.old files.new outputs.old outputs.new }
     ensures cause { HasCause is_make_failure (F.writing_faults files.old) (F.writing_faults files.new) result }
 {
     let (head, body, sizes) = (cursor.head(), cursor.body(), cursor.sizes());
     let duration = head.duration.unwrap_or(0);
+    let mut bad = 0;
     let mut at = 0;
     for (i, size) in sizes.iter().enumerate() {
         let end = at + *size as usize;
@@ -106,15 +115,19 @@ pub fn give_frames<F: Files>(
             time: frame_time(head, i, output.step),
             duration,
         };
-        give_frame(outputs, files, k, output, frame, scratch)?;
+        let is_written = give_frame(outputs, files, k, output, frame, scratch)?;
+        bad += u64::from(!is_written);
         at = end;
     }
-    Ok(number.saturating_add(sizes.len() as u64))
+    Ok(Given {
+        next: number.saturating_add(sizes.len() as u64),
+        bad: Some(bad),
+    })
 }
 
 /// Writes the timestamps of the frames of the cursor's block, one line each, to `output`, which has index `k` in
-/// `outputs`. Returns the number of the frame after the block, whose first frame has number `number` in its track,
-/// counted from 1. The cursor needs only the head of the block and the number of its frames. Used by `give_to`.
+/// `outputs`. The first frame has number `number` in its track, counted from 1; none is bad. The cursor needs only the
+/// head of the block and the number of its frames. Used by `give_to`.
 pub fn give_times<F: Files>(
     outputs: &mut Outputs,
     files: &mut F,
@@ -123,13 +136,14 @@ pub fn give_times<F: Files>(
     number: u64,
     cursor: &Cursor,
     scratch: &mut Scratch,
-) -> Result<u64, MakeFault>
+) -> Result<Given, MakeFault>
     requires below { k < length outputs.old }
     requires open { AreOpen F.Reads files.old outputs.old }
     requires step { output.now.step < 2 ^ 48 }
     requires times { output.now.form ≡ form.Time }
     ensures gives { AddsTime F.Files.own output.now number cursor.now files.old files.new outputs.old outputs.new k result }
     ensures number { CountsTimes output.now number cursor.now result }
+    ensures bad { IfOk result (λ given. given.bad ≡ Some 0) }
     ensures only { WritesOutputs F.Reads F.Files.own files.old files.new outputs.old outputs.new }
     ensures cause { HasCause is_make_failure (F.writing_faults files.old) (F.writing_faults files.new) result }
 {
@@ -138,11 +152,14 @@ pub fn give_times<F: Files>(
         let time = frame_time(head, i as usize, output.step);
         give_time(outputs, files, k, time, &mut scratch.line)?;
     }
-    Ok(number.saturating_add(frames as u64))
+    Ok(Given {
+        next: number.saturating_add(frames as u64),
+        bad: Some(0),
+    })
 }
 
-/// Writes `frame` to `output`, which has index `k` in `outputs`, in the output's form; writes nothing for a bad frame.
-/// `scratch` is working memory. Used by `give_frames`.
+/// Writes `frame` to `output`, which has index `k` in `outputs`, in the output's form. Returns false for a bad frame,
+/// which can't be written in this form, and writes nothing. `scratch` is working memory. Used by `give_frames`.
 fn give_frame<F: Files>(
     outputs: &mut Outputs,
     files: &mut F,
@@ -150,34 +167,34 @@ fn give_frame<F: Files>(
     output: &TrackOutput,
     frame: Framed<'_>,
     scratch: &mut Scratch,
-) -> Result<(), MakeFault>
+) -> Result<bool, MakeFault>
     requires below { k < length outputs.old }
     requires open { AreOpen F.Reads files.old outputs.old }
     requires can { CanWrite output.now.form }
     requires octets { output.now.form ≢ form.Time }
     ensures gives { AddsFrame F.Files.own output.now frame.entry files.old files.new outputs.old outputs.new k result }
+    ensures good { IfOk result (λ good. good ≡ not (is_bad output.now frame.entry.octets.now)) }
     ensures only { WritesOutputs F.Reads F.Files.own files.old files.new outputs.old outputs.new }
     ensures cause { HasCause is_make_failure (F.writing_faults files.old) (F.writing_faults files.new) result }
 {
     let prefix = output.prefix.as_slice();
     match output.form {
-        FrameForm::Plain => give_behind(outputs, files, k, prefix, frame.octets),
-        FrameForm::SubRip => give_text(outputs, files, k, prefix, frame, scratch),
+        FrameForm::Plain => give_behind(outputs, files, k, prefix, frame.octets)?,
+        FrameForm::SubRip => give_text(outputs, files, k, prefix, frame, scratch)?,
         FrameForm::AnnexB { length_size } => {
-            give_units(
-                outputs,
-                files,
-                k,
-                prefix,
-                frame.octets,
-                length_size,
-                &mut scratch.text,
-            )
+            let whole = whole(&mut scratch.text, prefix, frame.octets)?;
+            return give_units(outputs, files, k, whole, length_size);
         }
-        FrameForm::Adts { aac } => give_headed(outputs, files, k, prefix, frame.octets, &aac),
-        FrameForm::Pgs => give_set(outputs, files, k, prefix, frame, &mut scratch.text),
+        FrameForm::Adts { aac } => {
+            return give_headed(outputs, files, k, prefix, frame.octets, &aac);
+        }
+        FrameForm::Pgs => {
+            let whole = whole(&mut scratch.text, prefix, frame.octets)?;
+            return give_segments(outputs, files, k, whole, &segment_header(frame.time));
+        }
         FrameForm::Time => unreachable!(),
     }
+    Ok(true)
 }
 
 /// Writes `prefix` and then `octets` to the output with index `k` in `outputs`: a frame, or a unit or segment after its
@@ -255,59 +272,38 @@ fn put_text(prefix: &[u8], frame: Framed<'_>, scratch: &mut Scratch) -> Result<(
     )
 }
 
-/// Writes the H.264 or H.265 frame `prefix` and `octets` to the output with index `k` in `outputs`, each unit after a
-/// start code. It writes nothing for a bad frame. `length_size` is the number of bytes of each length before a unit.
-/// `text` is working memory. Used by `give_frame`.
-fn give_units<F: Files>(
-    outputs: &mut Outputs,
-    files: &mut F,
-    k: usize,
-    prefix: &[u8],
-    octets: &[u8],
-    length_size: u8,
-    text: &mut Bytes,
-) -> Result<(), MakeFault>
-    requires below { k < length outputs.old }
-    requires open { AreOpen F.Reads files.old outputs.old }
-    requires size { IsLengthSize length_size }
-    ensures gives { Adds F.Files.own files.old files.new outputs.old outputs.new k (annexed length_size (prefix.now ++ octets.now)) result }
-    ensures only { WritesOutputs F.Reads F.Files.own files.old files.new outputs.old outputs.new }
-    ensures cause { HasCause is_make_failure (F.writing_faults files.old) (F.writing_faults files.new) result }
-{
-    let frame = whole(text, prefix, octets)?;
-    give_join(outputs, files, k, frame, length_size)
-}
-
 /// Writes the units of the whole H.264 or H.265 frame `frame`, each after a start code, to the output with index `k` in
-/// `outputs`. It writes nothing if the units don't fill the frame exactly. `length_size` is the number of bytes of each
-/// length before a unit. Used by `give_units`.
-fn give_join<F: Files>(
+/// `outputs`. Returns false if the units don't fill the frame exactly, and writes nothing. `length_size` is the number
+/// of bytes of each length before a unit. Used by `give_frame`.
+fn give_units<F: Files>(
     outputs: &mut Outputs,
     files: &mut F,
     k: usize,
     frame: &[u8],
     length_size: u8,
-) -> Result<(), MakeFault>
+) -> Result<bool, MakeFault>
     requires below { k < length outputs.old }
     requires open { AreOpen F.Reads files.old outputs.old }
     requires size { IsLengthSize length_size }
     ensures gives { Adds F.Files.own files.old files.new outputs.old outputs.new k (annexed length_size frame.now) result }
+    ensures good { IfOk result (λ good. good ≡ is_some (annex_b length_size frame.now)) }
     ensures only { WritesOutputs F.Reads F.Files.own files.old files.new outputs.old outputs.new }
     ensures cause { HasCause is_make_failure (F.writing_faults files.old) (F.writing_faults files.new) result }
 {
     if !is_join(frame, length_size) {
-        return Ok(());
+        return Ok(false);
     }
     let mut rest = frame;
     while let Some((unit, behind)) = unit_at(length_size, rest) {
         give_behind(outputs, files, k, &START_CODE, unit)?;
         rest = behind;
     }
-    Ok(())
+    Ok(true)
 }
 
 /// Writes the AAC frame `prefix` and `octets` after its ADTS header, for the configuration `aac`, to the output with
-/// index `k` in `outputs`. It writes nothing if the frame is too long for the header. Used by `give_frame`.
+/// index `k` in `outputs`. Returns false if the frame is too long for the header, and writes nothing. Used by
+/// `give_frame`.
 fn give_headed<F: Files>(
     outputs: &mut Outputs,
     files: &mut F,
@@ -315,65 +311,47 @@ fn give_headed<F: Files>(
     prefix: &[u8],
     octets: &[u8],
     aac: &Aac,
-) -> Result<(), MakeFault>
+) -> Result<bool, MakeFault>
     requires below { k < length outputs.old }
     requires open { AreOpen F.Reads files.old outputs.old }
     requires can { IsAac aac.now }
     ensures gives { Adds F.Files.own files.old files.new outputs.old outputs.new k (headed aac.now prefix.now octets.now) result }
+    ensures good { IfOk result (λ good. good ≡ is_some (adts aac.now (prefix.now ++ octets.now))) }
     ensures only { WritesOutputs F.Reads F.Files.own files.old files.new outputs.old outputs.new }
     ensures cause { HasCause is_make_failure (F.writing_faults files.old) (F.writing_faults files.new) result }
 {
     let len = prefix.len().saturating_add(octets.len());
     if len > LONGEST_FRAME {
-        return Ok(());
+        return Ok(false);
     }
     outputs.write(files, k, &adts_header(aac, len as u64))?;
-    give_behind(outputs, files, k, prefix, octets)
-}
-
-/// Writes the PGS frame of `prefix` and the bytes of `frame` to the output with index `k` in `outputs`, each segment
-/// after a header with the frame's timestamp. It writes nothing for a bad frame. `text` is working memory. Used by
-/// `give_frame`.
-fn give_set<F: Files>(
-    outputs: &mut Outputs,
-    files: &mut F,
-    k: usize,
-    prefix: &[u8],
-    frame: Framed<'_>,
-    text: &mut Bytes,
-) -> Result<(), MakeFault>
-    requires below { k < length outputs.old }
-    requires open { AreOpen F.Reads files.old outputs.old }
-    ensures gives { Adds F.Files.own files.old files.new outputs.old outputs.new k (as_set prefix.now frame.entry) result }
-    ensures only { WritesOutputs F.Reads F.Files.own files.old files.new outputs.old outputs.new }
-    ensures cause { HasCause is_make_failure (F.writing_faults files.old) (F.writing_faults files.new) result }
-{
-    let set = whole(text, prefix, frame.octets)?;
-    give_segments(outputs, files, k, set, &segment_header(frame.time))
+    give_behind(outputs, files, k, prefix, octets)?;
+    Ok(true)
 }
 
 /// Writes the segments of the whole PGS frame `frame`, each after the header `header`, to the output with index `k` in
-/// `outputs`. It writes nothing if the segments don't fill the frame exactly. Used by `give_set`.
+/// `outputs`. Returns false if the segments don't fill the frame exactly, and writes nothing. Used by `give_frame`.
 fn give_segments<F: Files>(
     outputs: &mut Outputs,
     files: &mut F,
     k: usize,
     frame: &[u8],
     header: &[u8],
-) -> Result<(), MakeFault>
+) -> Result<bool, MakeFault>
     requires below { k < length outputs.old }
     requires open { AreOpen F.Reads files.old outputs.old }
     ensures gives { Adds F.Files.own files.old files.new outputs.old outputs.new k (segmented header.now frame.now) result }
+    ensures good { IfOk result (λ good. good ≡ is_some (segments_of frame.now)) }
     ensures only { WritesOutputs F.Reads F.Files.own files.old files.new outputs.old outputs.new }
     ensures cause { HasCause is_make_failure (F.writing_faults files.old) (F.writing_faults files.new) result }
 {
     if !is_segments(frame) {
-        return Ok(());
+        return Ok(false);
     }
     let mut rest = frame;
     while let Some((segment, behind)) = segment_at(rest) {
         give_behind(outputs, files, k, header, segment)?;
         rest = behind;
     }
-    Ok(())
+    Ok(true)
 }

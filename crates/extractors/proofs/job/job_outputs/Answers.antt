@@ -1,5 +1,4 @@
-use Rattle.std.proofs.Common.{List, Ok, Err, Result, IfOk, subst, sym, ◌∙◌, ap}
-use Rattle.extractors.proofs.JobLemmas.{each-entry, fit-ready}
+use Rattle.extractors.proofs.JobLemmas.{fit-ready}
 use Rattle.extractors.proofs.job.job_outputs.Goals as goal
 
 -- Each output can be written.

@@ -4,7 +4,7 @@ use Rattle.elementary.specs.Units.{units_of}
 use Rattle.elementary.specs.Avc.{annex_b}
 use Rattle.mkv_outputs.specs.Sinks.{WritesOutputs}
 use Rattle.extractors.proofs.FramesLemmas.{GivesUpTo}
-use Rattle.extractors.proofs.frames.give_join.Given as goal
+use Rattle.extractors.proofs.frames.give_units.Given as goal
 
 abbrev pub invariant-loop-unit : goal.invariant-loop-unit
 invariant-loop-unit g l = record {
