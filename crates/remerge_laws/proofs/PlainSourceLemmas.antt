@@ -56,16 +56,17 @@ title-whole title is = of (list_any (λ b. b == 0) title) refl is
     of true some is = absurd (cc)
     of false none is = none-zero title none
 
--- ---- cue points
+-- ---- cue points and frames
 
--- The track has default cue points, and its frames aren't taken as they are stored.
+-- The selected track `t` has default cue points, and its frames aren't taken as they are stored.
 abbrev IsUsual : TakenTrack → Type 0
 IsUsual t = HasUsualCues t × (t.track.stored ≡ false)
 
+-- The words `f` of an input ask for no cue points, and take no track as it is stored.
 abbrev HasUsualWords : FileWords → Type 0
 HasUsualWords f = (f.cues ≡ []) × (f.keep_encodings ≡ false)
 
--- The selected tracks of an input are so.
+-- The selected tracks of the input `i` have default cue points, and their frames aren't taken as they are stored.
 abbrev HaveUsualCues : InputRead → Type 0
 HaveUsualCues i = All IsUsual i.taken
 
@@ -106,7 +107,7 @@ timed-usual files input (r ∷ rs) each =
     All-cons HaveUsualCues (with_listings (listings_at input files) r) (timed_from files (suc input) rs) (All-head HaveUsualCues r rs each)
     (timed-usual files (suc input) rs (All-tail HaveUsualCues r rs each))
 
--- The tracks of a source are so.
+-- The tracks of the source `s` have default cue points, and their frames aren't taken as they are stored.
 abbrev HasUsualTracks : Source → Type 0
 HasUsualTracks s = HaveUsualCues s.1
 
