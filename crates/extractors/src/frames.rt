@@ -198,7 +198,7 @@ fn give_frame<F: Files>(
 }
 
 /// Writes `prefix` and then `octets` to the output with index `k` in `outputs`: a frame, or a unit or segment after its
-/// start code or header. They need no buffer. Used by `give_frame`, `give_join`, `give_segments` and `give_headed`.
+/// start code or header. They need no buffer. Used by `give_frame`, `give_units`, `give_segments` and `give_headed`.
 fn give_behind<F: Files>(
     outputs: &mut Outputs,
     files: &mut F,

@@ -4,7 +4,7 @@ ghost use Rattle.std.specs.Prelude.{◌≡◌, map, IfOk};
 ghost use Rattle.std.specs.List.{All};
 ghost use Rattle.track_records.specs.Sound.{IsEntry};
 ghost use Rattle.track_records.specs.Track.{track_of};
-ghost use Rattle.extractors.specs.Job.{fit_outputs, form_of, output_with, outputs_or_refusal, refusal, targets_of};
+ghost use Rattle.extractors.specs.Job.{fit_outputs, form_of, output_with, outputs_or_refusal, targets_of};
 ghost use Rattle.meta_records.specs.Records.{AreRead};
 ghost use Rattle.extractors.specs.Source.{AreUsableOf, IsUsable, entry_in};
 ghost use Rattle.extractors.specs.Walks.{IsReady};
@@ -84,12 +84,18 @@ fn outputs_for(
             Ok(coding) => list.push(output_with(alloc, coding, &target.name, track)?)?,
             Err(why) => match why {
                 UnsupportedTrack::BadConfig => bad_config = bad_config.or(Some(target.id)),
-                UnsupportedTrack::NoExtractor => return Ok(Err(refusal(why, target.id))),
+                UnsupportedTrack::NoExtractor => {
+                    let track = target.id;
+                    return Ok(Err(Refusal { why, track }));
+                }
             },
         }
     }
     match bad_config {
-        Some(track) => Ok(Err(refusal(UnsupportedTrack::BadConfig, track))),
+        Some(track) => Ok(Err(Refusal {
+            why: UnsupportedTrack::BadConfig,
+            track,
+        })),
         None => Ok(Ok(list)),
     }
 }
@@ -118,14 +124,6 @@ fn output_with(
         prefix: bytes_of(alloc, prefix)?,
         form: coding.form,
     })
-}
-
-/// Returns the refusal of a job for the track with the index `track`, from 0, which can't be written for the reason
-/// `why`. Used by `outputs_for`.
-fn refusal(why: UnsupportedTrack, track: u64) -> Refusal
-    ensures { result ≡ refusal why track }
-{
-    Refusal { why, track }
 }
 
 /// Returns a copy of `text`, an output's name, that the output owns. Used by `output_with`.

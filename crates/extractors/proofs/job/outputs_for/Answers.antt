@@ -27,7 +27,7 @@ pub returns-in-NoExtractor : goal.returns-in-NoExtractor
 returns-in-NoExtractor c =
     let found : slice_get c.args.tracks.now c.target-item.result.id ≡ Some c.in-Some.track.now = sym c.get.ensures ∙ ap option_copied c.in-Some.is in
     let read : coding_of c.args.form c.in-Some.track.now.entry ≡ Err NoExtractor = sym c.in_ok-read.ensures ∙ c.in-Err.is ∙ ap Err c.in-NoExtractor.is in
-    ap Err (c.refusal.ensures ∙ ap (λ (why : UnsupportedTrack). refusal why c.target-item.result.id) c.in-NoExtractor.is)
+    ap (λ (why : UnsupportedTrack). Err (refusal why c.target-item.result.id)) c.in-NoExtractor.is
     ∙ sym (made-refused c.args.tracks.now c.loop-target.invariant c.target-item.result c.loop-target-test.true c.target-item.is c.in-Some.track.now found read)
 
 -- A further output is made, or a bad configuration is met.
