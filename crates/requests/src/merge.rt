@@ -22,7 +22,8 @@ pub struct FlagWords {
     pub commentary: List<(u64, bool)>,
 }
 
-/// File that a merge attaches to its output (RFC 9559, section 5.1.6, Attachments), with its defaults filled in
+/// File to attach to the output of a merge (RFC 9559, section 5.1.6, Attachments), with its defaults filled in. No
+/// command line asks for one yet, and no merge reads it.
 #[derive(Debug, Drop)]
 pub struct AttachedWords {
     /// Name of the file that is read
@@ -96,9 +97,9 @@ pub struct MergeWords {
     pub duration: bool,
     /// Files that are appended to a damaged one are read, too.
     pub append_damaged: bool,
-    /// Files that are attached to the output, in their order
+    /// Files to attach to the output, in their order; no merge reads them yet
     pub attached: List<AttachedWords>,
-    /// Tracks that come first in the output, in this order; each is named by the index of its input, and by its index in
-    /// the input's Tracks, both counted from 0
+    /// Tracks that are to come first in the output, in this order; no merge reads them yet. Each is named by the index of
+    /// its input, and by its index in the input's Tracks, both counted from 0.
     pub order: List<(u64, u64)>,
 }
