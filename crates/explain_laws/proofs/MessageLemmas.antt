@@ -66,6 +66,7 @@ words_have why.AppendFirst = refl
 words_have why.RepeatedOutput = refl
 words_have why.TooManyInputs = refl
 words_have why.NeedsUuids = refl
+words_have why.NoSuchFile = refl
 
 edits_have : (w : EditRefusal) → IsSome (page_of (edit_why_name w))
 unfolding word_topics refusal_topics edit_topics damage_topics warning_topics result_topics general_topics

@@ -2,3 +2,4 @@ pub mod MergeLemmas
 pub mod FilesLemmas
 pub mod ItemsLemmas
 pub mod SoundLemmas
+pub mod PlaceLemmas

@@ -24,13 +24,13 @@ use Rattle.merge_words.specs.declared.options.Meaning.{Meaning}
 use Rattle.merge_words.specs.declared.item.Item.{Item}
 use Rattle.merge_words.specs.Options.{Row, table, meaning, meaning_among, spelled, meaning_of, same}
 use Rattle.word_values.specs.declared.usage.Why.{Why}
-use Rattle.word_values.specs.declared.usage.Why.TheVariants.{NoOutput, NoInput, DanglingOption}
+use Rattle.word_values.specs.declared.usage.Why.TheVariants.{NoOutput, NoInput, DanglingOption, NoSuchFile}
 use Rattle.requests.specs.declared.merge.FileWords.{FileWords}
 use Rattle.requests.specs.declared.merge.MergeWords.{MergeWords}
 use Rattle.merge_words.specs.Said.{value_in, said_about, text_of, scale_of, blocks_of, span_of, split_of, uuids_of, delay_of, track_text_of, track_language_of, track_language_tag_of}
 use Rattle.merge_words.specs.Files.{file, files}
 use Rattle.merge_words.specs.Output.{merge_words}
-use Rattle.merge_words.specs.Merge.{starts, read_all, items, wrong_if, wrong_at, dangling, complete, merged}
+use Rattle.merge_words.specs.Merge.{starts, read_all, items, wrong_if, wrong_at, dangling, complete, misplaced, merged}
 use Rattle.requests.specs.Sound.{IsSoundFile, IsSoundMerge}
 use Rattle.requests.specs.Texts.{AreTexts, HasTexts}
 use Rattle.merge_words.proofs.ItemsLemmas.{latest, latest_other}
@@ -413,8 +413,9 @@ merged-read words w is =
     ok-then (IsReadMerge given w) (items words) _ w is (λ said here more.
     ok-then (IsReadMerge given w) (complete (length words) said) _ w more (λ t whole last.
     let begin : All (Begins given) (starts 1 (drop 1 words)) = starts-keep (λ word. given → IsUtf8 word) 1 (drop 1 words) (All-drop (λ word. given → IsUtf8 word) 1 words (λ k d within all. all k d within)) in
-    ok-made (IsReadMerge given) (merge_words said) w last
-    (merge_words-read given said (read_all-kept given (length words) [] (starts 1 (drop 1 words)) said (kept-none given) begin here) (complete-files (length words) said t whole))))
+    ok-then (IsReadMerge given w) (wrong_at (misplaced (merge_words said) said) NoSuchFile) _ w last (λ u placed end.
+    ok-made (IsReadMerge given) (merge_words said) w end
+    (merge_words-read given said (read_all-kept given (length words) [] (starts 1 (drop 1 words)) said (kept-none given) begin here) (complete-files (length words) said t whole)))))
 
 -- A request that is read keeps its limits.
 pub merged-sound : (words : List (List ℕ)) (w : MergeWords) → merged words ≡ Ok w → IsSoundMerge w

@@ -1,16 +1,17 @@
 -- The command line of `merge`: it is divided into items, and each item is read after all earlier ones. Missing parts are reported in a fixed order.
 -- The grammar is this project's, after mkvmerge(1).
-use Rattle.std.specs.Prelude.{ℕ, ◌+◌, Bool, true, false, not, ◌==◌, if◌then◌else◌, List, [], ◌∷◌, ◌++◌, length, drop, Option, Some, None, is_none, option_map, Result, Ok}
-use Rattle.std.specs.List.{find}
+use Rattle.std.specs.Prelude.{ℕ, ◌+◌, ◌<◌, All, Bool, true, false, not, ◌==◌, if◌then◌else◌, List, [], ◌∷◌, ◌++◌, length, drop, Option, Some, None, is_none, option_map, slice_get, Result, Ok}
+use Rattle.std.specs.List.{find, list_all}
 use denote.Enum.Bare.{sameb}
 use Rattle.merge_words.specs.contracts.options.Scope.{the_type}
 use Rattle.word_values.specs.declared.usage.Usage.{Usage}
 use Rattle.word_values.specs.declared.usage.Why.{Why}
-use Rattle.word_values.specs.declared.usage.Why.TheVariants.{MissingValue, NoOutput, NoInput, DanglingOption, NeedsUuids}
+use Rattle.word_values.specs.declared.usage.Why.TheVariants.{MissingValue, NoOutput, NoInput, DanglingOption, NeedsUuids, NoSuchFile}
 use Rattle.merge_words.specs.declared.options.Subject.TheVariants as subject
 use Rattle.merge_words.specs.declared.options.Scope.TheVariants as scope
 use Rattle.merge_words.specs.declared.options.Meaning.{Meaning}
 use Rattle.merge_words.specs.declared.item.Item.{Item}
+use Rattle.requests.specs.declared.merge.FileWords.{FileWords}
 use Rattle.requests.specs.declared.merge.MergeWords.{MergeWords}
 use Rattle.word_values.specs.Answers.{wrong, ◌>>=◌}
 use Rattle.merge_words.specs.Options.{same, meaning_of}
@@ -81,10 +82,37 @@ complete count items = do
   _ ← wrong_if (files_in items == 0) count NoInput
   wrong_at (unlinked items) NeedsUuids
 
+-- The input is there and isn't appended to another one. For `begins`.
+abbrev pub is_begin : Option FileWords → Bool
+is_begin None = false
+is_begin (Some file) = not file.appended
+
+-- `files` has an input with the index `file`, counted from 0, that isn't appended to another one. For `all_begin`.
+abbrev pub begins : List FileWords → ℕ → Bool
+begins files file = is_begin (slice_get files file)
+
+-- Each of `tracks` names one of the inputs `files`, by its index, that isn't appended to another one. For `misplaced`.
+abbrev pub all_begin : List FileWords → List (ℕ × ℕ) → Bool
+all_begin files tracks = list_all (λ (track : ℕ × ℕ). begins files track.0) tracks
+
+-- All of `items` begin at arguments with numbers below `count`. `misplaced` and `ordering` require it.
+abbrev pub AreWithin : ℕ → List Item → Type 0
+AreWithin count items = All (λ (i : Item). i.at < count) items
+
+-- the argument number of the value of `--track-order`, if it is given among `items`. For `misplaced`.
+abbrev pub ordering : List Item → Option ℕ
+ordering items = option_map (λ (i : Item). i.at + 1) (find (λ i. same i.subject subject.Order) items)
+
+-- the argument number of the value of `--track-order`, if it names an input that isn't there or is appended to another one. `request` is the request,
+-- and `items` are the items of the command line. For `merged`.
+abbrev pub misplaced : MergeWords → List Item → Option ℕ
+misplaced request items = if all_begin request.files request.order then None else ordering items
+
 -- the request of the merge that the command line `words` asks for, or the first wrong argument and the reason. The contract of `read_merge` states
 -- it.
 unfoldable pub merged : List (List ℕ) → Result MergeWords Usage
 merged words = do
   said ← items words
   _ ← complete (length words) said
+  _ ← wrong_at (misplaced (merge_words said) said) NoSuchFile
   Ok (merge_words said)

@@ -41,6 +41,7 @@ table =
     option (codes "") (codes "--link") s.Link Output f.Flag ∷
     option (codes "") (codes "--duration") s.Duration Output f.Flag ∷
     option (codes "") (codes "--append-damaged") s.AppendDamaged Output f.Flag ∷
+    option (codes "") (codes "--track-order") s.Order Output f.Order ∷
     option (codes "-J") (codes "") s.Identify Output f.Flag ∷
     option (codes "-a") (codes "--audio-tracks") s.Audio File f.Ids ∷
     option (codes "-A") (codes "--no-audio") s.Audio File f.Exclusion ∷

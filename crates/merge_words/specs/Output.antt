@@ -6,7 +6,7 @@ use Rattle.merge_words.specs.declared.item.Item.{Item}
 use Rattle.requests.specs.declared.merge.MergeWords.{MergeWords}
 use Rattle.merge_words.specs.declared.output.TheConstants.{DEFAULT_SCALE, DEFAULT_BLOCKS, DEFAULT_SPAN}
 use Rattle.merge_words.specs.Items.{stands}
-use Rattle.merge_words.specs.Said.{value_in, file_in, text_of, scale_of, blocks_of, span_of, split_of, uuids_of}
+use Rattle.merge_words.specs.Said.{value_in, file_in, text_of, scale_of, blocks_of, span_of, split_of, uuids_of, order_of}
 use Rattle.merge_words.specs.Files.{files}
 
 -- the name of the output, the value of `-o` among `items`, or an empty text without it. For `merge_words`, when the command line of `merge` is read.
@@ -38,6 +38,10 @@ split_in items = option_and_then split_of (value_in subject.Split items)
 abbrev pub uuids_in : List Item → List ℕ
 uuids_in items = unwrap_or (option_and_then uuids_of (value_in subject.Uuids items)) []
 
+-- the tracks that come first in the output, the value of `--track-order` among `items`, or none without it. For `merge_words`.
+abbrev pub order_in : List Item → List (ℕ × ℕ)
+order_in items = unwrap_or (option_and_then order_of (value_in subject.Order items)) []
+
 -- the request of the merge that the items `items` of a complete command line ask for. For `merged`.
 unfoldable pub merge_words : List Item → MergeWords
 merge_words items = record {
@@ -55,5 +59,5 @@ merge_words items = record {
   duration = stands subject.Duration items;
   append_damaged = stands subject.AppendDamaged items;
   attached = [];
-  order = [];
+  order = order_in items;
 }

@@ -5,7 +5,7 @@ use Rattle.requests.specs.declared.split.SplitWords.{SplitWords}
 use Rattle.requests.specs.declared.track.Select.{Select}
 use Rattle.requests.specs.declared.track.CueWord.{CueWord}
 use Rattle.word_values.specs.declared.values.Value.{Value}
-use Rattle.word_values.specs.declared.values.Value.TheVariants.{File, Text, Scale, Blocks, Span, Split, Uuids, Tracks, TrackDelay, TrackText, TrackLanguage, TrackLanguageTag, TrackFlag, TrackCues, TrackFile}
+use Rattle.word_values.specs.declared.values.Value.TheVariants.{File, Text, Scale, Blocks, Span, Split, Uuids, Order, Tracks, TrackDelay, TrackText, TrackLanguage, TrackLanguageTag, TrackFlag, TrackCues, TrackFile}
 use Rattle.merge_words.specs.declared.options.Subject.{Subject}
 use Rattle.merge_words.specs.declared.item.Item.{Item}
 use Rattle.merge_words.specs.Options.{same}
@@ -50,6 +50,12 @@ split_of _ = None
 abbrev pub uuids_of : Value → Option (List ℕ)
 uuids_of (Uuids uuids) = Some uuids
 uuids_of _ = None
+
+-- the tracks in their order that an option value has, each with the index of its input, if it is a list of them. For `order_in`, when the command
+-- line of `merge` is read.
+abbrev pub order_of : Value → Option (List (ℕ × ℕ))
+order_of (Order order) = Some order
+order_of _ = None
 
 -- the selection of tracks that an option value is, if it is one. For `tracks_in`, when the command line of `merge` is read.
 abbrev pub tracks_of : Value → Option Select

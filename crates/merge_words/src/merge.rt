@@ -1,6 +1,6 @@
 //! Command line of a merge: its items, the check that it is complete, and the request.
 
-ghost use Rattle.std.specs.Prelude.{◌≡◌, if◌then◌else◌};
+ghost use Rattle.std.specs.Prelude.{◌≡◌, if◌then◌else◌, length};
 ghost use Rattle.merge_words.specs.Merge as spec;
 ghost use Rattle.word_values.specs.Answers.{Tells};
 ghost use Rattle.word_values.specs.Place.{texts};
@@ -9,7 +9,7 @@ use crate::item::{Item, files_in, item_at, since_file, stands};
 use crate::options::{Meaning, Scope, Subject, meaning_of};
 use crate::output::merge_words;
 use mkv_io::List;
-use requests::MergeWords;
+use requests::{FileWords, MergeWords};
 use std::alloc::Global;
 use word_values::{ArgsEnd, Why, flag_of, refused, word_at};
 
@@ -22,7 +22,12 @@ pub fn read_merge(alloc: Global, words: &[String]) -> Result<MergeWords, ArgsEnd
 {
     let items = items(alloc, words)?;
     complete(words.len(), items.as_slice())?;
-    Ok(merge_words(alloc, items.as_slice())?)
+    let request = merge_words(alloc, items.as_slice())?;
+    refuse_at(
+        misplaced(words, &request, items.as_slice()),
+        Why::NoSuchFile,
+    )?;
+    Ok(request)
 }
 
 /// Reads the items of a merge's command line `words`, from argument 1 onwards, or fails with the first wrong argument.
@@ -84,6 +89,49 @@ fn refuse_at(word: Option<usize>, why: Why) -> Result<(), ArgsEnd>
     match word {
         Some(word) => refused(word, why),
         None => Ok(()),
+    }
+}
+
+/// Returns the argument number of the value of `--track-order`, if it names an input that isn't there or is appended to
+/// another one. Otherwise None. `request` is the request of the command line `words`, and `items` its items. For
+/// `read_merge`.
+fn misplaced(words: &[String], request: &MergeWords, items: &[Item]) -> Option<usize>
+    requires { spec.AreWithin (length words.now) items.now }
+    ensures { result ≡ spec.misplaced request.now items.now }
+{
+    if all_begin(request.files.as_slice(), request.order.as_slice()) {
+        None
+    } else {
+        ordering(words, items)
+    }
+}
+
+/// Returns the argument number of the value of `--track-order`, or None if it isn't given. `items` are the items of the
+/// command line `words`. For `misplaced`.
+fn ordering(words: &[String], items: &[Item]) -> Option<usize>
+    requires { spec.AreWithin (length words.now) items.now }
+    ensures { result ≡ spec.ordering items.now }
+{
+    let item = items.iter().find(|item| item.subject.is(Subject::Order))?;
+    Some(item.at + 1)
+}
+
+/// Checks whether each of `tracks` names one of the inputs `files`, by its index, that isn't appended to another one.
+/// For `misplaced`.
+fn all_begin(files: &[FileWords], tracks: &[(u64, u64)]) -> bool
+    ensures { result ≡ spec.all_begin files.now tracks.now }
+{
+    tracks.iter().all(|track| begins(files, track.0))
+}
+
+/// Checks whether `files` has an input with the index `file`, counted from 0, that isn't appended to another one. For
+/// `all_begin`.
+fn begins(files: &[FileWords], file: u64) -> bool
+    ensures { result ≡ spec.begins files.now file }
+{
+    match files.get(file as usize) {
+        Some(file) => !file.appended,
+        None => false,
     }
 }
 

@@ -19,6 +19,7 @@ pub enum Subject {
     Link,
     Duration,
     AppendDamaged,
+    Order,
     Identify,
     Audio,
     Video,
@@ -81,7 +82,7 @@ pub struct OptionRow(
 );
 
 #[rattlefmt::skip]
-static MERGE_OPTIONS: [OptionRow; 38] = [
+static MERGE_OPTIONS: [OptionRow; 39] = [
     OptionRow("-o", "--output", Subject::Output, Scope::Output, ValueForm::Name),
     OptionRow("-w", "--webm", Subject::Webm, Scope::Output, ValueForm::Flag),
     OptionRow("", "--title", Subject::Title, Scope::Output, ValueForm::Text),
@@ -93,6 +94,7 @@ static MERGE_OPTIONS: [OptionRow; 38] = [
     OptionRow("", "--link", Subject::Link, Scope::Output, ValueForm::Flag),
     OptionRow("", "--duration", Subject::Duration, Scope::Output, ValueForm::Flag),
     OptionRow("", "--append-damaged", Subject::AppendDamaged, Scope::Output, ValueForm::Flag),
+    OptionRow("", "--track-order", Subject::Order, Scope::Output, ValueForm::Order),
     OptionRow("-J", "", Subject::Identify, Scope::Output, ValueForm::Flag),
     OptionRow("-a", "--audio-tracks", Subject::Audio, Scope::File, ValueForm::Ids),
     OptionRow("-A", "--no-audio", Subject::Audio, Scope::File, ValueForm::Exclusion),

@@ -39,7 +39,7 @@ pub(crate) fn merge_words(alloc: Global, items: &[Item]) -> Result<MergeWords, A
         duration: stands(Subject::Duration, items),
         append_damaged: stands(Subject::AppendDamaged, items),
         attached: List::new(alloc),
-        order: List::new(alloc),
+        order: order_in(alloc, items)?,
     })
 }
 
@@ -103,6 +103,17 @@ fn uuids_in(alloc: Global, items: &[Item]) -> Result<List<u128>, AllocError>
 {
     match value_in(Subject::Uuids, items) {
         Some(Value::Uuids(uuids)) => Ok(List::from_vec(Vec::from_slice(alloc, uuids.as_slice())?)),
+        _ => Ok(List::new(alloc)),
+    }
+}
+
+// Returns the tracks that come first in the output, the value of `--track-order` among `items`, or none without it. For
+// `merge_words`.
+fn order_in(alloc: Global, items: &[Item]) -> Result<List<(u64, u64)>, AllocError>
+    ensures { IfOk result (λ order. order ≡ spec.order_in items.now) }
+{
+    match value_in(Subject::Order, items) {
+        Some(Value::Order(order)) => Ok(List::from_vec(Vec::from_slice(alloc, order.as_slice())?)),
         _ => Ok(List::new(alloc)),
     }
 }

@@ -54,7 +54,7 @@ pub(crate) const INFO_PAGE: [&str; 11] = [
 
 /// The page of `merge`.
 #[rattlefmt::skip]
-pub(crate) const MERGE_PAGE: [&str; 94] = [
+pub(crate) const MERGE_PAGE: [&str; 98] = [
     "usage: mkvsuite merge -o OUT [OUTPUT OPTIONS] [FILE OPTIONS] FILE",
     "                      [[+] [FILE OPTIONS] FILE]..",
     "       mkvsuite merge -J FILE",
@@ -85,6 +85,8 @@ pub(crate) const MERGE_PAGE: [&str; 94] = [
     "    --duration                  write the Duration of each output",
     "    --append-damaged            go on with the next appended file if damage",
     "                                ends the reading of one (default: stop)",
+    "    --track-order ORDER         tracks that come first; the others follow, in",
+    "                                the order of the files (default: none)",
     "    -J                          print what FILE contains as JSON; only as",
     "                                merge -J FILE",
     "  file options:",
@@ -135,6 +137,8 @@ pub(crate) const MERGE_PAGE: [&str; 94] = [
     "  where:",
     "    ID                          a track, counted from 0 as in info",
     "    IDS                         1,2 for these tracks; '!1,2' for all but these",
+    "    ORDER                       FILE:ID,..; FILE 0 is the first, and appended",
+    "                                files count, too",
     "    WHERE                       at keyframes of the first video track:",
     "                                duration:TIME, when a part has lasted TIME;",
     "                                timestamps:TIME,.. at each TIME;",

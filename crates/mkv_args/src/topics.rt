@@ -7,7 +7,7 @@ pub(crate) const TOPIC_LIST: [&str; 18] = [
     "",
     "command line: NoCommand UnknownCommand UnknownOption MissingValue BadValue",
     "              RepeatedOption ExtraWord NoOutput NoInput DanglingOption",
-    "              AppendFirst RepeatedOutput TooManyInputs NeedsUuids",
+    "              AppendFirst RepeatedOutput TooManyInputs NeedsUuids NoSuchFile",
     "refused:      Missing OutputIsInput PendingEdit BadText TextTooLarge",
     "              AppendDiffers NoLane TooManyLanes NotWebm NoExtractor BadConfig",
     "edits:        NoInfo NoSuchTrack NoSuchProperty BadPropertyValue AlreadyThere",
@@ -25,7 +25,7 @@ pub(crate) const TOPIC_LIST: [&str; 18] = [
 
 /// Names of the group 'command line', each with its page.
 #[rattlefmt::skip]
-pub(crate) const WORD_TOPICS: [(&str, &[&str]); 14] = [
+pub(crate) const WORD_TOPICS: [(&str, &[&str]); 15] = [
     ("NoCommand", &[
         "NoCommand: there is no word after the program's name.",
         "Cause: the program was called without arguments.",
@@ -112,6 +112,14 @@ pub(crate) const WORD_TOPICS: [(&str, &[&str]); 14] = [
         "Cause: parts are linked by their UUIDs, and this program makes none by itself.",
         "Do: add --segment-uid with one UUID for each part: 32 hexadecimal digits",
         "  without hyphens, separated by commas (\"uuidgen | tr -d -\" prints one).",
+    ]),
+    ("NoSuchFile", &[
+        "NoSuchFile: word N, the value of --track-order, names a FILE that isn't there,",
+        "  or one after a +.",
+        "Cause: each item is FILE:ID. Every FILE counts, from 0, appended ones too; but",
+        "  tracks of an appended file continue those of the file before it.",
+        "Do: name the tracks of the file before the +: \"merge -o OUT --track-order",
+        "  2:0,0:0 a.mkv + b.mkv c.mkv\".",
     ]),
 ];
 

@@ -15,9 +15,9 @@ use Rattle.merge_words.specs.declared.options.Subject.TheVariants as subject
 use Rattle.merge_words.specs.declared.options.Scope.TheVariants as scope
 use Rattle.merge_words.specs.Options.{same}
 use Rattle.merge_words.specs.Items.{stands, files_in, since_file}
-use Rattle.merge_words.specs.Said.{value_in, file_in, file_of, text_of, scale_of, blocks_of, span_of, split_of, uuids_of}
+use Rattle.merge_words.specs.Said.{value_in, file_in, file_of, text_of, scale_of, blocks_of, span_of, split_of, uuids_of, order_of}
 use Rattle.merge_words.specs.Files.{ids_of, file}
-use Rattle.merge_words.specs.Output.{merge_words as said_by, title_in, scale_in, blocks_in, span_in, uuids_in}
+use Rattle.merge_words.specs.Output.{merge_words as said_by, title_in, scale_in, blocks_in, span_in, uuids_in, order_in}
 use Rattle.merge_words.specs.Merge.{starts, read_all, items, complete, merged, linking, unlinked}
 use Rattle.merge_words.proofs.FilesLemmas.{files_from, parted_files}
 use Rattle.requests.specs.Sound.{IsSoundMerge, IsSoundFile}
@@ -36,7 +36,7 @@ use Rattle.word_laws.proofs.AboutLemmas.{about, is_said, first_said, stands_abou
 use Rattle.word_laws.proofs.PieceLemmas.{flag_stands, value_first}
 use Rattle.word_laws.proofs.FileLemmas.{group, file_items, after_file, file_read, counted_both, same_count}
 use Rattle.word_laws.proofs.OwnLemmas.{IsSaidOf, ids_are, file_is}
-use Rattle.word_laws.proofs.OutputLemmas.{said_length, said_uuids, output_pieces, output_read, ids_none}
+use Rattle.word_laws.proofs.OutputLemmas.{said_length, said_uuids, said_order, output_pieces, output_read, ids_none}
 use Rattle.word_laws.proofs.FilesLemmas.{files_items, files_read, none_since, one_counted, files_behind, files_first, files_are}
 
 -- ---- items of files are about files
@@ -111,6 +111,10 @@ uuids_back : (us : List ℕ) → unwrap_or (option_and_then uuids_of (first_said
 uuids_back [] = refl
 uuids_back (u ∷ us) = refl
 
+order_back : (ps : List (ℕ × ℕ)) → unwrap_or (option_and_then order_of (first_said (said_order ps ++ []))) [] ≡ ps
+order_back [] = refl
+order_back (p ∷ ps) = refl
+
 module _ (w : MergeWords) (is : IsSpellableMerge w) where
   webm_is : stands subject.Webm (all_items w) ≡ w.webm
   webm_is = out_stands w subject.Webm (λ f. refl) refl ∙ flag_stands (codes "--webm") Flag w.webm
@@ -142,6 +146,9 @@ module _ (w : MergeWords) (is : IsSpellableMerge w) where
   duration_is : stands subject.Duration (all_items w) ≡ w.duration
   duration_is = out_stands w subject.Duration (λ f. refl) refl ∙ flag_stands (codes "--duration") Flag w.duration
 
+  order_is : order_in (all_items w) ≡ w.order
+  order_is = rw (out_value w subject.Order (λ f. refl) refl) (order_back w.order)
+
   append_damaged_is : stands subject.AppendDamaged (all_items w) ≡ w.append_damaged
   append_damaged_is = out_stands w subject.AppendDamaged (λ f. refl) refl ∙ flag_stands (codes "--append-damaged") Flag w.append_damaged
 
@@ -169,7 +176,7 @@ unfolding said_by
 said_is w sound is =
     let some = sound.files.least in
     rw (webm_is w is) (rw (title_is w is) (rw (chapters_is w is) (rw (scale_is w is) (rw (blocks_is w is) (rw (span_is w is)
-    (rw (split_is w is) (rw (parted_files (all_items w) ∙ all_files w w.files (omega arith) is.files) (rw (uuids_is w is) (rw (link_is w is) (rw (duration_is w is) (rw (append_damaged_is w is) (rw is.attached (rw is.order refl)))))))))))))
+    (rw (split_is w is) (rw (parted_files (all_items w) ∙ all_files w w.files (omega arith) is.files) (rw (uuids_is w is) (rw (link_is w is) (rw (duration_is w is) (rw (append_damaged_is w is) (rw is.attached (rw (order_is w is) refl)))))))))))))
 
 -- ---- arguments are read as the items
 since_all : (fs : List FileWords) (before : List Item) (at : ℕ) → since_file before ≡ [] → since_file (before ++ files_items at fs) ≡ []
@@ -243,4 +250,4 @@ complete_all w count sound is =
 pub merge_read : (w : MergeWords) → IsSoundMerge w → IsSpellableMerge w → command (codes "merge" ∷ merge_words w) ≡ Ok (commands.Merge w)
 unfolding command_named merge merged
 merge_read w sound is =
-    by_verb verb.Merge (merge_words w) refl ∙ rw (items_read w sound is) (rw (complete_all w (length (codes "merge" ∷ merge_words w)) sound is) (rw (said_is w sound is) refl))
+    by_verb verb.Merge (merge_words w) refl ∙ rw (items_read w sound is) (rw (complete_all w (length (codes "merge" ∷ merge_words w)) sound is) (rw (said_is w sound is) (rw is.order.begin refl)))

@@ -3,13 +3,14 @@ use Rattle.std.proofs.Common.{ℕ, ◌/◌, ◌%◌, Bool, true, false, if◌the
 use Rattle.std.specs.Fmt.{decimal}
 use Rattle.std.proofs.lemmas.Bool.{cases_Bool}
 use Rattle.word_values.specs.declared.values.Value.{Value}
-use Rattle.word_values.specs.declared.values.Value.TheVariants.{Flag, File, Text, Scale, Blocks, Span, Split, Uuids}
+use Rattle.word_values.specs.declared.values.Value.TheVariants.{Flag, File, Text, Scale, Blocks, Span, Split, Uuids, Order}
 use Rattle.word_values.specs.declared.values.ValueForm.{ValueForm}
 use Rattle.word_values.specs.declared.values.ValueForm.TheVariants as form
 use Rattle.requests.specs.declared.split.SplitWords.{SplitWords}
 use Rattle.requests.specs.Sound.{IsWithin, IsSoundSplit, AreUuids}
 use Rattle.word_values.specs.Values.{flag_of, value_of}
 use Rattle.merge_words.specs.Items.{track_in}
+use Rattle.requests.specs.declared.merge.FileWords.{FileWords}
 use Rattle.requests.specs.declared.merge.MergeWords.{MergeWords}
 use Rattle.merge_words.specs.declared.options.Subject.{Subject}
 use Rattle.merge_words.specs.declared.options.Subject.TheVariants as subject
@@ -18,11 +19,11 @@ use Rattle.merge_words.specs.Options.{meaning_of, table}
 use Rattle.merge_words.specs.Files.{ids_of}
 use Rattle.merge_words.specs.Merge.{starts, read_all}
 use Rattle.requests.specs.Sound.{IsSoundMerge}
-use Rattle.word_laws.specs.Values.{with_commas, last_digits, split_word, uuids_word}
+use Rattle.word_laws.specs.Values.{with_commas, last_digits, split_word, uuids_word, place_word, order_word}
 use Rattle.word_laws.specs.SpelledMerge.{parts_joined, unusual, with_value, output_options}
-use Rattle.word_laws.specs.SpellableMerge.{IsText, IsSpellableMerge, IsSplit}
+use Rattle.word_laws.specs.SpellableMerge.{IsText, IsOrder, IsSpellableMerge, IsSplit}
 use Rattle.word_laws.proofs.ValueLemmas.{text_read, scale_read, blocks_read, span_read}
-use Rattle.word_laws.proofs.SplitLemmas.{split_value_read, uuids_read}
+use Rattle.word_laws.proofs.SplitLemmas.{split_value_read, uuids_read, order_read}
 use Rattle.word_laws.proofs.SayingLemmas.{◌&◌, Item, Said, Piece, said_words, piece_words, piece_items, after_pieces, IsOption}
 use Rattle.word_laws.proofs.GroupLemmas.{IsReadable, AreReadable, value_said, once_read, pieces_read}
 use Rattle.word_laws.proofs.AboutLemmas.{ids_said, ids_part}
@@ -87,6 +88,25 @@ uuids_ids : (us : List ℕ) → ids_said (said_uuids us) ≡ []
 uuids_ids [] = refl
 uuids_ids (u ∷ us) = refl
 
+abbrev pub said_order : List (ℕ × ℕ) → List Said
+said_order [] = []
+said_order (p ∷ ps) = record { word = codes "--track-order"; value = Some (with_commas (map place_word (p ∷ ps))); says = Order (p ∷ ps) } ∷ []
+
+order_spelled : (ps : List (ℕ × ℕ)) → said_words (said_order ps) ≡ with_value (codes "--track-order") (order_word ps)
+order_spelled [] = refl
+order_spelled (p ∷ ps) = refl
+
+order_readable : (files : List FileWords) (ps : List (ℕ × ℕ)) → IsOption (codes "--track-order") (means subject.Order scope.Output form.Order) → IsOrder files ps
+    → IsReadable (record { subject = subject.Order; scope = scope.Output; said = said_order ps })
+order_readable files [] is order = once_read subject.Order scope.Output [] tt
+order_readable files (p ∷ ps) is order =
+    once_read subject.Order scope.Output (said_order (p ∷ ps))
+    (value_said (codes "--track-order") (means subject.Order scope.Output form.Order) (with_commas (map place_word (p ∷ ps))) (Order (p ∷ ps)) is refl (order_read (p ∷ ps) (omega arith) order.differ order.short), refl)
+
+order_ids : (ps : List (ℕ × ℕ)) → ids_said (said_order ps) ≡ []
+order_ids [] = refl
+order_ids (p ∷ ps) = refl
+
 split_sound : (o : Option SplitWords) (x : SplitWords) → IfSome o IsSoundSplit → IfSome o IsSplit → o ≡ Some x → IsSoundSplit x × IsSplit x
 split_sound None x sound is same = absurd (cc)
 split_sound (Some y) x sound is same = let e : y ≡ x = cc in (subst IsSoundSplit e sound, subst IsSplit e is)
@@ -103,7 +123,8 @@ output_pieces w =
     record { subject = subject.Uuids; scope = scope.Output; said = said_uuids w.uuids } ∷
     record { subject = subject.Link; scope = scope.Output; said = said_flag (codes "--link") Flag w.link } ∷
     record { subject = subject.Duration; scope = scope.Output; said = said_flag (codes "--duration") Flag w.duration } ∷
-    record { subject = subject.AppendDamaged; scope = scope.Output; said = said_flag (codes "--append-damaged") Flag w.append_damaged } ∷ []
+    record { subject = subject.AppendDamaged; scope = scope.Output; said = said_flag (codes "--append-damaged") Flag w.append_damaged } ∷
+    record { subject = subject.Order; scope = scope.Output; said = said_order w.order } ∷ []
 
 output_spelled : (w : MergeWords) → piece_words (output_pieces w) ≡ parts_joined (output_options w)
 output_spelled w = pieces_spelled (output_pieces w) (output_options w) (
@@ -118,6 +139,7 @@ output_spelled w = pieces_spelled (output_pieces w) (output_options w) (
     flag_words (codes "--link") Flag w.link &
     flag_words (codes "--duration") Flag w.duration &
     flag_words (codes "--append-damaged") Flag w.append_damaged &
+    order_spelled w.order &
     tt)
 
 -- A value is read back, if there is one.
@@ -150,17 +172,18 @@ output_readable w sound is = (
     flag_readable subject.Link scope.Output (codes "--link") w.link (refl, refl) &
     flag_readable subject.Duration scope.Output (codes "--duration") w.duration (refl, refl) &
     flag_readable subject.AppendDamaged scope.Output (codes "--append-damaged") w.append_damaged (refl, refl) &
+    order_readable w.files w.order (refl, refl) is.order &
     tt)
 
 pub output_read : (w : MergeWords) (count : ℕ) (rest : List (List ℕ)) → IsSoundMerge w → IsSpellableMerge w
     → read_all count [] (starts 1 (parts_joined (output_options w) ++ rest)) ≡ read_all count (piece_items 1 (output_pieces w)) (starts (after_pieces 1 (output_pieces w)) rest)
 output_read w count rest sound is =
-    let read = pieces_read (output_pieces w) count [] 1 rest refl refl (output_readable w sound is) (refl, (refl, (refl, (refl, (refl, (refl, (refl, (refl, (refl, (refl, (refl, tt))))))))))) in
+    let read = pieces_read (output_pieces w) count [] 1 rest refl refl (output_readable w sound is) (refl, (refl, (refl, (refl, (refl, (refl, (refl, (refl, (refl, (refl, (refl, (refl, tt)))))))))))) in
     subst (λ ws. read_all count [] (starts 1 (ws ++ rest)) ≡ read_all count (piece_items 1 (output_pieces w)) (starts (after_pieces 1 (output_pieces w)) rest)) (output_spelled w) read
 
 -- ---- the pieces have no subject of a file
 pub ids_none : (w : MergeWords) (at : ℕ) → flat_map (λ (i : Item). ids_of i.value) (piece_items at (output_pieces w)) ≡ []
-ids_none w at = ids_part (output_pieces w) ([] ∷ [] ∷ [] ∷ [] ∷ [] ∷ [] ∷ [] ∷ [] ∷ [] ∷ [] ∷ [] ∷ []) at (
+ids_none w at = ids_part (output_pieces w) ([] ∷ [] ∷ [] ∷ [] ∷ [] ∷ [] ∷ [] ∷ [] ∷ [] ∷ [] ∷ [] ∷ [] ∷ []) at (
     refl &
     flag_ids (codes "--webm") w.webm &
     value_ids (codes "--title") (λ t. t) Text w.title (λ x. refl) &
@@ -172,4 +195,5 @@ ids_none w at = ids_part (output_pieces w) ([] ∷ [] ∷ [] ∷ [] ∷ [] ∷ [
     flag_ids (codes "--link") w.link &
     flag_ids (codes "--duration") w.duration &
     flag_ids (codes "--append-damaged") w.append_damaged &
+    order_ids w.order &
     tt)

@@ -75,7 +75,7 @@ module _ (output name : List ℕ) where
     uuids = All-nil _;
     link = tt;
     attached = refl;
-    order = refl;
+    order = record { differ = refl; short = All-nil _; begin = refl };
     files = All-cons IsMergeFile (plain_file name) [] (file-spelled name input) (All-nil IsMergeFile);
   }
 

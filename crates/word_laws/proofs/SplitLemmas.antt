@@ -9,18 +9,18 @@ use Rattle.std.specs.Fmt.{decimal}
 use Rattle.requests.specs.declared.split.SpanWords.{SpanWords}
 use Rattle.requests.specs.declared.split.SplitWords.{SplitWords}
 use Rattle.requests.specs.declared.split.SplitWords.TheVariants as split_by
-use Rattle.word_values.specs.declared.values.Value.TheVariants.{Split, Uuids}
+use Rattle.word_values.specs.declared.values.Value.TheVariants.{Split, Uuids, Order}
 use Rattle.word_values.specs.declared.values.ValueForm.TheVariants as form
 use Rattle.word_values.specs.Numbers.{ends, time, size, amount, uuid}
 use Rattle.requests.specs.Decimal.{whole}
-use Rattle.word_values.specs.Lists.{times, span, spans, duration, chapters, split_of, split, uuids}
+use Rattle.word_values.specs.Lists.{times, span, spans, duration, chapters, split_of, split, uuids, place, pairs_differ, order}
 use Rattle.word_values.specs.Values.{value_of}
 use Rattle.requests.specs.Sound.{IsSoundSplit, IsSpan, AreUuids}
 use Rattle.mkv_io.specs.Octets.{lacks}
-use Rattle.word_laws.specs.Values.{is_in, size_word, with_commas, numbers_word, last_digits, time_word, span_word, split_word}
+use Rattle.word_laws.specs.Values.{is_in, size_word, with_commas, HasFewDigits, numbers_word, last_digits, time_word, span_word, split_word, place_word}
 use Rattle.word_laws.specs.SpellableMerge.{is_size, AreIds, IsSplit}
-use Rattle.mkv_io.proofs.OctetsLemmas.{decimal_all, cut_behind}
-use Rattle.word_laws.proofs.NumberLemmas.{whole_read}
+use Rattle.mkv_io.proofs.OctetsLemmas.{decimal_all, decimal_lacks, cut_behind, lacks_both}
+use Rattle.word_laws.proofs.NumberLemmas.{whole_read, short_fits, number_read}
 use Rattle.word_laws.proofs.SimpleLemmas.{other_word}
 use Rattle.word_laws.proofs.ValueLemmas.{last_is, ends_is, front_is, digits_end, list_read, numbers_read, numbers_first}
 use Rattle.word_laws.proofs.TimeLemmas.{time_read, time_lacks, span_is_read, span_lacks, uuid_read, uuid_lacks}
@@ -146,3 +146,24 @@ uuids_read us some sound small =
     let each = list_read uuid (last_digits 16 32) us some (All-weaker (λ u. u < 2 ^ 128) (λ u. lacks 44 (last_digits 16 32 u) ≡ true) (λ u h. uuid_lacks u) us small)
     (All-weaker (λ u. u < 2 ^ 128) (λ u. uuid (last_digits 16 32 u) ≡ Some u) (λ u h. uuid_read u h) us small) in
     rw each (rw (le-leb (length us) 1024 sound.few) (rw sound.differ refl))
+
+-- ---- an order of tracks
+-- The numbers of the track have at most 18 digits.
+abbrev IsShort : ℕ × ℕ → Type 0
+IsShort track = HasFewDigits track.0 × HasFewDigits track.1
+
+place_read : (track : ℕ × ℕ) → IsShort track → place (place_word track) ≡ Some track
+unfolding place
+place_read (file, id) short =
+    rw (cut_behind 58 (decimal file) (decimal id) (decimal_lacks 58 file refl (short_fits file short.0))) (rw (number_read file short.0) (rw (number_read id short.1) refl))
+
+place_lacks : (track : ℕ × ℕ) → IsShort track → lacks 44 (place_word track) ≡ true
+place_lacks (file, id) short =
+    lacks_both 44 (decimal file) (codes ":" ++ decimal id) (decimal_lacks 44 file refl (short_fits file short.0)) (decimal_lacks 44 id refl (short_fits id short.1))
+
+pub order_read : (ps : List (ℕ × ℕ)) → 0 < length ps → pairs_differ ps ≡ true → All IsShort ps → value_of form.Order (with_commas (map place_word ps)) ≡ Some (Order ps)
+unfolding value_of order
+order_read ps some differ short =
+    let each = list_read place place_word ps some (All-weaker IsShort (λ p. lacks 44 (place_word p) ≡ true) place_lacks ps short)
+    (All-weaker IsShort (λ p. place (place_word p) ≡ Some p) place_read ps short) in
+    rw each (rw differ refl)

@@ -68,10 +68,11 @@ merging = record (plain_words (codes "o.mkv") (Some (splits.Duration 37235000000
   span = 250000000;
   uuids = 10 ∷ [];
   link = true;
+  order = (0, 12) ∷ (0, 0) ∷ [];
 }
 
 abbrev merge_line : List ℕ
-merge_line = codes "merge --output o.mkv --title x --cluster-length 250ms --split duration:1:02:03.500000000 --segment-uid 0000000000000000000000000000000a --link --no-audio --subtitle-tracks !1,3 --no-chapters --keep-encodings --sync 0:-20 --language 0:eng --language-ietf 0:en-GB --forced-display-flag 2:1 --commentary-flag 2:0 --cues 0:none f.mkv + g.mkv"
+merge_line = codes "merge --output o.mkv --title x --cluster-length 250ms --split duration:1:02:03.500000000 --segment-uid 0000000000000000000000000000000a --link --track-order 0:12,0:0 --no-audio --subtitle-tracks !1,3 --no-chapters --keep-encodings --sync 0:-20 --language 0:eng --language-ietf 0:en-GB --forced-display-flag 2:1 --commentary-flag 2:0 --cues 0:none f.mkv + g.mkv"
 
 pub a_merge : spelled (commands.Merge merging) ≡ words merge_line
 unfolding digits last_digits
@@ -137,6 +138,9 @@ second_spelled = record {
   named = refl;
 }
 
+abbrev IsShort : ℕ × ℕ → Type 0
+IsShort track = HasFewDigits track.0 × HasFewDigits track.1
+
 pub a_merge_is_spelled : IsSpellableMerge merging
 a_merge_is_spelled = record {
   title = refl;
@@ -146,6 +150,10 @@ a_merge_is_spelled = record {
   uuids = All-cons (λ u. u < 2 ^ 128) 10 [] (omega arith) (All-nil (λ u. u < 2 ^ 128));
   link = omega arith;
   attached = refl;
-  order = refl;
+  order = record {
+    differ = refl;
+    short = All-cons IsShort (0, 12) ((0, 0) ∷ []) (omega arith, omega arith) (All-cons IsShort (0, 0) [] (omega arith, omega arith) (All-nil IsShort));
+    begin = refl;
+  };
   files = All-cons IsMergeFile first_file (second_file ∷ []) first_spelled (All-cons IsMergeFile second_file [] second_spelled (All-nil IsMergeFile));
 }

@@ -7,10 +7,12 @@ use Rattle.requests.specs.declared.split.SplitWords.{SplitWords}
 use Rattle.requests.specs.declared.split.SplitWords.TheVariants as split
 use Rattle.requests.specs.Lists.{differ}
 use Rattle.requests.specs.Language.{is_language_tag}
+use Rattle.word_values.specs.Lists.{pairs_differ}
 use Rattle.word_values.specs.Values.{is_language}
 use Rattle.requests.specs.declared.merge.FileWords.{FileWords}
 use Rattle.requests.specs.declared.merge.MergeWords.{MergeWords}
 use Rattle.merge_words.specs.Files.{ids_of_select, once}
+use Rattle.merge_words.specs.Merge.{all_begin}
 use Rattle.word_laws.specs.Names.{IsInputName}
 use Rattle.mkv_io.specs.Octets.{lacks}
 use Rattle.word_laws.specs.Values.{HasFewDigits, is_in}
@@ -114,6 +116,13 @@ IsLinkable false uuids = ⊤
 abbrev pub IsLength : ℕ → ℕ → Type 0
 IsLength blocks span = (blocks ≡ 65535) ⊎ (span ≡ 5000000000)
 
+-- The order of tracks `order`, of a merge of the inputs `files`, can be given on a command line. Its tracks differ, their numbers have at most 18
+-- digits, and each is of an input that isn't appended to another one. For `IsSpellableMerge`, in the laws on canonical command lines.
+pub record IsOrder (files : List FileWords) (order : List (ℕ × ℕ)) : Type 0 where
+  pub differ : pairs_differ order ≡ true
+  pub short : All (λ (track : ℕ × ℕ). HasFewDigits track.0 × HasFewDigits track.1) order
+  pub begin : all_begin files order ≡ true
+
 -- The merge `words` has a canonical command line: its options for the output and the files can be given. For `IsSpellable`.
 pub record IsSpellableMerge (words : MergeWords) : Type 0 where
   pub title : IfSome words.title IsText
@@ -123,5 +132,5 @@ pub record IsSpellableMerge (words : MergeWords) : Type 0 where
   pub uuids : All (λ u. u < 2 ^ 128) words.uuids
   pub link : IsLinkable words.link words.uuids
   pub attached : words.attached ≡ []
-  pub order : words.order ≡ []
+  pub order : IsOrder words.files words.order
   pub files : All IsMergeFile words.files

@@ -6,7 +6,7 @@ use Rattle.requests.specs.declared.track.Select.{Select}
 use Rattle.requests.specs.declared.track.Select.TheVariants as select
 use Rattle.requests.specs.declared.merge.FileWords.{FileWords}
 use Rattle.requests.specs.declared.merge.MergeWords.{MergeWords}
-use Rattle.word_laws.specs.Values.{with_number, numbers_word, split_word, uuids_word, delay_word, flag_word, cues_word}
+use Rattle.word_laws.specs.Values.{with_number, numbers_word, split_word, uuids_word, order_word, delay_word, flag_word, cues_word}
 
 -- the option `option`, which takes no value, as arguments, if it is given. For the options of a merge.
 abbrev pub flag : List ℕ → Bool → List (List ℕ)
@@ -59,7 +59,8 @@ output_options words =
     with_value (codes "--segment-uid") (uuids_word words.uuids) ∷
     flag (codes "--link") words.link ∷
     flag (codes "--duration") words.duration ∷
-    flag (codes "--append-damaged") words.append_damaged ∷ []
+    flag (codes "--append-damaged") words.append_damaged ∷
+    with_value (codes "--track-order") (order_word words.order) ∷ []
 
 -- the arguments of each option for the file `file` and its tracks, in canonical order; none for a default. For `file_words`, in the laws on canonical
 -- command lines.

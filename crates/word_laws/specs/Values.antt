@@ -75,6 +75,15 @@ abbrev pub uuids_word : List ℕ → Option (List ℕ)
 uuids_word [] = None
 uuids_word (u ∷ us) = Some (with_commas (map (last_digits 16 32) (u ∷ us)))
 
+-- the track `track`, the index of an input and its own index in that input, as an item of `--track-order`. For `order_word`.
+abbrev pub place_word : ℕ × ℕ → List ℕ
+place_word track = with_number track.0 (decimal track.1)
+
+-- the value of `--track-order`: the tracks with commas between them; none without tracks. For `output_options`.
+abbrev pub order_word : List (ℕ × ℕ) → Option (List ℕ)
+order_word [] = None
+order_word (p ∷ ps) = Some (with_commas (map place_word (p ∷ ps)))
+
 -- the value of a delay in nanoseconds: milliseconds, with a `-` if it is negative. For `--sync`.
 abbrev pub delay_word : ℤ → List ℕ
 delay_word (pos n) = decimal (n / 1000000)

@@ -13,7 +13,7 @@ use Rattle.requests.specs.declared.split.SplitWords.TheVariants.{Duration, Times
 use Rattle.word_values.specs.declared.values.ValueForm.{ValueForm}
 use Rattle.word_values.specs.declared.values.ValueForm.TheVariants as form
 use Rattle.word_values.specs.declared.values.Value.{Value}
-use Rattle.word_values.specs.declared.values.Value.TheVariants.{Flag, File, Text, Scale, Blocks, Span, Split, Uuids, Tracks, TrackDelay, TrackText, TrackLanguage, TrackLanguageTag, TrackFlag, TrackCues, TrackFile}
+use Rattle.word_values.specs.declared.values.Value.TheVariants.{Flag, File, Text, Scale, Blocks, Span, Split, Uuids, Order, Tracks, TrackDelay, TrackText, TrackLanguage, TrackLanguageTag, TrackFlag, TrackCues, TrackFile}
 use Rattle.requests.specs.declared.track.Select.TheVariants.{Off}
 use Rattle.mkv_io.specs.Characters.{COLON, DASH, char}
 use Rattle.mkv_io.specs.Optional.{◌>>=◌}
@@ -21,7 +21,7 @@ use Rattle.mkv_io.specs.Octets.{cut}
 use Rattle.word_values.specs.Numbers.{from, delay_size, delay, ends, front, clock, time, amount, times_unit, size, uuid}
 use Rattle.requests.specs.Decimal.{below, number, whole}
 use Rattle.requests.specs.Language.{is_language_tag}
-use Rattle.word_values.specs.Lists.{pieces, onto, each, passing, times, span_of, span, spans, uuids, numbers, ids, duration, chapters, split_of, split}
+use Rattle.word_values.specs.Lists.{pieces, onto, each, passing, times, span_of, span, spans, uuids, numbers, ids, duration, order, chapters, split_of, split}
 use Rattle.requests.specs.Lists.{ascend, follow, differ}
 use Rattle.word_values.specs.Values.{flag_of, text, is_language, language, language_tag, scale, cluster_length, track_and_rest, flag_in, track_flag, cue_word, track_value, value_of}
 use Rattle.word_values.proofs.AnswerLemmas.{either}
@@ -291,6 +291,7 @@ value_of-read given form.Scale word v utf8 is = mapped (IsRead given) Scale (bel
 value_of-read given form.Length word v utf8 is = length-read given word v is
 value_of-read given form.Split word v utf8 is = mapped (IsRead given) Split (split word) v is (λ s here. (split-sound word s here, tt))
 value_of-read given form.Uuids word v utf8 is = mapped (IsRead given) Uuids (uuids word) v is (λ us here. (uuids-sound word us here, tt))
+value_of-read given form.Order word v utf8 is = mapped (IsRead given) Order (order word) v is (λ ps here. (tt, tt))
 value_of-read given form.Ids word v utf8 is = mapped (IsRead given) Tracks (ids word) v is (λ s here. (tt, tt))
 value_of-read given form.TrackFlag word v utf8 is = flag_in-read given word (track_and_rest word) v is
 value_of-read given form word v utf8 is =

@@ -1,6 +1,6 @@
 -- Values of options that are lists with commas, in this project's grammar.
-use Rattle.std.specs.Prelude.{ℕ, Bool, ◌&&◌, ◌==◌, nat_le, if◌then◌else◌, List, [], ◌∷◌, length, drop, slice_index, codes, Option, Some, None, option_map}
-use Rattle.std.specs.List.{slice_split}
+use Rattle.std.specs.Prelude.{ℕ, Bool, true, not, ◌&&◌, ◌==◌, nat_le, if◌then◌else◌, List, [], ◌∷◌, length, drop, slice_index, codes, Option, Some, None, option_map}
+use Rattle.std.specs.List.{list_any, slice_split}
 use Rattle.std.specs.Str.{bytes_eq}
 use Rattle.requests.specs.declared.track.Select.{Select}
 use Rattle.requests.specs.declared.track.Select.TheVariants.{These, AllBut}
@@ -67,6 +67,27 @@ spans word = passing (follow 0) (each span (pieces word))
 -- the identifiers in the argument `word` of `--segment-uid`, 1 to 1024, all different, or None
 unfoldable pub uuids : List ℕ → Option (List ℕ)
 uuids word = passing (λ us. nat_le (length us) 1024 && differ us) (each uuid (pieces word))
+
+-- the track that the argument `word` gives, an item of `--track-order`: the number of an input, `:` and a track ID; or None. `order` uses it.
+unfoldable pub place : List ℕ → Option (ℕ × ℕ)
+place word = do
+  p ← cut COLON word
+  file ← number p.0
+  id ← number p.1
+  Some (file, id)
+
+-- The pair `pair`, the number of an input and a track ID, is one of `pairs`. `pairs_differ` uses it.
+abbrev pub has_pair : ℕ × ℕ → List (ℕ × ℕ) → Bool
+has_pair pair pairs = list_any (λ (other : ℕ × ℕ). other.0 == pair.0 && other.1 == pair.1) pairs
+
+-- No pair occurs twice in the list. The tracks of `--track-order`, each with its input, must differ so. `order` uses it.
+abbrev pub pairs_differ : List (ℕ × ℕ) → Bool
+pairs_differ [] = true
+pairs_differ (p ∷ ps) = not (has_pair p ps) && pairs_differ ps
+
+-- the tracks in the argument `word` of `--track-order`, each with the number of its input, all different, or None
+unfoldable pub order : List ℕ → Option (List (ℕ × ℕ))
+order word = passing pairs_differ (each place (pieces word))
 
 -- the split into parts of the duration that `word` gives, a time above 0, or None, for `--split duration:`
 unfoldable pub duration : List ℕ → Option SplitWords

@@ -9,14 +9,14 @@ use Rattle.requests.specs.declared.track.Select.TheVariants as select
 use Rattle.word_values.specs.declared.values.ValueForm.{ValueForm}
 use Rattle.word_values.specs.declared.values.ValueForm.TheVariants as form
 use Rattle.word_values.specs.declared.values.Value.{Value}
-use Rattle.word_values.specs.declared.values.Value.TheVariants.{Flag, File, Text, Scale, Blocks, Span, Split, Uuids, Tracks, TrackDelay, TrackText, TrackLanguage, TrackLanguageTag, TrackFlag, TrackCues, TrackFile}
+use Rattle.word_values.specs.declared.values.Value.TheVariants.{Flag, File, Text, Scale, Blocks, Span, Split, Uuids, Order, Tracks, TrackDelay, TrackText, TrackLanguage, TrackLanguageTag, TrackFlag, TrackCues, TrackFile}
 use Rattle.mkv_io.specs.Characters.{COLON, char}
 use Rattle.mkv_io.specs.Optional.{◌>>=◌}
 use Rattle.mkv_io.specs.Octets.{cut}
 use Rattle.word_values.specs.Numbers.{from, delay, ends, front}
 use Rattle.requests.specs.Decimal.{below, number}
 use Rattle.requests.specs.Language.{is_language_tag}
-use Rattle.word_values.specs.Lists.{ids, split, uuids}
+use Rattle.word_values.specs.Lists.{ids, order, split, uuids}
 
 -- the value of an option of this form that takes no argument, or None if its form needs one. The contract of the function with this name promises it.
 -- Used by `said` of `merge_words`.
@@ -104,6 +104,7 @@ value_of form.Scale word = scale word
 value_of form.Length word = cluster_length word
 value_of form.Split word = option_map Split (split word)
 value_of form.Uuids word = option_map Uuids (uuids word)
+value_of form.Order word = option_map Order (order word)
 value_of form.Ids word = option_map Tracks (ids word)
 value_of form.TrackFlag word = track_flag word
 value_of track_form word = track_and_rest word >>= (λ p. track_value track_form p.0 p.1)

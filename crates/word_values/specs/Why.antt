@@ -1,7 +1,7 @@
 -- The names of the reasons to refuse an argument, as messages print them. They are this project's.
 use Rattle.std.specs.Prelude.{ℕ, List, codes}
 use Rattle.word_values.specs.declared.usage.Why.{Why}
-use Rattle.word_values.specs.declared.usage.Why.TheVariants.{NoCommand, UnknownCommand, UnknownOption, MissingValue, BadValue, RepeatedOption, ExtraWord, NoOutput, NoInput, DanglingOption, AppendFirst, RepeatedOutput, TooManyInputs, NeedsUuids}
+use Rattle.word_values.specs.declared.usage.Why.TheVariants.{NoCommand, UnknownCommand, UnknownOption, MissingValue, BadValue, RepeatedOption, ExtraWord, NoOutput, NoInput, DanglingOption, AppendFirst, RepeatedOutput, TooManyInputs, NeedsUuids, NoSuchFile}
 
 -- the name of the reason why an argument is refused, as a message prints it. The contract of `Why::name` promises it.
 unfoldable pub why_name : Why → List ℕ
@@ -19,3 +19,4 @@ why_name AppendFirst = codes "AppendFirst"
 why_name RepeatedOutput = codes "RepeatedOutput"
 why_name TooManyInputs = codes "TooManyInputs"
 why_name NeedsUuids = codes "NeedsUuids"
+why_name NoSuchFile = codes "NoSuchFile"

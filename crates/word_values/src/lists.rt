@@ -84,6 +84,20 @@ impl Piece for SpanPiece {
     }
 }
 
+/// Form of an item that is a track of an input, `FILE:ID`
+struct PlacePiece;
+
+impl Piece for PlacePiece {
+    type Value = (u64, u64);
+
+    ghost spelled = { spec.place };
+
+    /// Reads the item `word`, a track of an input, `FILE:ID`, for `order`; None if it isn't one.
+    fn read(word: &[u8]) -> Option<(u64, u64)> {
+        place(word)
+    }
+}
+
 /// Reads the items of `word` that its commas separate, at least one, for each option whose value is a list. Fails with
 /// `Bad` if one of them doesn't have the form. Used by `numbers`, `times` and others.
 fn list_of<P: Piece>(alloc: Global, word: &[u8]) -> Result<List<P::Value>, ValueEnd>
@@ -128,6 +142,52 @@ pub(crate) fn ids(alloc: Global, word: &[u8]) -> Result<Select, ValueEnd>
             ids: numbers(alloc, word)?,
         }),
     }
+}
+
+/// Reads `word`, the value of `--track-order`: tracks with commas between them, at least one, each as the number of its
+/// input, `:` and its ID. All must differ, or it fails with `Bad`. `value_of` calls it.
+#[tactic(auto, unfolding(crate::specs::Lists::order))]
+pub(crate) fn order(alloc: Global, word: &[u8]) -> Result<List<(u64, u64)>, ValueEnd>
+    ensures { ReadsValue result (spec.order word.now) }
+{
+    let list = list_of::<PlacePiece>(alloc, word)?;
+    if pairs_differ(list.as_slice()) {
+        Ok(list)
+    } else {
+        Err(ValueEnd::Bad)
+    }
+}
+
+/// Reads `word`, an item of `--track-order`: the number of an input, `:` and a track ID. It is None for any other.
+#[tactic(auto, unfolding(crate::specs::Lists::place))]
+fn place(word: &[u8]) -> Option<(u64, u64)>
+    ensures { result ≡ spec.place word.now }
+{
+    let (file, id) = cut(word, b':')?;
+    let file = number(file)?;
+    let id = number(id)?;
+    Some((file, id))
+}
+
+/// Checks whether all of `pairs`, the tracks of `--track-order` with their inputs, are different. `order` calls it.
+fn pairs_differ(pairs: &[(u64, u64)]) -> bool
+    ensures { result ≡ spec.pairs_differ pairs.now }
+{
+    for (k, pair) in pairs.iter().enumerate() {
+        if has_pair(&pairs[k + 1..], *pair) {
+            return false;
+        }
+    }
+    true
+}
+
+/// Checks whether `pair`, a track with its input, is one of `pairs`, for `pairs_differ`.
+fn has_pair(pairs: &[(u64, u64)], pair: (u64, u64)) -> bool
+    ensures { result ≡ spec.has_pair pair pairs.now }
+{
+    pairs
+        .iter()
+        .any(|other| other.0 == pair.0 && other.1 == pair.1)
 }
 
 /// Reads `word`, times with commas between them, at least one, as nanoseconds, for `--split timestamps:`. Each must be

@@ -38,6 +38,8 @@ pub enum Why {
     TooManyInputs,
     /// Parts can't be linked without identifiers.
     NeedsUuids,
+    /// The order of tracks names a file that isn't there, or one that is appended to another.
+    NoSuchFile,
 }
 
 impl Why {
@@ -63,6 +65,7 @@ impl Why {
             Why::RepeatedOutput => "RepeatedOutput",
             Why::TooManyInputs => "TooManyInputs",
             Why::NeedsUuids => "NeedsUuids",
+            Why::NoSuchFile => "NoSuchFile",
         }
     }
 }

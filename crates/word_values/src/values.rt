@@ -6,7 +6,7 @@ ghost use Rattle.std.specs.List.{list_all};
 ghost use Rattle.word_values.specs.Answers.{ReadsValue};
 ghost use Rattle.word_values.specs.Values as spec;
 
-use crate::lists::{ids, split, uuids};
+use crate::lists::{ids, order, split, uuids};
 use crate::numbers::{cut_text, delay};
 use crate::usage::ValueEnd;
 use mkv_io::{List, Text};
@@ -32,6 +32,8 @@ pub enum ValueForm {
     Split,
     /// Segment identifiers of 32 hexadecimal digits.
     Uuids,
+    /// Tracks in their order, each as the number of its input, `:` and its ID.
+    Order,
     /// Track IDs, with `!` before them for all others.
     Ids,
     /// A track and milliseconds.
@@ -64,6 +66,8 @@ pub enum Value {
     Span(u64),
     Split(SplitWords),
     Uuids(List<u128>),
+    /// Tracks in their order, each with the index of its input, and its own in that input, both counted from 0.
+    Order(List<(u64, u64)>),
     Tracks(Select),
     /// A track, and its delay in nanoseconds.
     TrackDelay(u64, i64),
@@ -102,6 +106,7 @@ pub fn value_of(alloc: Global, form: ValueForm, word: &str) -> Result<Value, Val
         ValueForm::Length => cluster_length(word.as_bytes()).ok_or(ValueEnd::Bad),
         ValueForm::Split => Ok(Value::Split(split(alloc, word)?)),
         ValueForm::Uuids => Ok(Value::Uuids(uuids(alloc, word.as_bytes())?)),
+        ValueForm::Order => Ok(Value::Order(order(alloc, word.as_bytes())?)),
         ValueForm::Ids => Ok(Value::Tracks(ids(alloc, word.as_bytes())?)),
         ValueForm::TrackFlag => track_flag(word).ok_or(ValueEnd::Bad),
         ValueForm::TrackDelay
