@@ -28,45 +28,45 @@ use Rattle.merge_inputs.specs.Input.{InputRead, read_in, total_in}
 use Rattle.merge_inputs.specs.declared.input.Input.{Input}
 use Rattle.merge_plan.specs.Front.{attached_from, attachments_of, attached_length, files_in, reads_of}
 use Rattle.merge_plan.specs.Planned.{StandsInInput, IsToldInput, source_in}
-use Rattle.merge_plan.specs.Records.{anywhere, kept_anywhere, kept_in, records_from, records_in, uids_at, uids_behind}
+use Rattle.merge_plan.specs.Records.{LaneUids, anywhere, kept_anywhere, kept_in, owner_at, records_from, records_in, track_uids_at, uids_at}
 use Rattle.merge_plan.specs.TakenTracks.{HasRecords}
 
 -- the data of inputs, in their files
-abbrev pub records_at : List ℕ → List ℕ → List Input → List InputRecords
-records_at before left inputs = records_from before left (map kept_in inputs)
+abbrev pub records_at : LaneUids → ℕ → ℕ → List Input → List InputRecords
+records_at lanes before number inputs = records_from lanes before number (map kept_in inputs)
 
 -- the same, whichever file has the data of attached files
-abbrev anywhere_at : List ℕ → List ℕ → List Input → List InputRecords
-anywhere_at before left inputs = records_from before left (map kept_anywhere (map read_in inputs))
+abbrev anywhere_at : LaneUids → ℕ → ℕ → List Input → List InputRecords
+anywhere_at lanes before number inputs = records_from lanes before number (map kept_anywhere (map read_in inputs))
 
--- the TrackUIDs of an input's output tracks
-abbrev own_uids : List ℕ → List ℕ → Input → List ℕ
-own_uids before left i = uids_at before left (read_in i)
+-- the number of the input that begins an input's output tracks
+abbrev own_at : ℕ → ℕ → Input → ℕ
+own_at before number i = owner_at before number (read_in i)
 
-abbrev left_uids : List ℕ → Input → List ℕ
-left_uids left i = uids_behind left (read_in i)
+-- the data of one input
+abbrev record_at : LaneUids → ℕ → Input → InputRecords
+record_at lanes owner i = records_in (track_uids_at lanes owner (read_in i)) (uids_at lanes owner) (kept_in i)
 
 abbrev files_in_all : List Input → List Attachment
 files_in_all inputs = flat_map (λ (i : Input). i.attachments) inputs
 
 -- ---- FileUIDs
 
-files-at : (before left : List ℕ) (inputs : List Input) → files_of (records_at before left inputs) ≡ files_in_all inputs
-files-at before left [] = refl
-files-at before left (i ∷ is) = ap (λ l. i.attachments ++ l) (files-at (own_uids before left i) (left_uids left i) is)
+files-at : (lanes : LaneUids) (before number : ℕ) (inputs : List Input) → files_of (records_at lanes before number inputs) ≡ files_in_all inputs
+files-at lanes before number [] = refl
+files-at lanes before number (i ∷ is) = ap (λ l. i.attachments ++ l) (files-at lanes (own_at before number i) (number + 1) is)
 
 uids-anywhere : (files : List Attachment) → merged.file_uids (map anywhere (map in_file files)) ≡ merged.file_uids files
 uids-anywhere [] = refl
 uids-anywhere (a ∷ files) = ap (λ l. a.uid ∷ l) (uids-anywhere files)
 
-all-uids-anywhere : (before left : List ℕ) (inputs : List Input) → merged.file_uids (files_of (anywhere_at before left inputs)) ≡ merged.file_uids (files_of (records_at before left inputs))
-all-uids-anywhere before left [] = refl
-all-uids-anywhere before left (i ∷ is) =
-    let own : List ℕ = own_uids before left i in
-    let rest : List ℕ = left_uids left i in
-    map-append (λ (a : Attachment). a.uid) (map anywhere (map in_file i.attachments)) (files_of (anywhere_at own rest is))
-    ∙ ap₂ (λ a b. a ++ b) (uids-anywhere i.attachments) (all-uids-anywhere own rest is)
-    ∙ sym (map-append (λ (a : Attachment). a.uid) i.attachments (files_of (records_at own rest is)))
+all-uids-anywhere : (lanes : LaneUids) (before number : ℕ) (inputs : List Input) → merged.file_uids (files_of (anywhere_at lanes before number inputs)) ≡ merged.file_uids (files_of (records_at lanes before number inputs))
+all-uids-anywhere lanes before number [] = refl
+all-uids-anywhere lanes before number (i ∷ is) =
+    let own : ℕ = own_at before number i in
+    map-append (λ (a : Attachment). a.uid) (map anywhere (map in_file i.attachments)) (files_of (anywhere_at lanes own (number + 1) is))
+    ∙ ap₂ (λ a b. a ++ b) (uids-anywhere i.attachments) (all-uids-anywhere lanes own (number + 1) is)
+    ∙ sym (map-append (λ (a : Attachment). a.uid) i.attachments (files_of (records_at lanes own (number + 1) is)))
 
 -- The FileUIDs are the ones of the records.
 uids-shown : (files : List Attachment) → map (λ (a : AttachedFile). a.uid) (map in_file files) ≡ merged.file_uids files
@@ -107,9 +107,9 @@ data-all f (i ∷ is) told has =
     ∙ ap₂ (λ a b. a ++ b) (data-one f i (told 0 i (omega arith)) i.attachments (has 0 i (omega arith)).attachments) (data-all f is (λ k d inside. told (suc k) d (omega arith)) (λ k d inside. has (suc k) d (omega arith)))
 
 -- The attached files of an output are the attached files of its sources.
-pub attached-all : (f : LiveFiles) (before left : List ℕ) (inputs : List Input) → All (IsToldInput f) inputs → All HasRecords inputs → map (attached_file f) (merged_attachments (records_at before left inputs)) ≡ attachments_of (map (source_in f) inputs)
-attached-all f before left inputs told has =
-    ap (λ files. map (attached_file f) (with_uids (renumbered (merged.file_uids files)) files)) (files-at before left inputs)
+pub attached-all : (f : LiveFiles) (lanes : LaneUids) (before number : ℕ) (inputs : List Input) → All (IsToldInput f) inputs → All HasRecords inputs → map (attached_file f) (merged_attachments (records_at lanes before number inputs)) ≡ attachments_of (map (source_in f) inputs)
+attached-all f lanes before number inputs told has =
+    ap (λ files. map (attached_file f) (with_uids (renumbered (merged.file_uids files)) files)) (files-at lanes before number inputs)
     ∙ with-data f (renumbered (merged.file_uids (files_in_all inputs))) (files_in_all inputs)
     ∙ ap₂ (λ uids files. attached_from (renumbered uids) files) (sym (all-uids-read f inputs)) (data-all f inputs told has)
 
@@ -134,11 +134,11 @@ octets-read (i ∷ is) =
     ∙ ap₂ (λ m n. m + n) (octets-shown i.attachments) (octets-read is)
     ∙ sym (sum_by-cons (λ (j : InputRead). sum_by (λ (a : AttachedFile). a.len) j.attachments) (read_in i) (map read_in is))
 
-pub octets-all : (before left : List ℕ) (inputs : List Input) → sum_by (λ (a : Attachment). a.len) (merged_attachments (records_at before left inputs)) ≡ attached_length (map read_in inputs)
-octets-all before left inputs =
+pub octets-all : (lanes : LaneUids) (before number : ℕ) (inputs : List Input) → sum_by (λ (a : Attachment). a.len) (merged_attachments (records_at lanes before number inputs)) ≡ attached_length (map read_in inputs)
+octets-all lanes before number inputs =
     let files : List Attachment = files_in_all inputs in
     let uids : List ℕ = merged.file_uids files in
-    ap (λ list. sum_by (λ (a : Attachment). a.len) (with_uids (renumbered (merged.file_uids list)) list)) (files-at before left inputs)
+    ap (λ list. sum_by (λ (a : Attachment). a.len) (with_uids (renumbered (merged.file_uids list)) list)) (files-at lanes before number inputs)
     ∙ octets-uids (renumbered uids) files (length-from uids [] uids ∙ length-map files (λ (a : Attachment). a.uid))
     ∙ octets-read inputs
 
@@ -168,25 +168,26 @@ files-each inputs has = flat-each (λ (i : Input). i.attachments) (StandsInInput
     of k i inside is holds = λ j d below. record { number = k; input = i; inside = inside; is = is; same = (holds.attachments j d below).same; within = (holds.attachments j d below).inside }
 
 -- The data of each attached file are in the file of an input.
-pub files-are : (before left : List ℕ) (inputs : List Input) → All HasRecords inputs → All (StandsInInput inputs) (merged_attachments (records_at before left inputs))
-files-are before left inputs has =
+pub files-are : (lanes : LaneUids) (before number : ℕ) (inputs : List Input) → All HasRecords inputs → All (StandsInInput inputs) (merged_attachments (records_at lanes before number inputs))
+files-are lanes before number inputs has =
     let files : List Attachment = files_in_all inputs in
-    subst (λ (l : List Attachment). All (StandsInInput inputs) (with_uids (renumbered (merged.file_uids l)) l)) (sym (files-at before left inputs))
+    subst (λ (l : List Attachment). All (StandsInInput inputs) (with_uids (renumbered (merged.file_uids l)) l)) (sym (files-at lanes before number inputs))
     (each-uid (StandsInInput inputs) (λ uid a is. record { number = is.number; input = is.input; inside = is.inside; is = is.is; same = is.same; within = is.within }) (renumbered (merged.file_uids files)) files (files-each inputs has))
 
 -- ---- Chapters
 
-chapters-same : (before left : List ℕ) (inputs : List Input) → flat_map chapters_in (records_at before left inputs) ≡ flat_map chapters_in (anywhere_at before left inputs)
-chapters-same before left [] = refl
-chapters-same before left (i ∷ is) = ap (λ l. chapters_in (records_in (own_uids before left i) (kept_in i)) ++ l) (chapters-same (own_uids before left i) (left_uids left i) is)
+-- They are the same with any output tracks.
+chapters-same : (lanes others : LaneUids) (before number : ℕ) (inputs : List Input) → flat_map chapters_in (records_at lanes before number inputs) ≡ flat_map chapters_in (anywhere_at others before number inputs)
+chapters-same lanes others before number [] = refl
+chapters-same lanes others before number (i ∷ is) = ap (λ l. chapters_in (record_at lanes (own_at before number i) i) ++ l) (chapters-same lanes others (own_at before number i) (number + 1) is)
 
 -- a Chapters with these editions
 abbrev joined : List Node → Node
 joined editions = master CHAPTERS 0 (nodes_of editions)
 
-pub chapters-anywhere : (before left : List ℕ) (inputs : List Input) → merged_chapters (records_at before left inputs) ≡ merged_chapters (anywhere_at before left inputs)
-chapters-anywhere before left inputs =
-    ap (λ es. with_some (with_identifiers (renumbered (edition_uids (joined es))) (renumbered (chapter_uids (joined es))) (joined es))) (chapters-same before left inputs)
+pub chapters-anywhere : (lanes others : LaneUids) (before number : ℕ) (inputs : List Input) → merged_chapters (records_at lanes before number inputs) ≡ merged_chapters (anywhere_at others before number inputs)
+chapters-anywhere lanes others before number inputs =
+    ap (λ es. with_some (with_identifiers (renumbered (edition_uids (joined es))) (renumbered (chapter_uids (joined es))) (joined es))) (chapters-same lanes others before number inputs)
 
 -- ---- Tags
 
@@ -204,41 +205,40 @@ tags_with files i others editions chapters attachments =
     children_in (option_map (written_tags i.keep (numbers_with files i editions chapters attachments)) i.tags)
     ++ tags_from (behind (all_uids (uids_in edition_uids i.chapters) (uids_in chapter_uids i.chapters) files) (all_uids editions chapters attachments)) others
 
-tags-same : (before left : List ℕ) (inputs : List Input) (editions chapters attachments : List ℕ) → tags_from (all_uids editions chapters attachments) (records_at before left inputs) ≡ tags_from (all_uids editions chapters attachments) (anywhere_at before left inputs)
-tags-same before left [] editions chapters attachments = refl
-tags-same before left (i ∷ is) editions chapters attachments =
-    let uids : List ℕ = own_uids before left i in
-    let own : InputRecords = records_in uids (kept_in i) in
-    let rest : List ℕ = left_uids left i in
+tags-same : (lanes : LaneUids) (before number : ℕ) (inputs : List Input) (editions chapters attachments : List ℕ) → tags_from (all_uids editions chapters attachments) (records_at lanes before number inputs) ≡ tags_from (all_uids editions chapters attachments) (anywhere_at lanes before number inputs)
+tags-same lanes before number [] editions chapters attachments = refl
+tags-same lanes before number (i ∷ is) editions chapters attachments =
+    let owner : ℕ = own_at before number i in
+    let own : InputRecords = record_at lanes owner i in
     ap (λ l. tags_in own (all_uids editions chapters attachments) ++ l)
-    (tags-same uids rest is (drop (length (uids_in edition_uids i.chapters)) editions) (drop (length (uids_in chapter_uids i.chapters)) chapters) (drop (length (merged.file_uids i.attachments)) attachments))
-    ∙ ap (λ files. tags_with files own (anywhere_at uids rest is) editions chapters attachments) (sym (uids-anywhere i.attachments))
+    (tags-same lanes owner (number + 1) is (drop (length (uids_in edition_uids i.chapters)) editions) (drop (length (uids_in chapter_uids i.chapters)) chapters) (drop (length (merged.file_uids i.attachments)) attachments))
+    ∙ ap (λ files. tags_with files own (anywhere_at lanes owner (number + 1) is) editions chapters attachments) (sym (uids-anywhere i.attachments))
 
-pub numbers-same : (before left : List ℕ) (inputs : List Input) → numbers_of (records_at before left inputs) ≡ numbers_of (anywhere_at before left inputs)
-numbers-same before left inputs =
-    ap₂ (λ es files. all_uids (renumbered (edition_uids (joined es))) (renumbered (chapter_uids (joined es))) (renumbered files)) (chapters-same before left inputs) (sym (all-uids-anywhere before left inputs))
+pub numbers-same : (lanes : LaneUids) (before number : ℕ) (inputs : List Input) → numbers_of (records_at lanes before number inputs) ≡ numbers_of (anywhere_at lanes before number inputs)
+numbers-same lanes before number inputs =
+    ap₂ (λ es files. all_uids (renumbered (edition_uids (joined es))) (renumbered (chapter_uids (joined es))) (renumbered files)) (chapters-same lanes lanes before number inputs) (sym (all-uids-anywhere lanes before number inputs))
 
-pub tags-anywhere : (before left : List ℕ) (inputs : List Input) → merged_tags (records_at before left inputs) ≡ merged_tags (anywhere_at before left inputs)
-tags-anywhere before left inputs =
+pub tags-anywhere : (lanes : LaneUids) (before number : ℕ) (inputs : List Input) → merged_tags (records_at lanes before number inputs) ≡ merged_tags (anywhere_at lanes before number inputs)
+tags-anywhere lanes before number inputs =
     ap (λ list. with_some (master TAGS 0 (nodes_of list)))
-    (tags-same before left inputs (edition_numbers (records_at before left inputs)) (chapter_numbers (records_at before left inputs)) (merged.file_numbers (records_at before left inputs)))
-    ∙ ap (λ given. with_some (joined_tags given (anywhere_at before left inputs))) (numbers-same before left inputs)
+    (tags-same lanes before number inputs (edition_numbers (records_at lanes before number inputs)) (chapter_numbers (records_at lanes before number inputs)) (merged.file_numbers (records_at lanes before number inputs)))
+    ∙ ap (λ given. with_some (joined_tags given (anywhere_at lanes before number inputs))) (numbers-same lanes before number inputs)
 
 -- ---- one more input
 
-module _ (before left own after : List ℕ) (i : Input) (here : own ≡ uids_at before left (read_in i)) (behind_it : after ≡ uids_behind left (read_in i)) where
-  pub records-next : (inputs rest : List Input) (records new all : List InputRecords) (one : InputRecords) → inputs ≡ i ∷ rest → one ≡ records_in own (kept_in i) → new ≡ records ++ one ∷ []
-      → records ++ records_at before left inputs ≡ all → new ++ records_at own after rest ≡ all
-  records-next inputs rest records new all one next made put so_far =
-      ap₂ (λ l n. l ++ records_at own n rest) put behind_it
-      ∙ ap (λ u. (records ++ one ∷ []) ++ records_at u (left_uids left i) rest) here
-      ∙ append_assoc records (one ∷ []) (records_at (own_uids before left i) (left_uids left i) rest)
-      ∙ ap (λ r. records ++ r ∷ records_at (own_uids before left i) (left_uids left i) rest) (made ∙ ap (λ n. records_in n (kept_in i)) here)
-      ∙ ap (λ is. records ++ records_at before left is) (sym next)
-      ∙ so_far
+pub records-next : (lanes : LaneUids) (before number owner : ℕ) (i : Input) (own uids : List ℕ) (inputs rest : List Input) (records new all : List InputRecords) (one : InputRecords) → owner ≡ owner_at before number (read_in i)
+    → own ≡ track_uids_at lanes owner (read_in i) → uids ≡ uids_at lanes owner → inputs ≡ i ∷ rest → one ≡ records_in own uids (kept_in i) → new ≡ records ++ one ∷ []
+    → records ++ records_at lanes before number inputs ≡ all → new ++ records_at lanes owner (number + 1) rest ≡ all
+records-next lanes before number owner i own uids inputs rest records new all one owns tracks_are uids_are next made put so_far =
+    ap (λ l. l ++ records_at lanes owner (number + 1) rest) put
+    ∙ append_assoc records (one ∷ []) (records_at lanes owner (number + 1) rest)
+    ∙ ap (λ r. records ++ r ∷ records_at lanes owner (number + 1) rest) (made ∙ ap₂ (λ t u. records_in t u (kept_in i)) tracks_are uids_are)
+    ∙ ap (λ o. records ++ record_at lanes o i ∷ records_at lanes o (number + 1) rest) owns
+    ∙ ap (λ is. records ++ records_at lanes before number is) (sym next)
+    ∙ so_far
 
-pub records-none : (before left : List ℕ) (records all : List InputRecords) (inputs : List Input) → inputs ≡ [] → records ++ records_at before left inputs ≡ all → records ≡ all
-records-none before left records all inputs none so_far = sym (append-nil records) ∙ ap (λ is. records ++ records_at before left is) (sym none) ∙ so_far
+pub records-none : (lanes : LaneUids) (before number : ℕ) (records all : List InputRecords) (inputs : List Input) → inputs ≡ [] → records ++ records_at lanes before number inputs ≡ all → records ≡ all
+records-none lanes before number records all inputs none so_far = sym (append-nil records) ∙ ap (λ is. records ++ records_at lanes before number is) (sym none) ∙ so_far
 
 -- ---- the records of the inputs
 

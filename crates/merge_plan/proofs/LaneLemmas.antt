@@ -1,10 +1,9 @@
 -- Output tracks of selected tracks.
 use Rattle.std.proofs.Common.{◌≡◌, ◌<◌, ℕ, zero, suc, ◌+◌, Bool, true, false, if◌then◌else◌, List, [], ◌∷◌, ◌++◌, length, take, drop, map, get_or, Option, None, sym, ap, ap₂, subst, ◌∙◌, refl, arith, append-nil, append_assoc}
 use Rattle.std.specs.List.{All, AllZip, enumerate_from, range_with_len, slice_get, take_while}
-use Rattle.std.proofs.lemmas.List.FromFn.{map-range_with_len_more}
 use Rattle.std.specs.Option.{option_map, option_to_list}
 use Rattle.std.proofs.lemmas.Grind.{flat_map-append}
-use Rattle.std.proofs.lemmas.List.{get_or-map, length-append, length-map, map-append, map_push}
+use Rattle.std.proofs.lemmas.List.{get_or-map, length-map, map-append, map_push}
 use Rattle.std.proofs.lemmas.List.Elements.{All-drop, All-take}
 use Rattle.std.proofs.Math.ListN.{length-take}
 use Rattle.merge_model.specs.declared.link.Link.{Link}
@@ -17,7 +16,7 @@ use Rattle.remux_plan.specs.Parts.{drivers_of}
 use Rattle.remux_plan.specs.declared.plan.PlannedLane.{PlannedLane}
 use Rattle.merge_plan.specs.Chains.{at_place, columns_from}
 use Rattle.merge_plan.specs.Records.{tracks_begun}
-use Rattle.merge_plan.specs.TakenTracks.{AreDriven, GoesOn, HasTaken, IsLaneOf, IsLink, IsLinkAt, Spot, goes_on, spot, spots_at, spots_behind, spots_from, spots_in}
+use Rattle.merge_plan.specs.TakenTracks.{GoesOn, HasTaken, IsLaneOf, IsLink, IsLinkAt, Spot, driven_from, goes_on, spot, spots_at, spots_behind, spots_from, spots_in}
 use Rattle.merge_plan.proofs.ChainLemmas.{enumerate-push, while-enumerate}
 use Rattle.merge_plan.proofs.RecordLemmas.{begun-taken}
 use Rattle.merge_plan.proofs.ListLemmas.{drop-next, take-next}
@@ -66,7 +65,6 @@ stays b place number i old new none same =
       are = tt;
       inputs = ap (λ (l : PlannedLane). l.inputs) same ∙ sym (append-nil old.inputs);
       rule = ap (λ (l : PlannedLane). l.cues) same;
-      drives = ap (λ (l : PlannedLane). l.drives) same;
     })
 
 -- One more input continues the output track.
@@ -142,11 +140,17 @@ behind-taken inputs behind n all are = subst (All HasTaken) (sym are) (All-take 
 
 -- ---- drivers
 
-pub driven-more : (videos : List Bool) (lanes new : List PlannedLane) (lane : PlannedLane) → AreDriven videos lanes → lane.drives ≡ is_driver videos (length lanes) → new ≡ lanes ++ lane ∷ [] → AreDriven videos new
-driven-more videos lanes new lane so_far drives put =
-    let here : 0 + length lanes ≡ length lanes = omega arith in
-    let more : length new ≡ length lanes + 1 = ap (λ (ls : List PlannedLane). length ls) put ∙ simp length-append (omega arith) in
-    ap drivers_of put ∙ map_push (λ (l : PlannedLane). l.drives) lanes lane
-    ∙ ap₂ (λ (before : List Bool) (one : Bool). before ++ one ∷ []) so_far drives
-    ∙ sym (map-range_with_len_more (is_driver videos) 0 (length lanes) (length lanes) here)
-    ∙ ap (λ (n : ℕ). map (is_driver videos) (range_with_len 0 n)) (sym more)
+-- The statement whether keyframes allow a cut changes no other part of an output track.
+pub lanes-driven : (b : Bool) (videos : List Bool) (k : ℕ) (spots : List (List Spot)) (lanes : List PlannedLane) → AllZip (IsLaneOf b) spots lanes → AllZip (IsLaneOf b) spots (driven_from videos k lanes)
+lanes-driven b videos k [] [] are = tt
+lanes-driven b videos k [] (lane ∷ lanes) are = absurd are
+lanes-driven b videos k (spots ∷ rest) [] are = absurd are
+lanes-driven b videos k (spots ∷ rest) (lane ∷ lanes) are = (record { links = are.0.links; inputs = are.0.inputs; rule = are.0.rule }, lanes-driven b videos (k + 1) rest lanes are.1)
+
+pub driven-drives : (videos : List Bool) (k : ℕ) (lanes : List PlannedLane) → drivers_of (driven_from videos k lanes) ≡ map (is_driver videos) (range_with_len k (length lanes))
+driven-drives videos k [] = refl
+driven-drives videos k (lane ∷ lanes) = ap (λ l. is_driver videos k ∷ l) (driven-drives videos (k + 1) lanes)
+
+pub driven-length : (videos : List Bool) (k : ℕ) (lanes : List PlannedLane) → length (driven_from videos k lanes) ≡ length lanes
+driven-length videos k [] = refl
+driven-length videos k (lane ∷ lanes) = ap suc (driven-length videos (k + 1) lanes)

@@ -36,13 +36,17 @@ use Rattle.merge_inputs.specs.declared.input.Blocks.TheVariants as held_by
 use Rattle.merge_inputs.specs.declared.input.Input.{Input}
 use Rattle.merge_inputs.specs.declared.taken.TakenTrack.{TakenTrack}
 use Rattle.merge_plan.specs.Chains.{lanes_by}
-use Rattle.merge_plan.specs.Plan.{Source, drives_given, given_for, given_from, given_of, inputs_given, is_video, lanes_given, append_offset, numbers_of, placing_for, rule_of, rules_given}
+use Rattle.merge_plan.specs.Plan.{Source, drives_given, given_for, given_from, given_of, inputs_given, inputs_taken, is_video, lanes_given, lanes_ordered, append_offset, numbers_of, placing_for, rule_of, rules_given}
 use Rattle.merge_plan.specs.Planned.{IsLinked, IsSparedLink, IsToldInput, source_in}
-use Rattle.merge_plan.specs.Records.{is_appended, tracks_begun, tracks_taken}
+use Rattle.merge_plan.specs.Order.{in_order}
+use Rattle.merge_plan.specs.Records.{is_appended, keys_from, ordered, tracks_begun, tracks_ordered, tracks_taken}
 use Rattle.merge_plan.specs.Refusal.{lanes_refusal, plan_refusal, records_refusal}
 use Rattle.merge_plan.specs.declared.refusal.PlanRefusal.{PlanRefusal}
-use Rattle.merge_plan.specs.TakenTracks.{AreDriven, Spot, HasPlace, HasTaken, IsLaneOf, IsLink, IsLinkAt, IsLinkBy, IsLinkOf, IsShortText, IsTextOf, goes_on, rule_at, spot, spots_in, spots_from}
+use Rattle.merge_plan.specs.TakenTracks.{AreDriven, Spot, HasPlace, HasTaken, IsLaneOf, IsLink, IsLinkAt, IsLinkBy, IsLinkOf, IsShortText, IsTextOf, goes_on, rule_at, spot, spots_in, spots_from, spots_ordered}
 use Rattle.merge_plan.proofs.ChainLemmas.{begins, enumerate-all, enumerate-map, enumerate-sum, lanes-all, lanes-few, lanes-first, lanes-light, lanes-map, unnumbered}
+use Rattle.merge_plan.proofs.FileLemmas.{reads-in}
+use Rattle.merge_plan.proofs.OrderLemmas.{in_order-all, in_order-length, in_order-map}
+use Rattle.merge_plan.proofs.RecordLemmas.{keys-count, ordered-count}
 use Rattle.merge_plan.proofs.RefusalLemmas.{unrefused-few}
 
 -- ---- lists of related pairs
@@ -277,19 +281,30 @@ record KeepsLimits (i : Input) : Type 0 where
   pub place : HasPlace i
   pub has : HasTaken i
 
-module _ (b : Bool) (inputs : List Input) (lanes : List PlannedLane) (are : AllZip (IsLaneOf b) (spots_from 0 inputs) lanes) where
+module _ (b : Bool) (order : List (ℕ × ℕ)) (inputs : List Input) (lanes : List PlannedLane) (are : AllZip (IsLaneOf b) (spots_ordered order inputs) lanes) where
+  -- A fact of the output tracks of inputs holds for them in the order of the output.
+  ordered-all : (P : List Spot → Type 0) → All P (spots_from 0 inputs) → All P (spots_ordered order inputs)
+  ordered-all P each = in_order-all P order (keys_from 0 (map read_in inputs)) (spots_from 0 inputs) each
+
+  spots-count : length (spots_from 0 inputs) ≡ length (tracks_taken (map read_in inputs))
+  spots-count = sym (length-map (spots_from 0 inputs) rule_at) ∙ ap length (spots-rules 0 inputs) ∙ length-map (tracks_taken (map read_in inputs)) rule_of
+
   -- There is one output track for each track that begins one.
   pub lanes-length : length lanes ≡ length (tracks_taken (map read_in inputs))
   lanes-length =
-      let spots : List (List Spot) = spots_from 0 inputs in
-      zip-length (IsLaneOf b) spots lanes are ∙ sym (length-map spots rule_at) ∙ ap length (spots-rules 0 inputs) ∙ length-map (tracks_taken (map read_in inputs)) rule_of
+      zip-length (IsLaneOf b) (spots_ordered order inputs) lanes are
+      ∙ in_order-length order (keys_from 0 (map read_in inputs)) (spots_from 0 inputs) (keys-count 0 (map read_in inputs) ∙ sym spots-count)
+      ∙ spots-count
 
-  pub lanes-given : (f : LiveFiles) → map (map (given_in f)) (links_of lanes) ≡ map (map (going_on b)) (lanes_given (map (source_in f) inputs))
+  pub lanes-given : (f : LiveFiles) → map (map (given_in f)) (links_of lanes) ≡ map (map (going_on b)) (lanes_ordered order (map (source_in f) inputs))
   lanes-given f =
       maps lanes
-      ∙ zip-map (IsLaneOf b) (λ (l : PlannedLane). map (given_in f) l.spec.links) (map (λ (s : Spot). going_on b (given_at f s))) (lane-given b f) (spots_from 0 inputs) lanes are
-      ∙ each (spots_from 0 inputs)
-      ∙ ap (map (map (going_on b))) (spots-given f 0 inputs)
+      ∙ zip-map (IsLaneOf b) (λ (l : PlannedLane). map (given_in f) l.spec.links) (map (λ (s : Spot). going_on b (given_at f s))) (lane-given b f) (spots_ordered order inputs) lanes are
+      ∙ each (spots_ordered order inputs)
+      ∙ ap (map (map (going_on b)))
+      (in_order-map (map (given_at f)) order (keys_from 0 (map read_in inputs)) (spots_from 0 inputs)
+      ∙ ap (in_order order (keys_from 0 (map read_in inputs))) (spots-given f 0 inputs)
+      ∙ ap (λ (rs : List InputRead). ordered order rs (lanes_given (map (source_in f) inputs))) (sym (reads-in f inputs)))
     where
       maps : (ls : List PlannedLane) → map (map (given_in f)) (links_of ls) ≡ map (λ (l : PlannedLane). map (given_in f) l.spec.links) ls
       maps [] = refl
@@ -303,25 +318,33 @@ module _ (b : Bool) (inputs : List Input) (lanes : List PlannedLane) (are : AllZ
       each [] = refl
       each (spots ∷ rows) = ap₂ (λ gs rest. gs ∷ rest) (one spots) (each rows)
 
-  pub lanes-numbers : map (λ (l : PlannedLane). l.inputs) lanes ≡ inputs_given 0 (map read_in inputs)
-  lanes-numbers = zip-map (IsLaneOf b) (λ (l : PlannedLane). l.inputs) (map (λ (s : Spot). s.number)) (λ spots l is. is.inputs) (spots_from 0 inputs) lanes are ∙ spots-numbers 0 inputs
+  pub lanes-numbers : map (λ (l : PlannedLane). l.inputs) lanes ≡ inputs_taken order (map read_in inputs)
+  lanes-numbers =
+      zip-map (IsLaneOf b) (λ (l : PlannedLane). l.inputs) (map (λ (s : Spot). s.number)) (λ spots l is. is.inputs) (spots_ordered order inputs) lanes are
+      ∙ in_order-map (map (λ (s : Spot). s.number)) order (keys_from 0 (map read_in inputs)) (spots_from 0 inputs)
+      ∙ ap (in_order order (keys_from 0 (map read_in inputs))) (spots-numbers 0 inputs)
 
-  pub lanes-rules : rules_of lanes ≡ rules_given (map read_in inputs)
-  lanes-rules = zip-map (IsLaneOf b) (λ (l : PlannedLane). l.cues) rule_at (λ spots l is. is.rule) (spots_from 0 inputs) lanes are ∙ spots-rules 0 inputs
+  pub lanes-rules : rules_of lanes ≡ rules_given order (map read_in inputs)
+  lanes-rules =
+      zip-map (IsLaneOf b) (λ (l : PlannedLane). l.cues) rule_at (λ spots l is. is.rule) (spots_ordered order inputs) lanes are
+      ∙ in_order-map rule_at order (keys_from 0 (map read_in inputs)) (spots_from 0 inputs)
+      ∙ ap (in_order order (keys_from 0 (map read_in inputs))) (spots-rules 0 inputs)
+      ∙ sym (in_order-map rule_of order (keys_from 0 (map read_in inputs)) (tracks_taken (map read_in inputs)))
 
   -- The drivers are determined by the types of the tracks.
-  pub lanes-drives : (videos : List Bool) → AreDriven videos lanes → videos ≡ map is_video (tracks_taken (map read_in inputs)) → drivers_of lanes ≡ drives_given (map read_in inputs)
+  pub lanes-drives : (videos : List Bool) → AreDriven videos lanes → videos ≡ map is_video (tracks_ordered order (map read_in inputs)) → drivers_of lanes ≡ drives_given order (map read_in inputs)
   lanes-drives videos driven same =
+      let tracks : List TakenTrack = tracks_ordered order (map read_in inputs) in
       driven
-      ∙ ap (λ (n : ℕ). map (is_driver videos) (range_with_len 0 n)) (lanes-length ∙ sym (length-map (tracks_taken (map read_in inputs)) is_video))
-      ∙ ap (λ (vs : List Bool). map (is_driver vs) (range_with_len 0 (length (map is_video (tracks_taken (map read_in inputs)))))) same
+      ∙ ap (λ (n : ℕ). map (is_driver videos) (range_with_len 0 n)) (lanes-length ∙ sym (length-map tracks is_video ∙ ordered-count order (map read_in inputs)))
+      ∙ ap (λ (vs : List Bool). map (is_driver vs) (range_with_len 0 (length (map is_video tracks)))) same
 
   -- Each output track has few links, and the number of each link's input.
   pub lanes-linked : All (IsLinked inputs) lanes
   lanes-linked =
       let few : All (λ (spots : List Spot). length spots ≤ length inputs) (spots_from 0 inputs) =
       subst (λ (n : ℕ). All (λ (spots : List Spot). length spots ≤ n) (spots_from 0 inputs)) (length-enumerate_from 0 inputs) (lanes-few own_place spots_in (enumerate_from 0 inputs)) in
-      zip-all (IsLaneOf b) (λ (spots : List Spot). length spots ≤ length inputs) (IsLinked inputs) (λ spots l is_few is. lane-linked b inputs spots l is_few is) (spots_from 0 inputs) lanes few are
+      zip-all (IsLaneOf b) (λ (spots : List Spot). length spots ≤ length inputs) (IsLinked inputs) (λ spots l is_few is. lane-linked b inputs spots l is_few is) (spots_ordered order inputs) lanes (ordered-all (λ (spots : List Spot). length spots ≤ length inputs) few) are
 
   -- Each output track has the bytes of each file at most once.
   pub lanes-once : (f : LiveFiles) → All (λ (l : PlannedLane). files_length f l.spec.links ≤ sum_by (λ (i : Input). f.size i.file.n) inputs) lanes
@@ -332,14 +355,14 @@ module _ (b : Bool) (inputs : List Input) (lanes : List PlannedLane) (are : AllZ
       (lanes-light own_place spots_in (spot_length f) (λ (each : ℕ × Input). f.size each.1.file.n)
       (λ each. All-map (λ (s : Spot). spot_length f s ≤ f.size each.1.file.n) (spot each.0 each.1) each.1.taken (λ k d inside. omega arith)) (enumerate_from 0 inputs)) in
       zip-all (IsLaneOf b) (λ (spots : List Spot). sum_by (spot_length f) spots ≤ whole) (λ (l : PlannedLane). files_length f l.spec.links ≤ whole)
-      (λ spots l fits is. omega (arith, lane-length b f spots l.spec.links is.links)) (spots_from 0 inputs) lanes each are
+      (λ spots l fits is. omega (arith, lane-length b f spots l.spec.links is.links)) (spots_ordered order inputs) lanes (ordered-all (λ (spots : List Spot). sum_by (spot_length f) spots ≤ whole) each) are
 
   -- A property holds for each link if it follows from a property of each input.
   pub lanes-links : (C : Input → Type 0) (P : Link → Type 0) → ((i : Input) (t : TakenTrack) (link : Link) → C i → IsTaken t → IsLink b i t link → P link) → All C inputs → All HasTaken inputs → All (All P) (links_of lanes)
   lanes-links C P so each taken =
       All-map (All P) (λ (l : PlannedLane). l.spec.links) lanes
       (zip-all (IsLaneOf b) (All (Holds C)) (λ (l : PlannedLane). All P l.spec.links)
-      (λ spots l holds is. zip-all (IsLinkAt b) (Holds C) P (λ s link one at. so s.input s.track link one.input one.taken at) spots l.spec.links holds is.links) (spots_from 0 inputs) lanes (spots-hold C 0 inputs each taken) are)
+      (λ spots l holds is. zip-all (IsLinkAt b) (Holds C) P (λ s link one at. so s.input s.track link one.input one.taken at) spots l.spec.links holds is.links) (spots_ordered order inputs) lanes (ordered-all (All (Holds C)) (spots-hold C 0 inputs each taken)) are)
 
   module _ (taken : All HasTaken inputs) where
     pub links-small : All HasPlace inputs → All (All IsSmallLink) (links_of lanes)
@@ -360,7 +383,9 @@ module _ (b : Bool) (inputs : List Input) (lanes : List PlannedLane) (are : AllZ
 
 -- A plan that isn't refused has few output tracks.
 pub plan-few : (words : MergeWords) (reads : List InputRead) → plan_refusal words reads ≡ None → length (tracks_taken reads) ≤ MAX_LANES
-plan-few words reads none = unrefused-few words.webm (tracks_taken reads) (first-none (lanes_refusal words.webm (tracks_taken reads)) (records_refusal reads) none)
+plan-few words reads none =
+    let sorted : List TakenTrack = tracks_ordered words.order reads in
+    unrefused-few words.webm (tracks_taken reads) sorted (first-none (lanes_refusal words.webm (tracks_taken reads) sorted) (records_refusal words.order reads) none)
   where
     first-none : (o p : Option PlanRefusal) → option_or o p ≡ None → o ≡ None
     first-none None p none = refl

@@ -3,21 +3,22 @@ use Rattle.std.proofs.Common.{◌≡◌, ◌≤◌, ◌<◌, ℕ, zero, suc, ◌
 use Rattle.std.specs.List.{All}
 use Rattle.std.specs.Option.{IfSome}
 use Rattle.std.proofs.lemmas.Grind.{flat_map-append}
-use Rattle.std.proofs.lemmas.List.{length-map, take_all, drop_all}
+use Rattle.std.proofs.lemmas.List.{length-append, length-map, take_all, drop_all}
 use Rattle.std.proofs.lemmas.List.Elements.{All-append}
 use denote.Ref.{Bor}
 use Rattle.record_changes.proofs.GivenLemmas.{length-from}
 use Rattle.tree_format.specs.Node.{Node}
 use Rattle.ebml_tree.specs.Building.{IsRead}
 use Rattle.output_model.specs.Sound.{IsRecord}
-use Rattle.merge_inputs.specs.Input.{read_in}
+use Rattle.merge_inputs.specs.Input.{InputRead, read_in}
 use Rattle.merge_inputs.specs.Taken.{IsTaken}
 use Rattle.merge_inputs.specs.declared.input.Input.{Input}
 use Rattle.merge_inputs.specs.declared.taken.TakenTrack.{TakenTrack}
 use Rattle.merge_plan.specs.Lent.{lent}
-use Rattle.merge_plan.specs.Records.{entries_from, entry_of, first_title, is_appended, title_or, tracks_begun, tracks_taken, uids_of}
+use Rattle.merge_plan.specs.Records.{entries_from, entry_of, first_title, is_appended, key_of, keys_from, title_or, tracks_begun, tracks_ordered, tracks_taken, uid_of, uids_of}
 use Rattle.merge_plan.specs.TakenTracks.{HasTaken}
 use Rattle.merge_plan.proofs.ListLemmas.{take-next, drop-next, lent-next}
+use Rattle.merge_plan.proofs.OrderLemmas.{in_order-length}
 
 -- ---- titles
 
@@ -70,10 +71,30 @@ pub each-taken : (inputs : List Input) → All HasTaken inputs → All IsTaken (
 each-taken [] all = λ k d inside. absurd (omega arith)
 each-taken (i ∷ is) all = All-append IsTaken (begun_in i) (taken_in is) (begun-taken i (all 0 i (omega arith))) (each-taken is (λ k d inside. all (suc k) d (omega arith)))
 
+-- ---- their keys
+
+pub keys-count : (n : ℕ) (reads : List InputRead) → length (keys_from n reads) ≡ length (tracks_taken reads)
+keys-count n [] = refl
+keys-count n (i ∷ is) =
+    length-append (map (key_of n) (tracks_begun i)) (keys_from (n + 1) is)
+    ∙ ap₂ (λ a b. a + b) (length-map (tracks_begun i) (key_of n)) (keys-count (n + 1) is)
+    ∙ sym (length-append (tracks_begun i) (tracks_taken is))
+
+-- The order of the output has each track.
+pub ordered-count : (order : List (ℕ × ℕ)) (reads : List InputRead) → length (tracks_ordered order reads) ≡ length (tracks_taken reads)
+ordered-count order reads = in_order-length order (keys_from 0 reads) (tracks_taken reads) (keys-count 0 reads)
+
+-- the keys of the first inputs' tracks, which precede the ones of an input
+pub keys-next : (inputs : List Input) (k : ℕ) (i : Input) → k < length inputs → i ≡ get_or inputs k i → keys_from k (map read_in (drop k inputs)) ≡ map (key_of k) (begun_in i) ++ keys_from (k + 1) (map read_in (drop (k + 1) inputs))
+keys-next inputs k i inside is = ap (λ l. keys_from k (map read_in l)) (drop-next inputs k i inside is)
+
+pub keys-none : (inputs : List Input) (k : ℕ) → length inputs ≤ k → keys_from k (map read_in (drop k inputs)) ≡ []
+keys-none inputs k past = ap (λ l. keys_from k (map read_in l)) (drop_all k inputs past)
+
 -- ---- their entries
 
 pub length-uids : (taken : List TakenTrack) → length (uids_of taken) ≡ length taken
-length-uids taken = length-from (map (λ (t : TakenTrack). t.track.uid) taken) [] (map (λ (t : TakenTrack). t.track.uid) taken) ∙ length-map taken (λ (t : TakenTrack). t.track.uid)
+length-uids taken = length-from (map uid_of taken) [] (map uid_of taken) ∙ length-map taken uid_of
 
 -- Inside a list the default doesn't matter.
 get_or-same : (xs : List ℕ) (k d e : ℕ) → k < length xs → get_or xs k d ≡ get_or xs k e

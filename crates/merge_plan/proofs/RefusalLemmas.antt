@@ -7,7 +7,8 @@ use denote.Ref.{Bor}
 use Rattle.output_model.specs.declared.TheConstants.{MAX_LANES}
 use Rattle.merge_inputs.specs.declared.taken.TakenTrack.{TakenTrack}
 use Rattle.merge_plan.specs.Lent.{lent}
-use Rattle.merge_plan.specs.Refusal.{is_webm_track, lanes_refusal, not_webm, other_codec, too_many_lanes, where_so}
+use Rattle.merge_plan.specs.Refusal.{count_refusal, is_webm_track, lanes_refusal, not_webm, other_codec, too_many_lanes, where_so}
+use Rattle.merge_plan.specs.declared.refusal.PlanRefusal.{PlanRefusal}
 use Rattle.merge_plan.specs.declared.refusal.PlanRefusal.TheVariants.{NoLane, TooManyLanes}
 use Rattle.merge_plan.proofs.ListLemmas.{length-lent, lent-next}
 
@@ -32,24 +33,27 @@ codec-none refs k past = let long = length-lent refs in ap other_codec (drop_all
 
 -- ---- tracks as output tracks
 
-module _ (webm : Bool) (taken : List TakenTrack) where
-  pub refused-none : (length taken == 0) ≡ true → lanes_refusal webm taken ≡ Some NoLane
-  refused-none none = ap (λ b. option_or (where_so b NoLane) (option_or (too_many_lanes taken) (not_webm webm taken))) none
+module _ (taken : List TakenTrack) where
+  pub refused-none : (length taken == 0) ≡ true → count_refusal taken ≡ Some NoLane
+  refused-none none = ap (λ b. option_or (where_so b NoLane) (too_many_lanes taken)) none
 
   module _ (some : (length taken == 0) ≡ false) where
-    past-none : lanes_refusal webm taken ≡ option_or (too_many_lanes taken) (not_webm webm taken)
-    past-none = ap (λ b. option_or (where_so b NoLane) (option_or (too_many_lanes taken) (not_webm webm taken))) some
+    past-none : count_refusal taken ≡ too_many_lanes taken
+    past-none = ap (λ b. option_or (where_so b NoLane) (too_many_lanes taken)) some
 
-    pub refused-many : MAX_LANES < length taken → lanes_refusal webm taken ≡ Some TooManyLanes
+    pub refused-many : MAX_LANES < length taken → count_refusal taken ≡ Some TooManyLanes
     refused-many many =
         let is : nat_lt MAX_LANES (length taken) ≡ true = grind (arith, nat_tests) in
-        past-none ∙ ap (λ b. option_or (where_so b TooManyLanes) (not_webm webm taken)) is
+        past-none ∙ ap (λ b. where_so b TooManyLanes) is
 
 -- Without a refusal there are some output tracks, and not too many.
-pub unrefused-few : (webm : Bool) (taken : List TakenTrack) → lanes_refusal webm taken ≡ None → length taken ≤ MAX_LANES
-unrefused-few webm taken none = of (length taken == 0) refl (nat_lt MAX_LANES (length taken)) refl
+pub unrefused-few : (webm : Bool) (taken sorted : List TakenTrack) → lanes_refusal webm taken sorted ≡ None → length taken ≤ MAX_LANES
+unrefused-few webm taken sorted none = of (length taken == 0) refl (nat_lt MAX_LANES (length taken)) refl
   where
+    refused : (why : PlanRefusal) → count_refusal taken ≡ Some why → ⊥
+    refused why is = let never = sym (ap (λ o. option_or o (not_webm webm sorted)) is) ∙ none in absurd (cc)
+
     of : (b : Bool) → (length taken == 0) ≡ b → (m : Bool) → nat_lt MAX_LANES (length taken) ≡ m → length taken ≤ MAX_LANES
-    of true is m many = let never = sym (refused-none webm taken is) ∙ none in absurd (cc)
-    of false is true many = let never = sym (refused-many webm taken is (grind (arith, nat_tests))) ∙ none in absurd (cc)
+    of true is m many = absurd (refused NoLane (refused-none taken is))
+    of false is true many = absurd (refused TooManyLanes (refused-many taken is (grind (arith, nat_tests))))
     of false is false many = grind (arith, nat_tests)

@@ -1,5 +1,5 @@
 -- The timestamps of a track among the timestamp files of an input.
-use Rattle.std.proofs.Common.{◌≡◌, ◌<◌, ℕ, ◌+◌, Bool, false, if◌then◌else◌, List, [], ◌∷◌, length, drop, get_or, Some, sym, ◌∙◌, ap, ap₂, add-one, drop-cons, ne_eqb}
+use Rattle.std.proofs.Common.{◌≡◌, ◌<◌, ℕ, ◌+◌, Bool, false, if◌then◌else◌, List, ◌∷◌, length, drop, get_or, Some, sym, ◌∙◌, ap, ap₂, add-one, drop-cons, ne_eqb}
 use Rattle.std.specs.Prelude.{◌==◌}
 use Rattle.merge_inputs.specs.Input.{listings_in}
 use Rattle.merge_inputs.specs.Taken.{value_for}

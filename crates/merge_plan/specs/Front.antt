@@ -58,6 +58,6 @@ front_of words sources = record {
   webm = words.webm;
   lasting = lasting_if words.duration;
   info = info_of words (reads_of sources);
-  tracks = tracks_of_output (reads_of sources);
+  tracks = tracks_of_output words.order (reads_of sources);
   attachments = attachments_of sources;
 }

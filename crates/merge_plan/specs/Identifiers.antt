@@ -5,7 +5,7 @@ use Rattle.std.specs.List.{All}
 use Rattle.output_records.specs.Attachments.{file_numbers}
 use Rattle.output_records.specs.Chapters.{chapter_numbers, edition_numbers}
 use Rattle.merge_inputs.specs.Input.{InputRead}
-use Rattle.merge_plan.specs.Records.{records_of, tracks_taken, uids_of}
+use Rattle.merge_plan.specs.Records.{records_of, tracks_ordered, uids_of}
 
 -- The identifiers in an output: TrackUIDs, EditionUIDs, ChapterUIDs and FileUIDs, each in the order of the Elements. Used for the Targets of Tags.
 -- Used by `identifiers_of`, `Have64Bits` and others.
@@ -15,14 +15,14 @@ pub record Identifiers : Type 0 where
   pub chapters : List ℕ
   pub files : List ℕ
 
--- the identifiers in the output of a merge of the inputs `reads`, after the ones that occur again were changed. `CanBeWritten` and the laws on a
--- repeated merge use them.
-abbrev pub identifiers_of : List InputRead → Identifiers
-identifiers_of reads = record {
-  tracks = uids_of (tracks_taken reads);
-  editions = edition_numbers (records_of reads);
-  chapters = chapter_numbers (records_of reads);
-  files = file_numbers (records_of reads);
+-- the identifiers in the output of a merge of the inputs `reads`, after the ones that occur again were changed. `order` gives the order of the output
+-- tracks. `CanBeWritten` and the laws on a repeated merge use them.
+abbrev pub identifiers_of : List (ℕ × ℕ) → List InputRead → Identifiers
+identifiers_of order reads = record {
+  tracks = uids_of (tracks_ordered order reads);
+  editions = edition_numbers (records_of order reads);
+  chapters = chapter_numbers (records_of order reads);
+  files = file_numbers (records_of order reads);
 }
 
 -- Each identifier in `ids` is below 2^64, and so can be stored. A condition of the plan that `merge` carries out, and of the laws on a repeated

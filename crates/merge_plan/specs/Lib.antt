@@ -1,5 +1,6 @@
 pub mod Lent
 pub mod Chains
+pub mod Order
 pub mod Appending
 pub mod Records
 pub mod Identifiers

@@ -23,7 +23,7 @@ use Rattle.merge_inputs.specs.Input.{BlocksRead, Clusters, Entries, InputRead, e
 use Rattle.merge_inputs.specs.Taken.{value_for}
 use Rattle.merge_inputs.specs.declared.taken.TakenTrack.{TakenTrack}
 use Rattle.merge_plan.specs.Chains.{lanes_by}
-use Rattle.merge_plan.specs.Records.{chapters_of, is_appended, tracks_taken}
+use Rattle.merge_plan.specs.Records.{chapters_of, is_appended, ordered, tracks_ordered}
 
 -- ---- the output tracks, one for each track that begins one
 
@@ -57,23 +57,33 @@ abbrev pub given_of : Source → List Given
 given_of s = map (given_from s.1.times (append_offset s.1) s.1.blocks s.0) s.1.taken
 
 -- the links of each output track of a merge of `sources`, each as the blocks of a track. A track of a source that isn't appended begins an output
--- track. The tracks at its index in the sources that are appended to that source continue it. `lanes_taken` uses them.
+-- track. The tracks at its index in the sources that are appended to that source continue it. The output tracks are in the order of the tracks that
+-- begin them, source after source. `lanes_taken` puts them in the order of the output.
 abbrev pub lanes_given : List Source → List (List Given)
 lanes_given sources = lanes_by (λ (s : Source). is_appended s.1) given_of sources
 
--- the links of each output track of the merge `words` of `sources`. With `--append-damaged`, damage in one doesn't end the reading of the links after
--- it. The plan of a merge has the same.
+-- the links of each output track of a merge of `sources`, in the order of the output, which `order` gives. `lanes_taken` uses them.
+abbrev pub lanes_ordered : List (ℕ × ℕ) → List Source → List (List Given)
+lanes_ordered order sources = ordered order (map (λ (s : Source). s.1) sources) (lanes_given sources)
+
+-- the links of each output track of the merge `words` of `sources`, in the order of the output. With `--append-damaged`, damage in one doesn't end the
+-- reading of the links after it. The plan of a merge has the same.
 abbrev pub lanes_taken : MergeWords → List Source → List (List Given)
-lanes_taken words sources = map (map (going_on words.append_damaged)) (lanes_given sources)
+lanes_taken words sources = map (map (going_on words.append_damaged)) (lanes_ordered words.order sources)
 
 -- the number of an input, which is given with it, once for each of its selected tracks. `inputs_given` uses it.
 abbrev pub numbers_of : ℕ × InputRead → List ℕ
 numbers_of each = map (λ _. each.0) each.1.taken
 
--- for each output track the numbers of its links' inputs, counted from 0; the first input of the list has the number `input`. Messages on damage name
--- inputs by them. Used by `IsPlanOf` and others.
+-- for each output track the numbers of its links' inputs, counted from 0; the first of the inputs `reads` has the number `input`. The output tracks are
+-- in the order of the tracks that begin them, input after input. `inputs_taken` puts them in the order of the output.
 abbrev pub inputs_given : ℕ → List InputRead → List (List ℕ)
 inputs_given input reads = lanes_by (λ (each : ℕ × InputRead). is_appended each.1) numbers_of (enumerate_from input reads)
+
+-- for each output track of a merge of the inputs `reads` the numbers of its links' inputs, counted from 0, in the order of the output, which `order`
+-- gives. Messages on damage name inputs by them. Used by `IsPlanOf` and others.
+abbrev pub inputs_taken : List (ℕ × ℕ) → List InputRead → List (List ℕ)
+inputs_taken order reads = ordered order reads (inputs_given 0 reads)
 
 -- ---- Clusters and cue points
 
@@ -97,9 +107,10 @@ rule_for None type = default_rule type
 abbrev pub rule_of : TakenTrack → CueRule
 rule_of t = rule_for t.cues t.track.kind
 
--- the rules for cue points of all output tracks of a merge of the inputs `reads`, in their order. They are a part of the plan.
-abbrev pub rules_given : List InputRead → List CueRule
-rules_given reads = map rule_of (tracks_taken reads)
+-- the rules for cue points of all output tracks of a merge of the inputs `reads`, in the order of the output, which `order` gives. They are a part of
+-- the plan.
+abbrev pub rules_given : List (ℕ × ℕ) → List InputRead → List CueRule
+rules_given order reads = map rule_of (tracks_ordered order reads)
 
 -- ---- the split of the output
 
@@ -111,9 +122,10 @@ is_video t = t.track.kind == VIDEO_TRACK
 abbrev pub drivers_by : List Bool → List Bool
 drivers_by videos = map (is_driver videos) (range_with_len 0 (length videos))
 
--- for each output track of a merge of the inputs `reads`, whether its keyframes allow a cut. It is a part of the plan.
-abbrev pub drives_given : List InputRead → List Bool
-drives_given reads = drivers_by (map is_video (tracks_taken reads))
+-- for each output track of a merge of the inputs `reads`, whether its keyframes allow a cut. `order` gives the order of the output tracks, of which the
+-- first video track decides. It is a part of the plan.
+abbrev pub drives_given : List (ℕ × ℕ) → List InputRead → List Bool
+drives_given order reads = drivers_by (map is_video (tracks_ordered order reads))
 
 -- the starts of the top-level chapters in `chapters`, the output's Chapters, in nanoseconds, for cuts at chapters; none if there are no Chapters.
 -- `split_given` uses them.

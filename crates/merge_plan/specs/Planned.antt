@@ -27,7 +27,7 @@ use Rattle.merge_plan.specs.declared.outputs.OutputRecords.{OutputRecords}
 use Rattle.merge_plan.specs.Records.{chapters_of, tags_of, tracks_of_output}
 use Rattle.merge_plan.specs.Identifiers.{Have64Bits, identifiers_of}
 use Rattle.merge_plan.specs.Front.{attachments_of, attached_length, front_of}
-use Rattle.merge_plan.specs.Plan.{Source, drives_given, inputs_given, lanes_taken, limits_of, rules_given, split_given}
+use Rattle.merge_plan.specs.Plan.{Source, drives_given, inputs_taken, lanes_taken, limits_of, rules_given, split_given}
 use Rattle.merge_plan.specs.Refusal.{plan_refusal}
 
 -- the source of the opened input `i`: its content among the live files `f`, and its data before the blocks. Contracts of the plan use it. Used by
@@ -42,14 +42,14 @@ IsToldInput f i = f.content i.file.n ≡ Some (octets_in f i.file.n)
 
 -- ---- the records of an output
 
--- The records `r` are the output's for `inputs`. If the contents of files are visible to the proof, its attached files have their data. The data have
--- the lengths that the inputs give. Used by the contract of `output_of`.
-pub record AreRecordsOf (inputs : List Input) (r : OutputRecords) : Type 0 where
-  pub tracks : r.tracks ≡ tracks_of_output (map read_in inputs)
+-- The records `r` are the output's for `inputs`. `order` gives the order of the output tracks. If the contents of files are visible to the proof, its
+-- attached files have their data. The data have the lengths that the inputs give. Used by the contract of `output_of`.
+pub record AreRecordsOf (order : List (ℕ × ℕ)) (inputs : List Input) (r : OutputRecords) : Type 0 where
+  pub tracks : r.tracks ≡ tracks_of_output order (map read_in inputs)
   pub attachments : (f : LiveFiles) → All (IsToldInput f) inputs → map (attached_file f) r.attachments ≡ attachments_of (map (source_in f) inputs)
   pub octets : sum_by (λ (a : Attachment). a.len) r.attachments ≡ attached_length (map read_in inputs)
   pub chapters : r.chapters ≡ chapters_of (map read_in inputs)
-  pub tags : r.tags ≡ tags_of (map read_in inputs)
+  pub tags : r.tags ≡ tags_of order (map read_in inputs)
 
 -- The data of the attached file `a` are in the file of one of `inputs`. A condition for `merge` to copy them.
 pub record StandsInInput (inputs : List Input) (a : Attachment) : Type 0 where
@@ -60,19 +60,20 @@ pub record StandsInInput (inputs : List Input) (a : Attachment) : Type 0 where
   pub same : a.file ≡ input.file
   pub within : a.at + a.len ≤ total_in input.blocks
 
--- The records `r` of the output for `inputs` can be written and read again, and its identifiers have 64 bits. Used by the contract of `output_of`.
-pub record AreSound (inputs : List Input) (r : OutputRecords) : Type 0 where
+-- The records `r` of the output for `inputs` can be written and read again, and its identifiers have 64 bits. `order` gives the order of the output
+-- tracks. Used by the contract of `output_of`.
+pub record AreSound (order : List (ℕ × ℕ)) (inputs : List Input) (r : OutputRecords) : Type 0 where
   pub tracks : IsRecord TRACKS r.tracks
   pub attachments : All IsAttached r.attachments
   pub files : All (StandsInInput inputs) r.attachments
   pub chapters : IfSome r.chapters (IsRecord CHAPTERS)
   pub tags : IfSome r.tags (IsRecord TAGS)
-  pub numbers : Have64Bits (identifiers_of (map read_in inputs))
+  pub numbers : Have64Bits (identifiers_of order (map read_in inputs))
 
 -- The result of planning the records of the output: the records for `inputs`, which `words` doesn't refuse, or the refusal. Memory may run out. Used
 -- by the contract of `records_for`.
 abbrev pub GivesRecords : MergeWords → List Input → Result OutputRecords PlanEnd → Type 0
-GivesRecords words inputs (Ok r) = (plan_refusal words (map read_in inputs) ≡ None) × AreRecordsOf inputs r
+GivesRecords words inputs (Ok r) = (plan_refusal words (map read_in inputs) ≡ None) × AreRecordsOf words.order inputs r
 GivesRecords words inputs (Err (Refused why)) = plan_refusal words (map read_in inputs) ≡ Some why
 GivesRecords words inputs (Err Memory) = ⊤
 
@@ -93,11 +94,11 @@ pub record IsPlanOf (words : MergeWords) (inputs : List Input) (p : MergePlan) :
   pub duration : p.front.duration ≡ words.duration
   pub octets : sum_by (λ (a : Attachment). a.len) p.front.attachments ≡ attached_length (map read_in inputs)
   pub chapters : p.chapters ≡ chapters_of (map read_in inputs)
-  pub tags : p.tags ≡ tags_of (map read_in inputs)
+  pub tags : p.tags ≡ tags_of words.order (map read_in inputs)
   pub lanes : (f : LiveFiles) → map (map (given_in f)) (links_of p.lanes) ≡ lanes_taken words (map (source_in f) inputs)
-  pub numbers : map (λ (l : PlannedLane). l.inputs) p.lanes ≡ inputs_given 0 (map read_in inputs)
-  pub rules : rules_of p.lanes ≡ rules_given (map read_in inputs)
-  pub drives : drivers_of p.lanes ≡ drives_given (map read_in inputs)
+  pub numbers : map (λ (l : PlannedLane). l.inputs) p.lanes ≡ inputs_taken words.order (map read_in inputs)
+  pub rules : rules_of p.lanes ≡ rules_given words.order (map read_in inputs)
+  pub drives : drivers_of p.lanes ≡ drives_given words.order (map read_in inputs)
 
 -- The result of planning the merge `words`: the plan for `inputs`, which aren't refused, or the refusal. Memory may run out. Used by the contract of
 -- `plan_of`.
@@ -124,8 +125,8 @@ pub record IsLinked (inputs : List Input) (l : PlannedLane) : Type 0 where
 
 -- The plan `p` for `inputs` can be carried out. It has at most 64 output tracks, each with at most one link for each input. Each link reads the file
 -- of an input and is within its limits. The records of the output can be read again, and the data of attached files are in the inputs. Its
--- identifiers have 64 bits. Used by the contract of `plan_of`.
-pub record CanBeWritten (inputs : List Input) (p : MergePlan) : Type 0 where
+-- identifiers have 64 bits; `order` gives the order of its tracks. Used by the contract of `plan_of`.
+pub record CanBeWritten (order : List (ℕ × ℕ)) (inputs : List Input) (p : MergePlan) : Type 0 where
   pub few : length p.lanes ≤ MAX_LANES
   pub linked : All (IsLinked inputs) p.lanes
   pub once : (f : LiveFiles) → All (λ (l : PlannedLane). files_length f l.spec.links ≤ sum_by (λ (i : Input). f.size i.file.n) inputs) p.lanes
@@ -139,4 +140,4 @@ pub record CanBeWritten (inputs : List Input) (p : MergePlan) : Type 0 where
   pub files : All (StandsInInput inputs) p.front.attachments
   pub chapters : IfSome p.chapters (IsRecord CHAPTERS)
   pub tags : IfSome p.tags (IsRecord TAGS)
-  pub numbers : Have64Bits (identifiers_of (map read_in inputs))
+  pub numbers : Have64Bits (identifiers_of order (map read_in inputs))

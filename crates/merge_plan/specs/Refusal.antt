@@ -8,7 +8,7 @@ use Rattle.merge_inputs.specs.Input.{InputRead}
 use Rattle.merge_inputs.specs.declared.taken.TakenTrack.{TakenTrack}
 use Rattle.merge_plan.specs.declared.refusal.PlanRefusal.{PlanRefusal}
 use Rattle.merge_plan.specs.declared.refusal.PlanRefusal.TheVariants.{NoLane, TooManyLanes, NotWebm, HeaderTooLarge}
-use Rattle.merge_plan.specs.Records.{chapters_of, tags_of, tracks_of_output, tracks_taken}
+use Rattle.merge_plan.specs.Records.{chapters_of, tags_of, tracks_of_output, tracks_ordered, tracks_taken}
 use Rattle.merge_plan.specs.Webm.{is_webm_codec}
 
 -- Some `x`, if the first argument is true; otherwise None. `no_lane` and `too_many_lanes` use it.
@@ -38,16 +38,20 @@ other_codec taken = option_map (λ (t : TakenTrack). t.track.codec) (find (λ (t
 abbrev pub not_webm : Bool → List TakenTrack → Option PlanRefusal
 not_webm webm taken = if webm then option_map NotWebm (other_codec taken) else None
 
--- the refusal because of the tracks `taken` that begin output tracks, or None: none, too many, or a track that WebM doesn't allow. `webm` is true if
--- the output is WebM. A part of `plan_refusal`.
-abbrev pub lanes_refusal : Bool → List TakenTrack → Option PlanRefusal
-lanes_refusal webm taken = option_or (no_lane taken) (option_or (too_many_lanes taken) (not_webm webm taken))
+-- the refusal because of the number of the tracks `taken` that begin output tracks, or None: none, or too many. A part of `lanes_refusal`.
+abbrev pub count_refusal : List TakenTrack → Option PlanRefusal
+count_refusal taken = option_or (no_lane taken) (too_many_lanes taken)
+
+-- the refusal because of the tracks `taken` that begin output tracks, or None: none, too many, or a track that WebM doesn't allow. `sorted` has them in
+-- the order of the output, and `webm` is true if the output is WebM. A part of `plan_refusal`.
+abbrev pub lanes_refusal : Bool → List TakenTrack → List TakenTrack → Option PlanRefusal
+lanes_refusal webm taken sorted = option_or (count_refusal taken) (not_webm webm sorted)
 
 -- the refusal of a merge of the inputs `reads` if the Tracks, Chapters or Tags of the output would be too large to be read again, or None; the first
--- of them is named. A part of `plan_refusal`.
-abbrev pub records_refusal : List InputRead → Option PlanRefusal
-records_refusal reads = option_map HeaderTooLarge (first_too_large (tracks_of_output reads) (chapters_of reads) (tags_of reads))
+-- of them is named. `order` gives the order of the output tracks. A part of `plan_refusal`.
+abbrev pub records_refusal : List (ℕ × ℕ) → List InputRead → Option PlanRefusal
+records_refusal order reads = option_map HeaderTooLarge (first_too_large (tracks_of_output order reads) (chapters_of reads) (tags_of order reads))
 
 -- the refusal of the merge `words` of the inputs `reads`, in the order of the checks, or None. `Plans`, in the contract of `plan_of`, uses it.
 abbrev pub plan_refusal : MergeWords → List InputRead → Option PlanRefusal
-plan_refusal words reads = option_or (lanes_refusal words.webm (tracks_taken reads)) (records_refusal reads)
+plan_refusal words reads = option_or (lanes_refusal words.webm (tracks_taken reads) (tracks_ordered words.order reads)) (records_refusal words.order reads)

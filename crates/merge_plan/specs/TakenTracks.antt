@@ -1,5 +1,5 @@
 -- The sources of an output track's blocks, and of the attached files of an output. The rule is this project's.
-use Rattle.std.specs.Prelude.{◌≡◌, ◌≤◌, ⊤, ℕ, Bool, false, List, [], ◌∷◌, ◌++◌, length, map, slice_get, IfSome, Option}
+use Rattle.std.specs.Prelude.{◌≡◌, ◌≤◌, ⊤, ℕ, ◌+◌, Bool, false, List, [], ◌∷◌, ◌++◌, length, map, slice_get, IfSome, Option}
 use Rattle.std.specs.List.{All, AllZip, enumerate_from, range_with_len}
 use Rattle.std.specs.Option.{option_to_list}
 use Rattle.mkv_schema.specs.declared.ids.TheConstants.{CHAPTERS, TAGS}
@@ -30,7 +30,7 @@ use Rattle.merge_inputs.specs.declared.taken.TakenTrack.{TakenTrack}
 use Rattle.merge_inputs.specs.Input.{read_in, total_in}
 use Rattle.merge_plan.specs.Chains.{at_place, lanes_by}
 use Rattle.merge_plan.specs.Plan.{append_offset, rule_of}
-use Rattle.merge_plan.specs.Records.{is_appended}
+use Rattle.merge_plan.specs.Records.{is_appended, ordered}
 use Rattle.ext_times.specs.Listing.{Listing}
 
 -- a selected track, its opened input, and the input's number, counted from 0. A list of spots is what an output track consists of. Used by `spot`,
@@ -126,7 +126,6 @@ pub record GoesOn (b : Bool) (spots : List Spot) (old new : PlannedLane) : Type 
   pub are : AllZip (IsLinkAt b) spots more
   pub inputs : new.inputs ≡ old.inputs ++ map (λ (s : Spot). s.number) spots
   pub rule : new.cues ≡ old.cues
-  pub drives : new.drives ≡ old.drives
 
 -- The output track `l` consists of the selected tracks `spots`, in sequence. If `b`, damage in them doesn't end it. Used by the contract of
 -- `lane_of`.
@@ -135,12 +134,29 @@ pub record IsLaneOf (b : Bool) (spots : List Spot) (l : PlannedLane) : Type 0 wh
   pub inputs : l.inputs ≡ map (λ (s : Spot). s.number) spots
   pub rule : l.cues ≡ rule_at spots
 
--- The planned output tracks `lanes` consist of the selected tracks of `inputs`. If `b`, damage doesn't end them. Used by the contract of `lanes_of`.
+-- The planned output tracks `lanes` consist of the selected tracks of `inputs`, in the order of the tracks that begin them. If `b`, damage doesn't end
+-- them. Used by the contract of `lanes_of`.
 abbrev pub AreLanesOf : Bool → List Input → List PlannedLane → Type 0
 AreLanesOf b inputs lanes = AllZip (IsLaneOf b) (spots_from 0 inputs) lanes
 
+-- for each output track of a merge of `inputs` the selected tracks that it consists of, in the order of the output, which `order` gives.
+-- `AreOutputLanes` uses them.
+abbrev pub spots_ordered : List (ℕ × ℕ) → List Input → List (List Spot)
+spots_ordered order inputs = ordered order (map read_in inputs) (spots_from 0 inputs)
+
+-- The planned output tracks `lanes` consist of the selected tracks of `inputs`, in the order of the output, which `order` gives. If `b`, damage doesn't
+-- end them. Used by the contract of `output_lanes`.
+abbrev pub AreOutputLanes : Bool → List (ℕ × ℕ) → List Input → List PlannedLane → Type 0
+AreOutputLanes b order inputs lanes = AllZip (IsLaneOf b) (spots_ordered order inputs) lanes
+
+-- the output tracks in a list, each with the statement whether its keyframes allow a cut. `videos` has for each output track whether it is a video
+-- track; the first of the list is number `k` among them, counted from 0. The contract of `driven` uses them.
+abbrev pub driven_from : List Bool → ℕ → List PlannedLane → List PlannedLane
+driven_from videos k [] = []
+driven_from videos k (lane ∷ lanes) = record lane { drives = is_driver videos k } ∷ driven_from videos (k + 1) lanes
+
 -- Each of the output tracks `lanes` states whether its keyframes allow a cut; `videos` has for each whether it is a video track. Used by the contract
--- of `lanes_of`.
+-- of `output_lanes`.
 abbrev pub AreDriven : List Bool → List PlannedLane → Type 0
 AreDriven videos lanes = drivers_of lanes ≡ map (is_driver videos) (range_with_len 0 (length lanes))
 

@@ -5,9 +5,10 @@ ghost use Rattle.std.specs.List.{All};
 ghost use Rattle.track_records.specs.Entry.{IsWholeEntry};
 ghost use Rattle.merge_inputs.specs.Input.{read_in};
 ghost use Rattle.merge_inputs.specs.Taken.{IsTaken};
-ghost use Rattle.merge_plan.specs.Records.{entries_of, entry_of, tracks_begun, tracks_taken, uids_of};
+ghost use Rattle.merge_plan.specs.Records.{entries_of, entry_of, keys_from, tracks_begun, tracks_ordered, tracks_taken, uids_of};
 ghost use Rattle.merge_plan.specs.Lent.{lent};
 
+use crate::order::in_order;
 use ebml_tree::Tree;
 use merge_inputs::{Input, TakenTrack};
 use mkv_io::List;
@@ -27,8 +28,8 @@ pub(crate) fn tracks_begun(input: &Input) -> &[TakenTrack]
     }
 }
 
-/// Returns the tracks of `inputs` that begin output tracks, input after input. The output tracks are numbered from 1 in
-/// this order. `plan_of` calls it before it builds the TrackEntries.
+/// Returns the tracks of `inputs` that begin output tracks, input after input. `plan_of` calls it to count them, and
+/// `tracks_ordered` puts them in the order of the output.
 pub(crate) fn tracks_taken(alloc: Global, inputs: &[Input]) -> Result<Vec<&TakenTrack>, AllocError>
     ensures { IfOk result (λ taken. lent taken.items ≡ tracks_taken (map read_in inputs.now)) }
 {
@@ -39,6 +40,35 @@ pub(crate) fn tracks_taken(alloc: Global, inputs: &[Input]) -> Result<Vec<&Taken
         }
     }
     Ok(taken)
+}
+
+/// Returns the keys of the tracks of `inputs` that begin output tracks, input after input: for each the index of its
+/// input and its index in Tracks. The option `--track-order` names output tracks by them. Each list of output tracks is
+/// put in order by them.
+pub(crate) fn keys_of(alloc: Global, inputs: &[Input]) -> Result<Vec<(u64, u64)>, AllocError>
+    ensures { IfOk result (λ keys. keys.items ≡ keys_from 0 (map read_in inputs.now)) }
+{
+    let mut keys = Vec::new(alloc);
+    for (number, input) in inputs.iter().enumerate() {
+        for track in tracks_begun(input) {
+            keys.push((number as u64, track.id))?;
+        }
+    }
+    Ok(keys)
+}
+
+/// Returns the tracks of `inputs` that begin output tracks, in the order of the output, which the pairs `order` give.
+/// The output tracks are numbered from 1 in this order. `plan_of` calls it before it builds the TrackEntries.
+pub(crate) fn tracks_ordered<'a>(
+    alloc: Global,
+    order: &[(u64, u64)],
+    inputs: &'a [Input],
+) -> Result<Vec<&'a TakenTrack>, AllocError>
+    ensures { IfOk result (λ taken. lent taken.items ≡ tracks_ordered order.now (map read_in inputs.now)) }
+{
+    let keys = keys_of(alloc, inputs)?;
+    let taken = tracks_taken(alloc, inputs)?;
+    in_order(alloc, order, keys.as_slice(), taken)
 }
 
 /// Returns the TrackUIDs of the output tracks that the tracks `taken` begin: their own, or another if one occurs again.

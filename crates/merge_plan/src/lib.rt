@@ -5,6 +5,7 @@
 
 mod appending;
 mod entries;
+mod order;
 mod outputs;
 mod placing;
 mod plan;

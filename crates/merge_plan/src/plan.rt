@@ -5,12 +5,12 @@ ghost use Rattle.std.specs.List.{All};
 ghost use Rattle.std.specs.Option.{option_copied};
 ghost use Rattle.merge_plan.specs.Lent.{lent};
 ghost use Rattle.merge_plan.specs.Planned.{AreSound, CanBeWritten, GivesRecords, Plans};
-ghost use Rattle.merge_plan.specs.Refusal.{is_webm_track, lanes_refusal, other_codec};
+ghost use Rattle.merge_plan.specs.Refusal.{count_refusal, is_webm_track, not_webm, other_codec};
 ghost use Rattle.merge_plan.specs.TakenTracks.{HasPlace, HasRecords, HasTaken};
 
-use crate::entries::tracks_taken;
+use crate::entries::{tracks_ordered, tracks_taken};
 use crate::outputs::{OutputRecords, output_of};
-use crate::planned_lanes::lanes_of;
+use crate::planned_lanes::output_lanes;
 use crate::refusal::{PlanEnd, PlanRefusal};
 use crate::splitting::{split_of, videos_of};
 use crate::title::title_of;
@@ -45,18 +45,26 @@ fn other_codec<'a>(taken: &[&'a TakenTrack]) -> Option<&'a Text>
     None
 }
 
-/// Returns the refusal if the tracks `taken` can't begin the output tracks, or None: there are none, or more than 64,
-/// or a track that WebM doesn't allow. `webm` is true if the output is WebM. `records_for` calls it before it builds
-/// the records.
-fn lanes_refusal(webm: bool, taken: &[&TakenTrack]) -> Result<Option<PlanRefusal>, AllocError>
-    ensures { IfOk result (λ refusal. refusal ≡ lanes_refusal webm (lent taken.now)) }
+/// Returns the refusal if `taken`, the tracks that begin output tracks, are none or more than 64, or None. `records_for`
+/// calls it first.
+fn count_refusal(taken: &[&TakenTrack]) -> Option<PlanRefusal>
+    ensures { result ≡ count_refusal (lent taken.now) }
 {
     if taken.is_empty() {
-        return Ok(Some(PlanRefusal::NoLane));
+        return Some(PlanRefusal::NoLane);
     }
     if taken.len() > MAX_LANES {
-        return Ok(Some(PlanRefusal::TooManyLanes));
+        return Some(PlanRefusal::TooManyLanes);
     }
+    None
+}
+
+/// Returns the refusal if the output is WebM, which `webm` states, and WebM doesn't allow one of the tracks
+/// `taken`; otherwise None. They begin the output tracks, in the order of the output. `records_for` calls it before it
+/// builds the records.
+fn not_webm(webm: bool, taken: &[&TakenTrack]) -> Result<Option<PlanRefusal>, AllocError>
+    ensures { IfOk result (λ refusal. refusal ≡ not_webm webm (lent taken.now)) }
+{
     if webm {
         if let Some(codec) = other_codec(taken) {
             return Ok(Some(PlanRefusal::NotWebm {
@@ -77,13 +85,18 @@ fn records_for(
     requires tracks { All HasTaken inputs.now }
     requires records { All HasRecords inputs.now }
     ensures exact { GivesRecords words.now inputs.now result }
-    ensures sound { IfOk result (AreSound inputs.now) }
+    ensures sound { IfOk result (AreSound words.now.order inputs.now) }
 {
     let taken = tracks_taken(alloc, inputs)?;
-    if let Some(refusal) = lanes_refusal(words.webm, taken.as_slice())? {
+    if let Some(refusal) = count_refusal(taken.as_slice()) {
         return Err(PlanEnd::Refused(refusal));
     }
-    let output = output_of(alloc, taken.as_slice(), inputs)?;
+    let order = words.order.as_slice();
+    let sorted = tracks_ordered(alloc, order, inputs)?;
+    if let Some(refusal) = not_webm(words.webm, sorted.as_slice())? {
+        return Err(PlanEnd::Refused(refusal));
+    }
+    let output = output_of(alloc, order, sorted.as_slice(), inputs)?;
     match first_too_large(&output.tracks, &output.chapters, &output.tags) {
         Some(id) => Err(PlanEnd::Refused(PlanRefusal::HeaderTooLarge { id })),
         None => Ok(output),
@@ -107,7 +120,7 @@ pub fn plan_of(alloc: Global, words: &MergeWords, inputs: &[Input]) -> Result<Me
     requires records { All HasRecords inputs.now }
     requires places { All HasPlace inputs.now }
     ensures exact { Plans words.now inputs.now result }
-    ensures written { IfOk result (CanBeWritten inputs.now) }
+    ensures written { IfOk result (CanBeWritten words.now.order inputs.now) }
 {
     let OutputRecords {
         tracks,
@@ -118,7 +131,8 @@ pub fn plan_of(alloc: Global, words: &MergeWords, inputs: &[Input]) -> Result<Me
     let info = info_of(alloc, words.scale, title_of(words, inputs))?;
     let split = split_of(alloc, words, &chapters)?;
     let uuids = uuids_of(alloc, words)?;
-    let taken = tracks_taken(alloc, inputs)?;
+    let order = words.order.as_slice();
+    let taken = tracks_ordered(alloc, order, inputs)?;
     let videos = videos_of(alloc, taken.as_slice())?;
     Ok(MergePlan {
         output: words.output.clone()?,
@@ -129,7 +143,13 @@ pub fn plan_of(alloc: Global, words: &MergeWords, inputs: &[Input]) -> Result<Me
             span: words.span,
             scale: words.scale,
         },
-        lanes: lanes_of(alloc, inputs, words.append_damaged, videos.as_slice())?,
+        lanes: output_lanes(
+            alloc,
+            order,
+            inputs,
+            words.append_damaged,
+            videos.as_slice(),
+        )?,
         front: Front {
             webm: words.webm,
             duration: words.duration,

@@ -7,9 +7,10 @@ ghost use Rattle.output_model.specs.declared.TheConstants.{MAX_PREFIX_LEN};
 ghost use Rattle.merge_inputs.specs.Input.{read_in};
 ghost use Rattle.merge_inputs.specs.Taken.{IsTaken};
 ghost use Rattle.merge_plan.specs.Plan.{append_offset, rule_of, default_rule};
-ghost use Rattle.merge_plan.specs.TakenTracks.{AreDriven, AreLanesOf, AreLinksOf, GoesOn, HasTaken, IsLaneOf, IsLink, IsLinkOf, IsTextOf, goes_on, spot, spots_at, spots_behind, times_listed};
+ghost use Rattle.merge_plan.specs.TakenTracks.{AreDriven, AreLanesOf, AreLinksOf, AreOutputLanes, GoesOn, HasTaken, IsLaneOf, IsLink, IsLinkOf, IsTextOf, driven_from, goes_on, spot, spots_at, spots_behind, times_listed};
 
-use crate::entries::tracks_begun;
+use crate::entries::{keys_of, tracks_begun};
+use crate::order::in_order;
 use element_reader::Outline;
 use ext_times::Times;
 use merge_inputs::{Blocks, Input, TakenTrack};
@@ -219,8 +220,8 @@ fn go_on(
 
 /// Builds the output track that the track `taken` begins. It is at index `place`, counted from 0, among the selected
 /// tracks of the input number `number`, counted from 0. The track at this index of each input in `behind`, the ones
-/// appended to it, continues it. With `past_damage` it does so even after damage. `drives` is true if its keyframes
-/// allow a cut. `lanes_of` calls it for each output track.
+/// appended to it, continues it. With `past_damage` it does so even after damage. Whether its keyframes allow a cut isn't
+/// known yet. `lanes_of` calls it for each output track.
 fn lane_of(
     alloc: Global,
     number: usize,
@@ -229,13 +230,11 @@ fn lane_of(
     taken: &TakenTrack,
     behind: &[Input],
     past_damage: bool,
-    drives: bool,
 ) -> Result<PlannedLane, AllocError>
     requires taken { IsTaken taken.now }
     requires behind { All HasTaken behind.now }
     requires room { number + length behind.now + 1 < 2 ^ 64 }
-    ensures lane { IfOk result (IsLaneOf past_damage (spot number input.now taken.now ∷ spots_behind place (number + 1) behind.now)) }
-    ensures drives { IfOk result (λ lane. lane.drives ≡ drives) }
+    ensures { IfOk result (IsLaneOf past_damage (spot number input.now taken.now ∷ spots_behind place (number + 1) behind.now)) }
 {
     let mut links = List::new(alloc);
     links.push(link_of(alloc, input, past_damage, taken)?)?;
@@ -245,7 +244,7 @@ fn lane_of(
         spec: LaneSpec { links },
         inputs,
         cues: rule_of(taken),
-        drives,
+        drives: false,
     };
     for (k, other) in behind.iter().enumerate() {
         go_on(alloc, place, number + 1 + k, other, past_damage, &mut lane)?;
@@ -253,36 +252,60 @@ fn lane_of(
     Ok(lane)
 }
 
-/// Builds the output tracks of a merge of `inputs`, for the plan that `plan_of` makes. For each selected track of an
-/// input that isn't appended, `videos` is true if it is a video track. With `past_damage` damage doesn't end an output
-/// track.
-pub(crate) fn lanes_of(
+/// Builds the output tracks of a merge of `inputs`, in the order of the tracks that begin them. With `past_damage` damage
+/// doesn't end an output track. `output_lanes` puts them in the order of the output.
+fn lanes_of(
     alloc: Global,
     inputs: &[Input],
     past_damage: bool,
-    videos: &[bool],
 ) -> Result<List<PlannedLane>, AllocError>
     requires { All HasTaken inputs.now }
-    ensures lanes { IfOk result (AreLanesOf past_damage inputs.now) }
-    ensures drives { IfOk result (AreDriven videos.now) }
+    ensures { IfOk result (AreLanesOf past_damage inputs.now) }
 {
     let mut lanes = List::new(alloc);
     for (number, input) in inputs.iter().enumerate() {
         let behind = appended(&inputs[number + 1..]);
         for (place, taken) in tracks_begun(input).iter().enumerate() {
-            let drives = is_driver(videos, lanes.len());
-            let lane = lane_of(
-                alloc,
-                number,
-                input,
-                place,
-                taken,
-                behind,
-                past_damage,
-                drives,
-            )?;
+            let lane = lane_of(alloc, number, input, place, taken, behind, past_damage)?;
             lanes.push(lane)?;
         }
     }
     Ok(lanes)
+}
+
+/// Returns the output tracks `lanes`, each with the statement whether its keyframes allow a cut. `videos` has for each
+/// whether it is a video track. `output_lanes` calls it.
+fn driven(
+    alloc: Global,
+    lanes: Vec<PlannedLane>,
+    videos: &[bool],
+) -> Result<List<PlannedLane>, AllocError>
+    ensures { IfOk result (λ driven. driven ≡ driven_from videos.now 0 lanes.items) }
+{
+    let mut driven = List::new(alloc);
+    for (k, lane) in lanes.into_iter().enumerate() {
+        let drives = is_driver(videos, k);
+        driven.push(PlannedLane { drives, ..lane })?;
+    }
+    Ok(driven)
+}
+
+/// Builds the output tracks of a merge of `inputs`, for the plan that `plan_of` makes, in the order that the pairs
+/// `order` give. For each output track, in this order, `videos` is true if it is a video track. With `past_damage`
+/// damage doesn't end an output track.
+pub(crate) fn output_lanes(
+    alloc: Global,
+    order: &[(u64, u64)],
+    inputs: &[Input],
+    past_damage: bool,
+    videos: &[bool],
+) -> Result<List<PlannedLane>, AllocError>
+    requires { All HasTaken inputs.now }
+    ensures lanes { IfOk result (AreOutputLanes past_damage order.now inputs.now) }
+    ensures drives { IfOk result (AreDriven videos.now) }
+{
+    let keys = keys_of(alloc, inputs)?;
+    let lanes = lanes_of(alloc, inputs, past_damage)?;
+    let sorted = in_order(alloc, order, keys.as_slice(), lanes.into_vec())?;
+    driven(alloc, sorted, videos)
 }

@@ -51,8 +51,8 @@ fn is_video(taken: &TakenTrack) -> bool
     taken.track.kind == VIDEO_TRACK
 }
 
-/// Returns for each of the tracks `taken` whether it is a video track. `plan_of` calls it before it builds the output
-/// tracks.
+/// Returns for each of the tracks `taken` whether it is a video track. They begin the output tracks, in the order of the
+/// output. `plan_of` calls it before it builds the output tracks.
 pub(crate) fn videos_of(alloc: Global, taken: &[&TakenTrack]) -> Result<List<bool>, AllocError>
     ensures { IfOk result (λ videos. videos ≡ map is_video (lent taken.now)) }
 {
