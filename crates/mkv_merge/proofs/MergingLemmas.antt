@@ -290,7 +290,7 @@ module _ {F P : Type 0} (r : Ghosts F) (f : writing.Ghosts F) (p : ReportGhosts 
 
   -- The sources are written, and their lines are printed.
   pub merges-written : (old mid new : F) (report report' : P) (words : MergeWords) (found : Result (List Source) Refusal) (sources : List Source) (most : ℕ) (result : Result Status CommandEnd) → seen_in r f p mid report ≡ seen_in r f p old report → found ≡ Ok sources
-      → HaveRecords sources → IfOk result (λ (s : Status). AreShort words sources) → Fulfils r f p mid new report report' result (merged_verdict words sources) → ReadsUpTo r old new most → MergesTo r f p old new report report' words found most (as_written result)
+      → HaveRecords words sources → IfOk result (λ (s : Status). AreShort words sources) → Fulfils r f p mid new report report' result (merged_verdict words sources) → ReadsUpTo r old new most → MergesTo r f p old new report report' words found most (as_written result)
   merges-written old mid new report report' words found sources most result begun is have short comes paid = by_end result short comes
     where
       by_end : (result : Result Status CommandEnd) → IfOk result (λ (s : Status). AreShort words sources) → Fulfils r f p mid new report report' result (merged_verdict words sources) → MergesTo r f p old new report report' words found most (as_written result)

@@ -33,7 +33,7 @@ module _ (f : LiveFiles) (words : MergeWords) (inputs : List Input) (p : MergePl
   split-is =
       let reads = sym (reads-are f words inputs p sources is) in
       let spec = is.plan.split ∙ ap (split_given words) reads in
-      let drives = is.plan.drives ∙ ap drives_given reads in
+      let drives = is.plan.drives ∙ ap (drives_given words.order) reads in
       λ i. record { spec = spec i; size = is.plan.size i; scale = (is.plan.limits i).scale; drives = drives_by (drives i) }
 
   parts-are : parts (planned.split_of p) (planned_blocks f p) ≡ parts_of words sources
@@ -46,9 +46,9 @@ module _ (f : LiveFiles) (words : MergeWords) (inputs : List Input) (p : MergePl
       let front : front_with f (planned.front_of p.uuids p.link p.front number) ≡ front_at words sources number =
       ap₂ (λ (uuids : List ℕ) (link : Bool). front_with f (planned.front_of uuids link p.front number)) is.plan.uuids is.plan.link
       ∙ front-with f words number p.front (front_of words sources) (number == 1) (is.plan.front f is.told ∙ ap (front_of words) is.from) in
-      let rules : rules_of p.lanes ≡ rules_given (reads_of sources) = is.plan.rules ∙ ap rules_given reads in
+      let rules : rules_of p.lanes ≡ rules_given words.order (reads_of sources) = is.plan.rules ∙ ap (rules_given words.order) reads in
       let chapters : p.chapters ≡ chapters_of (reads_of sources) = is.plan.chapters ∙ ap chapters_of reads in
-      let tags : p.tags ≡ tags_of (reads_of sources) = is.plan.tags ∙ ap tags_of reads in
+      let tags : p.tags ≡ tags_of words.order (reads_of sources) = is.plan.tags ∙ ap (tags_of words.order) reads in
       λ i. record {
         name = name_of (is.split i) (is.plan.output i) number;
         blocks = part.blocks;

@@ -23,9 +23,10 @@ use Rattle.merge_inputs.specs.Input.{InputRead}
 use Rattle.merge_inputs.specs.declared.taken.TakenTrack.{TakenTrack}
 use Rattle.merge_plan.specs.Front.{reads_of}
 use Rattle.requests.specs.declared.merge.MergeWords.{MergeWords}
-use Rattle.merge_plan.specs.Plan.{Source, inputs_given, lanes_taken, numbers_of}
+use Rattle.merge_plan.specs.Plan.{Source, inputs_given, inputs_taken, lanes_taken, numbers_of}
 use Rattle.merge_plan.specs.Records.{is_appended}
 use Rattle.merge_plan.proofs.ChainLemmas.{numbers-below}
+use Rattle.merge_plan.proofs.OrderedLemmas.{ordered-all}
 use Rattle.mkv_lines.specs.Line.{more_damages_line, warning_line}
 use Rattle.mkv_io.specs.Lists.{is_some_of}
 use Rattle.mkv_merge.specs.Merge.{damages_met, damages_warned, first_met, has_damage, links_met, warnings}
@@ -55,7 +56,7 @@ links-are f (l ∷ lanes) = ap (λ (rest : Tagged). zip l.inputs (lane_damages (
 
 -- `lanes` are the planned output tracks of a merge of `sources` for `words`.
 pub record AreLanesFor (f : LiveFiles) (words : MergeWords) (sources : List Source) (lanes : List PlannedLane) : Type 0 where
-  pub numbers : map (λ (l : PlannedLane). l.inputs) lanes ≡ inputs_given 0 (reads_of sources)
+  pub numbers : map (λ (l : PlannedLane). l.inputs) lanes ≡ inputs_taken words.order (reads_of sources)
   pub given : map (map (given_in f)) (links_of lanes) ≡ lanes_taken words sources
 
 -- The damage of an input is the damage of its source.
@@ -63,7 +64,7 @@ pub damages-are : (f : LiveFiles) (words : MergeWords) (sources : List Source) (
 damages-are f words sources lanes k are =
     ap (first_met k) (links-are f lanes)
     ∙ ap (λ (numbers : List (List ℕ)). first_met k (links_met numbers (map (map (given_in f)) (links_of lanes)))) are.numbers
-    ∙ ap (λ (given : List (List Given)). first_met k (links_met (inputs_given 0 (reads_of sources)) given)) are.given
+    ∙ ap (λ (given : List (List Given)). first_met k (links_met (inputs_taken words.order (reads_of sources)) given)) are.given
 
 -- No link has the number of a source that doesn't exist.
 zip-none : (ns : List ℕ) (found : List (List Damage)) (k : ℕ) → All (λ m. m < k) ns → find (λ (link : ℕ × List Damage). link.0 == k) (zip ns found) ≡ None
@@ -90,7 +91,8 @@ past-source : (words : MergeWords) (sources : List Source) (k : ℕ) → length 
 past-source words sources k past =
     let many : length (reads_of sources) ≡ length sources = length-map sources (λ (s : Source). s.1) in
     let below : All (All (λ m. m < k)) (inputs_given 0 (reads_of sources)) = numbers-below (λ (each : ℕ × InputRead). is_appended each.1) numbers_of (λ each. All-map (λ m. m ≡ each.0) (λ (t : TakenTrack). each.0) each.1.taken (λ n d inside. refl)) 0 k (reads_of sources) (omega arith) in
-    ap first_of (met-none (inputs_given 0 (reads_of sources)) (lanes_taken words sources) k below)
+    let each : All (All (λ m. m < k)) (inputs_taken words.order (reads_of sources)) = ordered-all (All (λ m. m < k)) words.order (reads_of sources) (inputs_given 0 (reads_of sources)) below in
+    ap first_of (met-none (inputs_taken words.order (reads_of sources)) (lanes_taken words sources) k each)
 
 -- ---- no output track has a link with a greater input number
 

@@ -1,20 +1,20 @@
 -- The lines of a merge, one item at a time.
 use Rattle.std.proofs.Common.{◌≡◌, ℕ, suc, ◌+◌, ◌<◌, ◌≤◌, Bool, true, false, ◌||◌, if◌then◌else◌, List, [], ◌∷◌, ◌++◌, append_assoc, length, drop, get_or, map, filter, flat_map, refl, sym, ◌∙◌, ap, subst, arith}
-use Rattle.std.specs.List.{list_any, zip}
+use Rattle.std.specs.List.{enumerate_from, list_any, zip}
 use Rattle.std.proofs.lemmas.List.{drop_all}
 use Rattle.mkv_io.specs.Lines.{with_lines}
 use Rattle.requests.specs.declared.merge.FileWords.{FileWords}
 use Rattle.requests.specs.declared.merge.MergeWords.{MergeWords}
 use Rattle.merge_inputs.specs.Input.{InputRead, read_in}
 use Rattle.merge_inputs.specs.declared.input.Input.{Input}
-use Rattle.mkv_lines.specs.Line.{more_damages_line, no_track_line, warning_line}
+use Rattle.mkv_lines.specs.Line.{more_damages_line, warning_line}
 use Rattle.mkv_lines.specs.Said.{ReportLines, SaysPart, SaysUpTo}
 use Rattle.mkv_lines.proofs.SaidLemmas.{SaysUpTo-begins, SaysUpTo-ends, SaysUpTo-more, SaysUpTo-stops}
 use Rattle.remux_plan.specs.declared.summary.InputDamage.{InputDamage}
 use Rattle.remux_plan.specs.declared.summary.MoreDamage.{MoreDamage}
 use Rattle.remux_plan.specs.declared.summary.Summary.{Summary}
 use Rattle.mkv_io.specs.Lists.{is_some_of}
-use Rattle.mkv_merge.specs.Merge.{absent, absent_lines, absent_of, has_absent, lines_before}
+use Rattle.mkv_merge.specs.Merge.{has_absent, lacks_track, lines_absent, lines_absent_in, lines_absent_of, lines_before}
 use Rattle.mkv_merge.specs.Prepared.{reads_in}
 use Rattle.mkv_merge.specs.Told.{damages_at, input_warnings, more_at, warnings_from}
 pub use Rattle.lemmas.proofs.PlainLemmas.{drop-get_or as drop-at}
@@ -70,45 +70,45 @@ pub files_left-none : (files : List FileWords) (inputs : List Input) (k : ℕ) �
 unfolding files_left
 files_left-none files inputs k past = ap (λ (fs : List FileWords). zip fs (reads_in (drop k inputs))) (drop_all k files past)
 
-pub has_absent-all : (words : MergeWords) (inputs : List Input) → has_absent words (reads_in inputs) ≡ list_any (λ f. is_some_of (absent f)) (files_left words.files inputs 0)
-has_absent-all words inputs = ap (list_any (λ f. is_some_of (absent f))) (files_left-all words.files inputs)
+pub has_absent-all : (words : MergeWords) (inputs : List Input) → has_absent words (reads_in inputs) ≡ list_any (lacks_track words) (enumerate_from 0 (files_left words.files inputs 0))
+has_absent-all words inputs = ap (λ (l : List (FileWords × InputRead)). list_any (lacks_track words) (enumerate_from 0 l)) (files_left-all words.files inputs)
 
 -- The next file lacks a track, or a later one does.
-has_absent-next : (any : Bool) (files : List FileWords) (inputs : List Input) (k : ℕ) (file : FileWords) (input : Input) → k < length files → k < length inputs → file ≡ get_or files k file → input ≡ get_or inputs k input
-    → any ≡ list_any (λ f. is_some_of (absent f)) (files_left files inputs k) → any ≡ (is_some_of (absent_of file input.count) || list_any (λ f. is_some_of (absent f)) (files_left files inputs (k + 1)))
-has_absent-next any files inputs k file input here there is of so =
-    so ∙ ap (list_any (λ f. is_some_of (absent f))) (files_left-at files inputs k file input here there is of)
+module _ (words : MergeWords) (files : List FileWords) (inputs : List Input) (k : ℕ) (file : FileWords) (input : Input) (here : k < length files) (there : k < length inputs) (is : file ≡ get_or files k file) (of : input ≡ get_or inputs k input) where
+  next-named : enumerate_from k (files_left files inputs k) ≡ (k, (file, read_in input)) ∷ enumerate_from (k + 1) (files_left files inputs (k + 1))
+  next-named = ap (enumerate_from k) (files_left-at files inputs k file input here there is of)
 
-pub has_absent-found : (any : Bool) (files : List FileWords) (inputs : List Input) (k : ℕ) (file : FileWords) (input : Input) → k < length files → k < length inputs → file ≡ get_or files k file → input ≡ get_or inputs k input
-    → any ≡ list_any (λ f. is_some_of (absent f)) (files_left files inputs k) → is_some_of (absent_of file input.count) ≡ true → true ≡ any
-has_absent-found any files inputs k file input here there is of so found =
-    sym (has_absent-next any files inputs k file input here there is of so
-    ∙ ap (λ (a : Bool). a || list_any (λ f. is_some_of (absent f)) (files_left files inputs (k + 1))) found)
+  has_absent-next : (any : Bool) → any ≡ list_any (lacks_track words) (enumerate_from k (files_left files inputs k)) → any ≡ (lacks_track words (k, (file, read_in input)) || list_any (lacks_track words) (enumerate_from (k + 1) (files_left files inputs (k + 1))))
+  has_absent-next any so = so ∙ ap (list_any (lacks_track words)) next-named
 
-pub has_absent-passed : (any : Bool) (files : List FileWords) (inputs : List Input) (k : ℕ) (file : FileWords) (input : Input) → k < length files → k < length inputs → file ≡ get_or files k file → input ≡ get_or inputs k input
-    → any ≡ list_any (λ f. is_some_of (absent f)) (files_left files inputs k) → is_some_of (absent_of file input.count) ≡ false → any ≡ list_any (λ f. is_some_of (absent f)) (files_left files inputs (k + 1))
-has_absent-passed any files inputs k file input here there is of so none =
-    has_absent-next any files inputs k file input here there is of so
-    ∙ ap (λ (a : Bool). a || list_any (λ f. is_some_of (absent f)) (files_left files inputs (k + 1))) none
+  pub has_absent-found : (any : Bool) → any ≡ list_any (lacks_track words) (enumerate_from k (files_left files inputs k)) → lacks_track words (k, (file, read_in input)) ≡ true → true ≡ any
+  has_absent-found any so found = sym (has_absent-next any so ∙ ap (λ (a : Bool). a || list_any (lacks_track words) (enumerate_from (k + 1) (files_left files inputs (k + 1)))) found)
 
-pub has_absent-none : (any : Bool) (files : List FileWords) (inputs : List Input) (k : ℕ) → length files ≤ k → any ≡ list_any (λ f. is_some_of (absent f)) (files_left files inputs k) → false ≡ any
-has_absent-none any files inputs k past so = sym (so ∙ ap (list_any (λ f. is_some_of (absent f))) (files_left-none files inputs k past))
+  pub has_absent-passed : (any : Bool) → any ≡ list_any (lacks_track words) (enumerate_from k (files_left files inputs k)) → lacks_track words (k, (file, read_in input)) ≡ false
+      → any ≡ list_any (lacks_track words) (enumerate_from (k + 1) (files_left files inputs (k + 1)))
+  has_absent-passed any so none = has_absent-next any so ∙ ap (λ (a : Bool). a || list_any (lacks_track words) (enumerate_from (k + 1) (files_left files inputs (k + 1)))) none
 
--- ---- lines of absent tracks
+  -- ---- lines of absent tracks
 
-pub absent-begins : (old : ReportLines) (words : MergeWords) (inputs : List Input) → SaysUpTo old old (lines_before words (reads_in inputs)) (flat_map absent_lines (files_left words.files inputs 0))
+  pub absent-next : (old now : ReportLines) (all : List (List ℕ)) → SaysUpTo old now all (flat_map (lines_absent words) (enumerate_from k (files_left files inputs k)))
+      → SaysUpTo old now all (lines_absent_of file input.count ++ (lines_absent_in words.order k file input.count ++ flat_map (lines_absent words) (enumerate_from (k + 1) (files_left files inputs (k + 1)))))
+  absent-next old now all way =
+      subst (SaysUpTo old now all)
+      (ap (flat_map (lines_absent words)) next-named
+      ∙ append_assoc (lines_absent_of file input.count) (lines_absent_in words.order k file input.count) (flat_map (lines_absent words) (enumerate_from (k + 1) (files_left files inputs (k + 1))))) way
+
+pub has_absent-none : (words : MergeWords) (any : Bool) (files : List FileWords) (inputs : List Input) (k : ℕ) → length files ≤ k → any ≡ list_any (lacks_track words) (enumerate_from k (files_left files inputs k)) → false ≡ any
+has_absent-none words any files inputs k past so = sym (so ∙ ap (λ (l : List (FileWords × InputRead)). list_any (lacks_track words) (enumerate_from k l)) (files_left-none files inputs k past))
+
+pub absent-begins : (old : ReportLines) (words : MergeWords) (inputs : List Input) → SaysUpTo old old (lines_before words (reads_in inputs)) (flat_map (lines_absent words) (enumerate_from 0 (files_left words.files inputs 0)))
 absent-begins old words inputs =
-    subst (SaysUpTo old old (lines_before words (reads_in inputs))) (ap (flat_map absent_lines) (files_left-all words.files inputs))
+    subst (SaysUpTo old old (lines_before words (reads_in inputs))) (ap (λ (l : List (FileWords × InputRead)). flat_map (lines_absent words) (enumerate_from 0 l)) (files_left-all words.files inputs))
     (SaysUpTo-begins old (lines_before words (reads_in inputs)))
 
-pub absent-next : (old now : ReportLines) (all : List (List ℕ)) (files : List FileWords) (inputs : List Input) (k : ℕ) (file : FileWords) (input : Input) → k < length files → k < length inputs → file ≡ get_or files k file → input ≡ get_or inputs k input
-    → SaysUpTo old now all (flat_map absent_lines (files_left files inputs k)) → SaysUpTo old now all (map (no_track_line file.name) (absent_of file input.count) ++ flat_map absent_lines (files_left files inputs (k + 1)))
-absent-next old now all files inputs k file input here there is of way =
-    subst (SaysUpTo old now all) (ap (flat_map absent_lines) (files_left-at files inputs k file input here there is of)) way
-
-pub absent-ends : (old new : ReportLines) (all : List (List ℕ)) (files : List FileWords) (inputs : List Input) (k : ℕ) → length files ≤ k → SaysUpTo old new all (flat_map absent_lines (files_left files inputs k)) → new ≡ with_lines old all
-absent-ends old new all files inputs k past way =
-    SaysUpTo-ends old new all (subst (SaysUpTo old new all) (ap (flat_map absent_lines) (files_left-none files inputs k past)) way)
+pub absent-ends : (words : MergeWords) (old new : ReportLines) (all : List (List ℕ)) (files : List FileWords) (inputs : List Input) (k : ℕ) → length files ≤ k
+    → SaysUpTo old new all (flat_map (lines_absent words) (enumerate_from k (files_left files inputs k))) → new ≡ with_lines old all
+absent-ends words old new all files inputs k past way =
+    SaysUpTo-ends old new all (subst (SaysUpTo old new all) (ap (λ (l : List (FileWords × InputRead)). flat_map (lines_absent words) (enumerate_from k l)) (files_left-none files inputs k past)) way)
 
 -- ---- warnings of the inputs
 

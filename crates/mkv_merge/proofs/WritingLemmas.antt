@@ -41,13 +41,14 @@ use Rattle.merge_inputs.specs.declared.input.Blocks.{Blocks}
 use Rattle.merge_inputs.specs.declared.input.Blocks.TheVariants as held_by
 use Rattle.merge_inputs.specs.declared.input.Input.{Input}
 use Rattle.merge_inputs.specs.declared.taken.TakenTrack.{TakenTrack}
-use Rattle.merge_plan.specs.Plan.{Source, inputs_given, lanes_given, lanes_taken, numbers_of}
+use Rattle.merge_plan.specs.Plan.{Source, inputs_given, inputs_taken, lanes_given, lanes_ordered, lanes_taken, numbers_of}
 use Rattle.merge_plan.specs.Planned.{CanBeWritten, StandsInInput, IsSparedLink, IsPlanOf, IsToldInput, source_in}
 use Rattle.merge_plan.specs.Front.{attached_length, attachments_of, reads_of}
 use Rattle.merge_plan.specs.Identifiers.{Have64Bits, identifiers_of}
 use Rattle.merge_plan.specs.Records.{chapters_of, is_appended, tags_of}
 use Rattle.merge_plan.proofs.ChainLemmas.{numbers-below}
 use Rattle.merge_plan.proofs.FileLemmas.{reads-in}
+use Rattle.merge_plan.proofs.OrderedLemmas.{lanes-ordered-count, ordered-all}
 use Rattle.mkv_lines.specs.declared.status.Status.{Status}
 use Rattle.mkv_lines.specs.declared.status.CommandEnd.{CommandEnd}
 use Rattle.mkv_merge.specs.Bound.{files_size}
@@ -90,9 +91,12 @@ many-inputs r f files words ids inputs opened of =
     ∙ length-map words.files (λ (w : FileWords). w.name)
 
 -- The numbers of the inputs are small.
-numbers-small : (reads : List InputRead) → length reads ≤ MAX_INPUTS → All (All (λ (i : ℕ). i < MAX_INPUTS)) (inputs_given 0 reads)
-numbers-small reads few =
+begun-small : (reads : List InputRead) → length reads ≤ MAX_INPUTS → All (All (λ (i : ℕ). i < MAX_INPUTS)) (inputs_given 0 reads)
+begun-small reads few =
     numbers-below (λ (each : ℕ × InputRead). is_appended each.1) numbers_of (λ each. All-map (λ m. m ≡ each.0) (λ (t : TakenTrack). each.0) each.1.taken (λ k d below. refl)) 0 MAX_INPUTS reads (omega arith)
+
+numbers-small : (order : List (ℕ × ℕ)) (reads : List InputRead) → length reads ≤ MAX_INPUTS → All (All (λ (i : ℕ). i < MAX_INPUTS)) (inputs_taken order reads)
+numbers-small order reads few = ordered-all (All (λ (i : ℕ). i < MAX_INPUTS)) order reads (inputs_given 0 reads) (begun-small reads few)
 
 -- A record has its ID, if it is present.
 pub record-id : (own : ℕ) (n : Option Node) → IfSome n (IsRecord own) → IfSome n (λ (m : Node). id_of m ≡ own)
@@ -182,7 +186,7 @@ plan-good {S = S} r f files words ids p is opened prepared =
         apart = λ j e inside. unwritten (f.holder files) split p.plan.output (get_or (get_or lanes k d).spec.links j e)
             (All-unmap (All (IsSparedLink test)) (λ (l : PlannedLane). l.spec.links) lanes (written.apart test others) k d below j e inside);
         numbered = (written.linked k d below).numbered;
-        inputs = All-unmap (All (λ (i : ℕ). i < MAX_INPUTS)) (λ (l : PlannedLane). l.inputs) lanes (subst (All (All (λ (i : ℕ). i < MAX_INPUTS))) (sym plan.numbers) (numbers-small (map read_in p.inputs) (omega (arith, length-map p.inputs read_in, many, sound.files.most)))) k d below;
+        inputs = All-unmap (All (λ (i : ℕ). i < MAX_INPUTS)) (λ (l : PlannedLane). l.inputs) lanes (subst (All (All (λ (i : ℕ). i < MAX_INPUTS))) (sym plan.numbers) (numbers-small words.order (map read_in p.inputs) (omega (arith, length-map p.inputs read_in, many, sound.files.most)))) k d below;
       };
       records = record {
         info = written.info.id;
@@ -230,7 +234,7 @@ reads-are f words inputs p sources is = ap reads_of (sym is.from) ∙ reads-in f
 
 pub lanes-for : (f : LiveFiles) (words : MergeWords) (inputs : List Input) (p : MergePlan) (sources : List Source) → IsMergeOf f words inputs p sources → AreLanesFor f words sources p.lanes
 lanes-for f words inputs p sources is = record {
-  numbers = is.plan.numbers ∙ ap (inputs_given 0) (sym (reads-are f words inputs p sources is));
+  numbers = is.plan.numbers ∙ ap (inputs_taken words.order) (sym (reads-are f words inputs p sources is));
   given = is.plan.lanes f ∙ ap (lanes_taken words) is.from;
 }
 
@@ -252,7 +256,7 @@ files-filled f list each =
     (λ k d below. record { entry = (get_or list k d).entry; octets = data_of f (get_or list k d); is = refl; attachment = each k d below })
 
 -- The records can be written and read again.
-pub records-are : (f : LiveFiles) (words : MergeWords) (inputs : List Input) (p : MergePlan) (sources : List Source) → IsMergeOf f words inputs p sources → CanBeWritten inputs p → HaveRecords sources
+pub records-are : (f : LiveFiles) (words : MergeWords) (inputs : List Input) (p : MergePlan) (sources : List Source) → IsMergeOf f words inputs p sources → CanBeWritten words.order inputs p → HaveRecords words sources
 records-are f words inputs p sources is written =
     let reads = reads-are f words inputs p sources is in
     record {
@@ -260,12 +264,12 @@ records-are f words inputs p sources is written =
           subst (All IsFilled) (ap (λ (front : Front). front.attachments) (is.plan.front f is.told) ∙ ap attachments_of is.from)
           (files-filled f p.front.attachments written.attachments);
       chapters = subst (λ (o : Option Node). IfSome o (IsRecord CHAPTERS)) (is.plan.chapters ∙ ap chapters_of (sym reads)) written.chapters;
-      tags = subst (λ (o : Option Node). IfSome o (IsRecord TAGS)) (is.plan.tags ∙ ap tags_of (sym reads)) written.tags;
-      numbers = subst (λ (list : List InputRead). Have64Bits (identifiers_of list)) (sym reads) written.numbers;
+      tags = subst (λ (o : Option Node). IfSome o (IsRecord TAGS)) (is.plan.tags ∙ ap (tags_of words.order) (sym reads)) written.tags;
+      numbers = subst (λ (list : List InputRead). Have64Bits (identifiers_of words.order list)) (sym reads) written.numbers;
     }
 
 -- The outputs can be read again if sources were found.
-pub readable-found : (words : MergeWords) (found : Result (List Source) Refusal) (sources : List Source) (r : Result Status CommandEnd) → found ≡ Ok sources → HaveRecords sources → IfOk r (λ (s : Status). AreShort words sources) → EndsReadable words found r
+pub readable-found : (words : MergeWords) (found : Result (List Source) Refusal) (sources : List Source) (r : Result Status CommandEnd) → found ≡ Ok sources → HaveRecords words sources → IfOk r (λ (s : Status). AreShort words sources) → EndsReadable words found r
 readable-found words found sources r is have short = subst (λ (o : Result (List Source) Refusal). EndsReadable words o r) (sym is) (of r short)
   where
     of : (r : Result Status CommandEnd) → IfOk r (λ (s : Status). AreShort words sources) → EndsReadable words (Ok sources) r
@@ -307,4 +311,5 @@ lanes-count f words inputs p sources is =
     sym (length-map p.lanes (λ (l : PlannedLane). l.spec.links))
     ∙ sym (length-map (links_of p.lanes) (map (given_in f)))
     ∙ ap (λ (given : List (List Given)). length given) (lanes-for f words inputs p sources is).given
-    ∙ length-map (lanes_given sources) (map (going_on words.append_damaged))
+    ∙ length-map (lanes_ordered words.order sources) (map (going_on words.append_damaged))
+    ∙ lanes-ordered-count words.order sources

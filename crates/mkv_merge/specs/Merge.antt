@@ -30,7 +30,7 @@ use Rattle.requests.specs.declared.merge.FileWords.{FileWords}
 use Rattle.requests.specs.declared.merge.MergeWords.{MergeWords}
 use Rattle.merge_inputs.specs.Input.{InputRead}
 use Rattle.merge_plan.specs.Appending.{append_refusal}
-use Rattle.merge_plan.specs.Plan.{Source, drives_given, inputs_given, lanes_taken, limits_of, rules_given, split_given}
+use Rattle.merge_plan.specs.Plan.{Source, drives_given, inputs_taken, lanes_taken, limits_of, rules_given, split_given}
 use Rattle.merge_plan.specs.Front.{front_of, reads_of}
 use Rattle.merge_plan.specs.Places.{in_place}
 use Rattle.merge_plan.specs.Records.{chapters_of, tags_of}
@@ -95,7 +95,7 @@ blocks_of words sources = merged (map (lane_blocks words.scale) (lanes_taken wor
 
 -- the rule for cutting the output of the merge `words` into parts, with times in ticks of the output. For `parts_of`.
 abbrev pub split_of : MergeWords → List Source → Split
-split_of words sources = record { spec = split_given words (reads_of sources); size = size_of words.split; scale = words.scale; drives = drives_by (drives_given (reads_of sources)) }
+split_of words sources = record { spec = split_given words (reads_of sources); size = size_of words.split; scale = words.scale; drives = drives_by (drives_given words.order (reads_of sources)) }
 
 -- the parts of the output of the merge `words` of `sources`; an output that isn't split is one part. For `outputs_of`: each becomes an output.
 abbrev pub parts_of : MergeWords → List Source → List Part
@@ -122,7 +122,7 @@ chapters_in words sources part = chapters_within (is_split words) (chapters_of (
 -- Elements around them. `merge` writes its layout as an output.
 abbrev pub document_at : MergeWords → List Source → ℕ × Part → Document
 document_at words sources each =
-    document_of (limits_of words) (rules_given (reads_of sources)) (front_at words sources each.0) (chapters_in words sources each.1) (tags_of (reads_of sources)) each.1.blocks
+    document_of (limits_of words) (rules_given words.order (reads_of sources)) (front_at words sources each.0) (chapters_in words sources each.1) (tags_of words.order (reads_of sources)) each.1.blocks
 
 -- the output for a part, which is given with its number, counted from 1 (`each`), in the merge `words` of `sources`: its name, blocks and document.
 -- For `outputs_of`.
@@ -135,24 +135,43 @@ outputs_of words sources = map (output_at words sources) (enumerate_from 1 (part
 
 -- ---- warnings
 
--- the track numbers, counted from 0, that the options of the input `file` name and that aren't below `count`, the number of its tracks. For the
--- warnings of `merge`.
+-- the track numbers, counted from 0, that the options of the input `file` name and that aren't below `count`, the number of its tracks. The pairs of
+-- `--track-order` don't count among them. For the warnings of `merge`.
 abbrev pub absent_of : FileWords → ℕ → List ℕ
 absent_of file count = filter (λ n. nat_le count n) file.named
 
--- the track numbers, counted from 0, that the options of an input name and that it doesn't have. The input is given as its options and as it was
--- read. For the warnings and the status of `merge`.
-abbrev pub absent : FileWords × InputRead → List ℕ
-absent f = absent_of f.0 f.1.count
+-- a warning for each track that the options of the input `file` name and that isn't among its `count` tracks. The pairs of `--track-order` don't
+-- count. For `lines_absent`, in the outcome of `merge`.
+abbrev pub lines_absent_of : FileWords → ℕ → List (List ℕ)
+lines_absent_of file count = map (no_track_line file.name) (absent_of file count)
 
--- a warning for each track that the options of the input `file` name and that isn't among its `count` tracks. For `absent_lines`, in the outcome of
--- `merge`.
-abbrev pub lines_absent : FileWords → ℕ → List (List ℕ)
-lines_absent file count = map (no_track_line file.name) (absent_of file count)
+-- The pair `pair` of `--track-order` names a track that isn't among the `count` tracks of the input number `input`, and that none of the options of this
+-- input, `file`, names. Numbers count from 0. For the warnings of `merge`.
+abbrev pub is_absent_in : ℕ → FileWords → ℕ → ℕ × ℕ → Bool
+is_absent_in input file count pair = pair.0 == input && nat_le count pair.1 && not (list_any (λ n. n == pair.1) file.named)
 
--- a warning for each track that the options of an input name and that it doesn't have. For `lines_before`, in the outcome of `merge`.
-abbrev pub absent_lines : FileWords × InputRead → List (List ℕ)
-absent_lines f = lines_absent f.0 f.1.count
+-- those of the pairs `order` of `--track-order` that name a track which isn't among the `count` tracks of the input number `input`, counted from 0, and
+-- which none of the options of this input, `file`, names. For the warnings of `merge`.
+abbrev pub absent_in : List (ℕ × ℕ) → ℕ → FileWords → ℕ → List (ℕ × ℕ)
+absent_in order input file count = filter (is_absent_in input file count) order
+
+-- a warning for each of the pairs `order` of `--track-order` that name a track which isn't among the `count` tracks of the input number `input`, counted
+-- from 0, and which none of the options of this input, `file`, names. For `lines_absent`, in the outcome of `merge`.
+abbrev pub lines_absent_in : List (ℕ × ℕ) → ℕ → FileWords → ℕ → List (List ℕ)
+lines_absent_in order input file count = map (λ (pair : ℕ × ℕ). no_track_line file.name pair.1) (absent_in order input file count)
+
+-- an input with its number, counted from 0: its options, and what was read of it. The warnings of `merge` name it.
+abbrev pub Named : Type 0
+Named = ℕ × (FileWords × InputRead)
+
+-- The options of the merge `words` name a track that the input `each` doesn't have. For the status of `merge`.
+abbrev pub lacks_track : MergeWords → Named → Bool
+lacks_track words each = is_some_of (absent_of each.1.0 each.1.1.count) || is_some_of (absent_in words.order each.0 each.1.0 each.1.1.count)
+
+-- a warning for each track that the options of the merge `words` name and that the input `each` doesn't have: first those that its own options name, and
+-- then those of `--track-order`. For `lines_before`, in the outcome of `merge`.
+abbrev pub lines_absent : MergeWords → Named → List (List ℕ)
+lines_absent words each = lines_absent_of each.1.0 each.1.1.count ++ lines_absent_in words.order each.0 each.1.0 each.1.1.count
 
 -- the links of all output tracks: for each the number of its source, counted from 0, and the damage that is met in it. `numbers` and `given` have a
 -- list of links for each output track. For `damages_met`, in the outcome of `merge`.
@@ -168,7 +187,7 @@ first_met k links = option_map_or (λ (link : ℕ × List Damage). link.1) (find
 -- Without the option `--append-damaged` there is also none if a file before it in its chain of appended files ended at damage. For the warnings and
 -- the status of `merge`.
 abbrev pub damages_met : MergeWords → List Source → ℕ → List Damage
-damages_met words sources k = first_met k (links_met (inputs_given 0 (reads_of sources)) (lanes_taken words sources))
+damages_met words sources k = first_met k (links_met (inputs_taken words.order (reads_of sources)) (lanes_taken words sources))
 
 -- the warnings about the damage `damages` of a file `name`: its first places one by one, then the number of the others. For `warnings`, in the
 -- outcome of `merge`.
@@ -182,7 +201,7 @@ warnings words sources each = damages_warned each.1.name (damages_met words sour
 
 -- Some input lacks a track that the options for it name; `reads` are the inputs as they were read. `merge` then ends with the status of warnings.
 abbrev pub has_absent : MergeWords → List InputRead → Bool
-has_absent words reads = list_any (λ f. is_some_of (absent f)) (zip words.files reads)
+has_absent words reads = list_any (lacks_track words) (enumerate_from 0 (zip words.files reads))
 
 -- Some of `sources` has damage that is met while its blocks are merged. `merge` then ends with the status of warnings.
 abbrev pub has_damage : MergeWords → List Source → Bool
@@ -206,7 +225,7 @@ warned_if false = Done
 
 -- the messages of `merge` before the outputs are written: a warning for each track that options name and that its input lacks
 abbrev pub lines_before : MergeWords → List InputRead → List (List ℕ)
-lines_before words reads = flat_map absent_lines (zip words.files reads)
+lines_before words reads = flat_map (lines_absent words) (enumerate_from 0 (zip words.files reads))
 
 -- the message about a complete output, with its name and number of blocks. For `lines_behind`, in the outcome of `merge`.
 abbrev pub output_line : PlannedOutput → List ℕ

@@ -97,7 +97,7 @@ ReadsToPrepare r old new words list = ReadsUpTo r old new (25 * live_size r old 
 pub record IsPrepared (f : LiveFiles) (words : MergeWords) (list : List FileId) (p : Prepared) : Type 0 where
   pub inputs : AreInputsOf f list p.inputs
   pub plan : IsPlanOf words p.inputs p.plan
-  pub written : CanBeWritten p.inputs p.plan
+  pub written : CanBeWritten words.order p.inputs p.plan
 
 -- The result of `prepare` for inputs with the contents `contents` and the text files `texts`. Its inputs give the expected sources of the merge
 -- `words`, or it has the expected refusal, or it was stopped. Its contract states it.

@@ -26,13 +26,13 @@ pub record IsFilled (n : Node) : Type 0 where
   pub is : n ≡ with_data octets entry
   pub attachment : IsAttachment entry
 
--- The attached files of `sources`, and their Chapters and Tags if any, can be written and read again; the identifiers have 64 bits. A condition of
--- the laws on the outputs of `merge`.
-pub record HaveRecords (sources : List Source) : Type 0 where
+-- The attached files of the merge `words` of `sources`, and its Chapters and Tags if any, can be written and read again; the identifiers have 64 bits.
+-- A condition of the laws on the outputs of `merge`.
+pub record HaveRecords (words : MergeWords) (sources : List Source) : Type 0 where
   pub attachments : All IsFilled (attachments_of sources)
   pub chapters : IfSome (chapters_of (reads_of sources)) (IsRecord CHAPTERS)
-  pub tags : IfSome (tags_of (reads_of sources)) (IsRecord TAGS)
-  pub numbers : Have64Bits (identifiers_of (reads_of sources))
+  pub tags : IfSome (tags_of words.order (reads_of sources)) (IsRecord TAGS)
+  pub numbers : Have64Bits (identifiers_of words.order (reads_of sources))
 
 -- None of the outputs of `sources` is longer than a file may be. A part of `CanBeReadAgain`, in the promise that the outputs of `merge` can be read
 -- again.
@@ -42,7 +42,7 @@ AreShort words sources = All (λ (o : PlannedOutput). IsShort o.document) (outpu
 -- The outputs of the merge `words` of `sources` can be read again: their records are valid, and they aren't longer than files may be. Used by
 -- `EndsReadable`.
 pub record CanBeReadAgain (words : MergeWords) (sources : List Source) : Type 0 where
-  pub records : HaveRecords sources
+  pub records : HaveRecords words sources
   pub short : AreShort words sources
 
 -- The outputs of the merge `words` can be read again, if it ended with a status and wasn't refused. `found` has its sources or its refusal. The

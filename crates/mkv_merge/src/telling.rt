@@ -1,12 +1,12 @@
 //! Messages of a merge.
 
-ghost use Rattle.std.specs.Prelude.{◌≡◌, length, IfOk};
+ghost use Rattle.std.specs.Prelude.{◌≡◌, ◌||◌, length, IfOk};
 ghost use Rattle.mkv_lines.specs.Line.{text_of};
 ghost use Rattle.mkv_lines.specs.Ordinary.{IsOrdinary};
 ghost use Rattle.mkv_lines.specs.Said.{HasSayCause, Says};
 ghost use Rattle.mkv_lines.specs.Verdict.{SaysVerdict, refused};
 ghost use Rattle.mkv_io.specs.Lists.{is_some_of};
-ghost use Rattle.mkv_merge.specs.Merge.{absent_of, has_absent, has_other_count, lines_absent, lines_before, uuid_lines};
+ghost use Rattle.mkv_merge.specs.Merge.{absent_in, absent_of, has_absent, has_other_count, is_absent_in, lines_absent_in, lines_absent_of, lines_before, uuid_lines};
 ghost use Rattle.mkv_merge.specs.Prepared.{reads_in};
 ghost use Rattle.mkv_merge.specs.Refused.{chapters_name, input_line, line_of, name_of, plan_line, text_line};
 ghost use Rattle.mkv_merge.specs.Told.{damage_warnings, more_warnings, warnings_from};
@@ -139,7 +139,7 @@ fn say_absent_of<P: Report>(
     count: usize,
     report: &mut P,
 ) -> Result<(), CommandEnd>
-    ensures said { Says (P.lines report.old) (P.lines report.new) (lines_absent file.now count) result }
+    ensures said { Says (P.lines report.old) (P.lines report.new) (lines_absent_of file.now count) result }
     ensures cause { HasSayCause (P.faults report.old) (P.faults report.new) result }
 {
     let name = file.name.as_str();
@@ -148,6 +148,40 @@ fn say_absent_of<P: Report>(
         if number < count as u64 {
             continue;
         }
+        say(alloc, report, &Line::NoTrack { name, number })?;
+    }
+    Ok(())
+}
+
+/// Checks whether `pair`, a pair of `--track-order`, names a track that the input number `input` doesn't have, and that
+/// no other option of `file` names. `count` is the number of the input's tracks. Numbers count from 0. For
+/// `say_absent_in` and `has_absent_in`.
+fn is_absent_in(pair: (u64, u64), input: usize, file: &FileWords, count: usize) -> bool
+    ensures { result ≡ is_absent_in input file.now count pair }
+{
+    pair.0 == input as u64 && pair.1 >= count as u64 && !file.named.as_slice().contains(&pair.1)
+}
+
+/// Warns of each track that the pairs `order` of `--track-order` name in the input number `input`, counted from 0, and
+/// that the input doesn't have, unless another option of `file` names it. `count` is the number of the input's tracks.
+/// For `say_absent`, when `merge` prints its messages.
+fn say_absent_in<P: Report>(
+    alloc: Global,
+    order: &[(u64, u64)],
+    input: usize,
+    file: &FileWords,
+    count: usize,
+    report: &mut P,
+) -> Result<(), CommandEnd>
+    ensures said { Says (P.lines report.old) (P.lines report.new) (lines_absent_in order.now input file.now count) result }
+    ensures cause { HasSayCause (P.faults report.old) (P.faults report.new) result }
+{
+    let name = file.name.as_str();
+    for pair in order {
+        if !is_absent_in(*pair, input, file, count) {
+            continue;
+        }
+        let number = pair.1;
         say(alloc, report, &Line::NoTrack { name, number })?;
     }
     Ok(())
@@ -165,8 +199,11 @@ pub fn say_absent<P: Report>(
     ensures said { Says (P.lines report.old) (P.lines report.new) (lines_before words.now (reads_in inputs.now)) result }
     ensures cause { HasSayCause (P.faults report.old) (P.faults report.new) result }
 {
-    for (k, input) in inputs.iter().enumerate() {
-        say_absent_of(alloc, &words.files.as_slice()[k], input.count, report)?;
+    let order = words.order.as_slice();
+    for (k, file) in words.files.as_slice().iter().enumerate() {
+        let count = inputs[k].count;
+        say_absent_of(alloc, file, count, report)?;
+        say_absent_in(alloc, order, k, file, count, report)?;
     }
     Ok(())
 }
@@ -182,14 +219,37 @@ fn has_absent_of(file: &FileWords, count: usize) -> bool
         .any(|number| *number >= count as u64)
 }
 
+/// Checks whether the pairs `order` of `--track-order` name a track that the input number `input`, counted from 0, with
+/// `count` tracks doesn't have, and that no other option of `file` names. Such a merge ends with the status of warnings.
+/// For `has_absent`.
+fn has_absent_in(order: &[(u64, u64)], input: usize, file: &FileWords, count: usize) -> bool
+    ensures { result ≡ is_some_of (absent_in order.now input file.now count) }
+{
+    for pair in order {
+        if is_absent_in(*pair, input, file, count) {
+            return true;
+        }
+    }
+    false
+}
+
+/// Checks whether an option of `file`, or one of the pairs `order` of `--track-order`, names a track that the input number
+/// `input`, counted from 0, doesn't have. `count` is the number of its tracks. For `has_absent`.
+fn lacks_track(order: &[(u64, u64)], input: usize, file: &FileWords, count: usize) -> bool
+    ensures { result ≡ (is_some_of (absent_of file.now count) || is_some_of (absent_in order.now input file.now count)) }
+{
+    has_absent_of(file, count) || has_absent_in(order, input, file, count)
+}
+
 /// Checks whether an option of `words` names a track number, counted from 0, that its input doesn't have. `inputs` are
 /// the inputs as they were read. Such a merge ends with the status of warnings. For `write`.
 pub fn has_absent(words: &MergeWords, inputs: &[Input]) -> bool
     requires { length inputs.now ≡ length words.now.files }
     ensures { result ≡ has_absent words.now (reads_in inputs.now) }
 {
-    for (k, input) in inputs.iter().enumerate() {
-        if has_absent_of(&words.files.as_slice()[k], input.count) {
+    let order = words.order.as_slice();
+    for (k, file) in words.files.as_slice().iter().enumerate() {
+        if lacks_track(order, k, file, inputs[k].count) {
             return true;
         }
     }

@@ -83,7 +83,7 @@ returns-clause-prepared g c =
     record {
       inputs = record { good = placed.good; of = placed.files ∙ are.of; places = placed.places };
       plan = subst (λ (inputs : List Input). IsPlanOf c.args.words.now inputs c.in_ok-plan.plan) c.as_slice-2.ensures c.in_ok-plan.ensures.exact.1;
-      written = subst (λ (inputs : List Input). CanBeWritten inputs c.in_ok-plan.plan) c.as_slice-2.ensures c.in_ok-plan.ensures.written;
+      written = subst (λ (inputs : List Input). CanBeWritten c.args.words.now.order inputs c.in_ok-plan.plan) c.as_slice-2.ensures c.in_ok-plan.ensures.written;
     }
 
 -- ---- bytes read

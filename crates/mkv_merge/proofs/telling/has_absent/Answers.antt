@@ -10,23 +10,27 @@ pub loop-k-init : goal.loop-k-init
 loop-k-init c = has_absent-all c.args.words.now c.args.inputs.now
 
 -- The next file lacks a track.
-pub returns-then-has_absent_of : goal.returns-then-has_absent_of
-returns-then-has_absent_of c =
-    let here : c.loop-k.k < length c.args.words.now.files = omega arith in
-    let is : c.index-as_slice-k.result ≡ get_or c.args.words.now.files c.loop-k.k c.index-as_slice-k.result = c.index-as_slice-k.is ∙ ap (λ (list : List FileWords). get_or list c.loop-k.k c.index-as_slice-k.result) c.as_slice.ensures in
-    has_absent-found (has_absent c.args.words.now (reads_in c.args.inputs.now)) c.args.words.now.files c.args.inputs.now c.loop-k.k c.index-as_slice-k.result c.index-inputs-k.result here c.loop-k-test.true is c.index-inputs-k.is
-    c.loop-k.invariant (sym c.has_absent_of.ensures ∙ c.if-has_absent_of.true)
+pub returns-then-lacks_track : goal.returns-then-lacks_track
+returns-then-lacks_track c =
+    let files = c.args.words.now.files in
+    let here : c.loop-k.k < length files = omega (arith, ap length c.as_slice-file-items.ensures) in
+    let there : c.loop-k.k < length c.args.inputs.now = omega (arith, c.requires) in
+    let is : c.file-item.result ≡ get_or files c.loop-k.k c.file-item.result = c.file-item.is ∙ ap (λ (list : List FileWords). get_or list c.loop-k.k c.file-item.result) c.as_slice-file-items.ensures in
+    has_absent-found c.args.words.now files c.args.inputs.now c.loop-k.k c.file-item.result c.index-inputs-k.result here there is c.index-inputs-k.is
+    (has_absent c.args.words.now (reads_in c.args.inputs.now)) c.loop-k.invariant (sym c.lacks_track.ensures ∙ c.if-lacks_track.true)
 
 -- The next file has all tracks.
 pub loop-k-preserved : goal.loop-k-preserved
 loop-k-preserved c =
-    let here : c.loop-k.k < length c.args.words.now.files = omega arith in
-    let is : c.index-as_slice-k.result ≡ get_or c.args.words.now.files c.loop-k.k c.index-as_slice-k.result = c.index-as_slice-k.is ∙ ap (λ (list : List FileWords). get_or list c.loop-k.k c.index-as_slice-k.result) c.as_slice.ensures in
-    has_absent-passed (has_absent c.args.words.now (reads_in c.args.inputs.now)) c.args.words.now.files c.args.inputs.now c.loop-k.k c.index-as_slice-k.result c.index-inputs-k.result here c.loop-k-test.true is c.index-inputs-k.is
-    c.loop-k.invariant (sym c.has_absent_of.ensures ∙ c.if-has_absent_of.false)
+    let files = c.args.words.now.files in
+    let here : c.loop-k.k < length files = omega (arith, ap length c.as_slice-file-items.ensures) in
+    let there : c.loop-k.k < length c.args.inputs.now = omega (arith, c.requires) in
+    let is : c.file-item.result ≡ get_or files c.loop-k.k c.file-item.result = c.file-item.is ∙ ap (λ (list : List FileWords). get_or list c.loop-k.k c.file-item.result) c.as_slice-file-items.ensures in
+    has_absent-passed c.args.words.now files c.args.inputs.now c.loop-k.k c.file-item.result c.index-inputs-k.result here there is c.index-inputs-k.is
+    (has_absent c.args.words.now (reads_in c.args.inputs.now)) c.loop-k.invariant (sym c.lacks_track.ensures ∙ c.if-lacks_track.false)
 
 -- No file lacks a track.
 pub returns : goal.returns
 returns c =
-    let past : length c.args.words.now.files ≤ c.loop-k.k = omega arith in
-    has_absent-none (has_absent c.args.words.now (reads_in c.args.inputs.now)) c.args.words.now.files c.args.inputs.now c.loop-k.k past c.loop-k.invariant
+    let past : length c.args.words.now.files ≤ c.loop-k.k = omega (arith, ap length c.as_slice-file-items.ensures) in
+    has_absent-none c.args.words.now (has_absent c.args.words.now (reads_in c.args.inputs.now)) c.args.words.now.files c.args.inputs.now c.loop-k.k past c.loop-k.invariant

@@ -1,9 +1,9 @@
-use Rattle.std.proofs.Common.{◌≡◌, ◌+◌, ◌<◌, ◌≤◌, List, length, flat_map, get_or, map, refl, ◌∙◌, ap, rules, arith}
+use Rattle.std.proofs.Common.{◌≡◌, ◌+◌, ◌<◌, ◌≤◌, List, length, ◌++◌, flat_map, get_or, refl, ◌∙◌, ap, rules, arith}
+use Rattle.std.specs.List.{enumerate_from}
 use Rattle.std.proofs.lemmas.Result.{err_from_is_err_and}
 use Rattle.requests.specs.declared.merge.FileWords.{FileWords}
-use Rattle.mkv_lines.specs.Line.{no_track_line}
 use Rattle.mkv_lines.proofs.SaidLemmas.{SaysUpTo-more, SaysUpTo-stops}
-use Rattle.mkv_merge.specs.Merge.{absent_lines, absent_of, lines_before}
+use Rattle.mkv_merge.specs.Merge.{lines_absent, lines_absent_in, lines_absent_of, lines_before}
 use Rattle.mkv_merge.specs.Prepared.{reads_in}
 use Rattle.mkv_merge.proofs.TellingLemmas.{absent-begins, absent-ends, absent-next, files_left}
 use Rattle.mkv_merge.proofs.telling.say_absent.Goals as goal
@@ -15,31 +15,70 @@ loop-k-init g c = record {
   way = absent-begins (g.P.Report.lines c.args.report.now) c.args.words.now c.args.inputs.now;
 }
 
--- A line couldn't be printed.
+-- A line for a track that the file's own options name couldn't be printed.
 pub returns-in_err-say_absent_of-clause-said : goal.returns-in_err-say_absent_of-clause-said
 returns-in_err-say_absent_of-clause-said g c =
-    let here : c.loop-k.k < length c.args.words.now.files = omega arith in
-    let is : c.index-as_slice-k.result ≡ get_or c.args.words.now.files c.loop-k.k c.index-as_slice-k.result = c.index-as_slice-k.is ∙ ap (λ (list : List FileWords). get_or list c.loop-k.k c.index-as_slice-k.result) c.as_slice.ensures in
+    let words = c.args.words.now in
+    let files = words.files in
+    let inputs = c.args.inputs.now in
+    let k = c.loop-k.k in
+    let file = c.file-item.result in
+    let input = c.index-inputs-k.result in
+    let all = lines_before words (reads_in inputs) in
+    let here : k < length files = omega (arith, ap length c.as_slice-file-items.ensures) in
+    let there : k < length inputs = omega (arith, c.requires) in
+    let is : file ≡ get_or files k file = c.file-item.is ∙ ap (λ (list : List FileWords). get_or list k file) c.as_slice-file-items.ensures in
     let p = err_from_is_err_and c.from_residual.result c.from_residual.ensures.1 in
     rw p.1
-    (SaysUpTo-stops (g.P.Report.lines c.args.report.now) (g.P.Report.lines c.loop-k.report) (g.P.Report.lines c.say_absent_of.new.report) (lines_before c.args.words.now (reads_in c.args.inputs.now)) (map (no_track_line c.index-as_slice-k.result.name) (absent_of c.index-as_slice-k.result c.index-inputs-k.result.count)) (flat_map absent_lines (files_left c.args.words.now.files c.args.inputs.now (c.loop-k.k + 1)))
-    (absent-next (g.P.Report.lines c.args.report.now) (g.P.Report.lines c.loop-k.report) (lines_before c.args.words.now (reads_in c.args.inputs.now)) c.args.words.now.files c.args.inputs.now c.loop-k.k c.index-as_slice-k.result c.index-inputs-k.result here c.loop-k-test.true is c.index-inputs-k.is c.loop-k.invariant.way)
+    (SaysUpTo-stops (g.P.Report.lines c.args.report.now) (g.P.Report.lines c.loop-k.report) (g.P.Report.lines c.say_absent_of.new.report) all (lines_absent_of file input.count) (lines_absent_in words.order k file input.count ++ flat_map (lines_absent words) (enumerate_from (k + 1) (files_left files inputs (k + 1))))
+    (absent-next words files inputs k file input here there is c.index-inputs-k.is (g.P.Report.lines c.args.report.now) (g.P.Report.lines c.loop-k.report) all c.loop-k.invariant.way)
     c.in_err-say_absent_of.ensures.said)
+
+-- A line for a track that `--track-order` names couldn't be printed.
+pub returns-in_err-say_absent_in-clause-said : goal.returns-in_err-say_absent_in-clause-said
+returns-in_err-say_absent_in-clause-said g c =
+    let words = c.args.words.now in
+    let files = words.files in
+    let inputs = c.args.inputs.now in
+    let k = c.loop-k.k in
+    let file = c.file-item.result in
+    let input = c.index-inputs-k.result in
+    let all = lines_before words (reads_in inputs) in
+    let here : k < length files = omega (arith, ap length c.as_slice-file-items.ensures) in
+    let there : k < length inputs = omega (arith, c.requires) in
+    let is : file ≡ get_or files k file = c.file-item.is ∙ ap (λ (list : List FileWords). get_or list k file) c.as_slice-file-items.ensures in
+    let p = err_from_is_err_and c.from_residual-in_err-say_absent_in.result c.from_residual-in_err-say_absent_in.ensures.1 in
+    rw p.1
+    (SaysUpTo-stops (g.P.Report.lines c.args.report.now) (g.P.Report.lines c.say_absent_of.new.report) (g.P.Report.lines c.say_absent_in.new.report) all (lines_absent_in words.order k file input.count) (flat_map (lines_absent words) (enumerate_from (k + 1) (files_left files inputs (k + 1))))
+    (SaysUpTo-more (g.P.Report.lines c.args.report.now) (g.P.Report.lines c.loop-k.report) (g.P.Report.lines c.say_absent_of.new.report) all (lines_absent_of file input.count) (lines_absent_in words.order k file input.count ++ flat_map (lines_absent words) (enumerate_from (k + 1) (files_left files inputs (k + 1))))
+    (absent-next words files inputs k file input here there is c.index-inputs-k.is (g.P.Report.lines c.args.report.now) (g.P.Report.lines c.loop-k.report) all c.loop-k.invariant.way)
+    c.in_ok-say_absent_of.ensures.said)
+    c.in_err-say_absent_in.ensures.said)
 
 -- The lines of one more file were printed.
 pub loop-k-preserved : goal.loop-k-preserved
 loop-k-preserved g c = record {
   report = search rules;
   way =
-      let here : c.loop-k.k < length c.args.words.now.files = omega arith in
-      let is : c.index-as_slice-k.result ≡ get_or c.args.words.now.files c.loop-k.k c.index-as_slice-k.result = c.index-as_slice-k.is ∙ ap (λ (list : List FileWords). get_or list c.loop-k.k c.index-as_slice-k.result) c.as_slice.ensures in
-      SaysUpTo-more (g.P.Report.lines c.args.report.now) (g.P.Report.lines c.loop-k.report) (g.P.Report.lines c.say_absent_of.new.report) (lines_before c.args.words.now (reads_in c.args.inputs.now)) (map (no_track_line c.index-as_slice-k.result.name) (absent_of c.index-as_slice-k.result c.index-inputs-k.result.count)) (flat_map absent_lines (files_left c.args.words.now.files c.args.inputs.now (c.loop-k.k + 1)))
-      (absent-next (g.P.Report.lines c.args.report.now) (g.P.Report.lines c.loop-k.report) (lines_before c.args.words.now (reads_in c.args.inputs.now)) c.args.words.now.files c.args.inputs.now c.loop-k.k c.index-as_slice-k.result c.index-inputs-k.result here c.loop-k-test.true is c.index-inputs-k.is c.loop-k.invariant.way)
-      c.in_ok-say_absent_of.ensures.said;
+      let words = c.args.words.now in
+      let files = words.files in
+      let inputs = c.args.inputs.now in
+      let k = c.loop-k.k in
+      let file = c.file-item.result in
+      let input = c.index-inputs-k.result in
+      let all = lines_before words (reads_in inputs) in
+      let here : k < length files = omega (arith, ap length c.as_slice-file-items.ensures) in
+      let there : k < length inputs = omega (arith, c.requires) in
+      let is : file ≡ get_or files k file = c.file-item.is ∙ ap (λ (list : List FileWords). get_or list k file) c.as_slice-file-items.ensures in
+      SaysUpTo-more (g.P.Report.lines c.args.report.now) (g.P.Report.lines c.say_absent_of.new.report) (g.P.Report.lines c.say_absent_in.new.report) all (lines_absent_in words.order k file input.count) (flat_map (lines_absent words) (enumerate_from (k + 1) (files_left files inputs (k + 1))))
+      (SaysUpTo-more (g.P.Report.lines c.args.report.now) (g.P.Report.lines c.loop-k.report) (g.P.Report.lines c.say_absent_of.new.report) all (lines_absent_of file input.count) (lines_absent_in words.order k file input.count ++ flat_map (lines_absent words) (enumerate_from (k + 1) (files_left files inputs (k + 1))))
+      (absent-next words files inputs k file input here there is c.index-inputs-k.is (g.P.Report.lines c.args.report.now) (g.P.Report.lines c.loop-k.report) all c.loop-k.invariant.way)
+      c.in_ok-say_absent_of.ensures.said)
+      c.in_ok-say_absent_in.ensures.said;
 }
 
 -- All lines were printed.
 pub returns-clause-said : goal.returns-clause-said
 returns-clause-said g c =
-    let past : length c.args.words.now.files ≤ c.loop-k.k = omega arith in
-    absent-ends (g.P.Report.lines c.args.report.now) (g.P.Report.lines c.loop-k.report) (lines_before c.args.words.now (reads_in c.args.inputs.now)) c.args.words.now.files c.args.inputs.now c.loop-k.k past c.loop-k.invariant.way
+    let past : length c.args.words.now.files ≤ c.loop-k.k = omega (arith, ap length c.as_slice-file-items.ensures) in
+    absent-ends c.args.words.now (g.P.Report.lines c.args.report.now) (g.P.Report.lines c.loop-k.report) (lines_before c.args.words.now (reads_in c.args.inputs.now)) c.args.words.now.files c.args.inputs.now c.loop-k.k past c.loop-k.invariant.way
