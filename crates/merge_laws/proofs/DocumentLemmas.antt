@@ -49,8 +49,10 @@ use Rattle.requests.specs.Sound.{IsSoundMerge}
 use Rattle.merge_inputs.specs.declared.taken.TakenTrack.{TakenTrack}
 use Rattle.merge_plan.specs.Front.{front_of, reads_of}
 use Rattle.merge_plan.specs.Plan.{Source, limits_of, rules_given}
-use Rattle.merge_plan.specs.Records.{chapters_of, first_title, info_of, is_appended, tags_of, title_of, title_or, tracks_begun, tracks_of_output, tracks_taken}
+use Rattle.merge_plan.specs.Records.{chapters_of, first_title, info_of, is_appended, tags_of, title_of, title_or, tracks_begun, tracks_of_output, tracks_ordered, tracks_taken}
+use Rattle.merge_plan.proofs.OrderedLemmas.{ordered-all}
 use Rattle.merge_plan.proofs.PlanLemmas.{plan-few}
+use Rattle.merge_plan.proofs.RecordLemmas.{ordered-count}
 use Rattle.mkv_merge.specs.Merge.{chapters_in}
 use Rattle.mkv_merge.specs.Read.{is_split}
 use Rattle.mkv_merge.specs.Records.{HaveRecords, IsFilled}
@@ -288,50 +290,59 @@ tracks-are P (s ∷ ss) each =
     of true tracks = All-nil P
     of false tracks = tracks
 
--- These tracks can be written.
-pub all-tracks : (sources : List Source) → All IsReadSource sources → All IsReadTrack (tracks_taken (reads_of sources))
-all-tracks sources each = tracks-are IsReadTrack sources (All-weaker IsReadSource (λ (s : Source). All IsReadTrack s.1.taken) (λ s is. is.tracks) sources each)
+-- These tracks can be written, in any order.
+pub all-tracks : (order : List (ℕ × ℕ)) (sources : List Source) → All IsReadSource sources → All IsReadTrack (tracks_ordered order (reads_of sources))
+all-tracks order sources each =
+    ordered-all IsReadTrack order (reads_of sources) (tracks_taken (reads_of sources))
+    (tracks-are IsReadTrack sources (All-weaker IsReadSource (λ (s : Source). All IsReadTrack s.1.taken) (λ s is. is.tracks) sources each))
 
 -- ---- the document
 
 -- the document of the part `number`, with the attached files `files`
 abbrev pub document_with : MergeWords → List Source → ℕ → List Node → Part → Document
 document_with words sources number files part =
-    document_of (limits_of words) (rules_given (reads_of sources)) (record (front_of words sources) { info = with_uuids (uuids_at words.uuids words.link number) (front_of words sources).info; attachments = files }) (chapters_in words sources part) (tags_of (reads_of sources)) part.blocks
+    document_of (limits_of words) (rules_given words.order (reads_of sources)) (record (front_of words sources) { info = with_uuids (uuids_at words.uuids words.link number) (front_of words sources).info; attachments = files }) (chapters_in words sources part) (tags_of words.order (reads_of sources)) part.blocks
 
 -- The Chapters in a part can be written if they aren't too long.
-part-chapters : (words : MergeWords) (sources : List Source) (part : Part) → HaveRecords sources → IfSome (chapters_in words sources part) (IsRecordIfShort CHAPTERS)
+part-chapters : (words : MergeWords) (sources : List Source) (part : Part) → HaveRecords words sources → IfSome (chapters_in words sources part) (IsRecordIfShort CHAPTERS)
 part-chapters words sources part have = chapters-stand (is_split words) (stretch_of words.scale part.start part.end) (chapters_of (reads_of sources)) have.chapters
 
 -- Info, Tracks, Chapters and Tags have their IDs.
-pub document-ids : (words : MergeWords) (sources : List Source) (number : ℕ) (files : List Node) (part : Part) → HaveRecords sources → HasIds (document_with words sources number files part)
+pub document-ids : (words : MergeWords) (sources : List Source) (number : ℕ) (files : List Node) (part : Part) → HaveRecords words sources → HasIds (document_with words sources number files part)
 document-ids words sources number files part have = record {
   info = ap id_of (own-info (uuids_at words.uuids words.link number) words.scale (title_of words (reads_of sources)));
   tracks = refl;
   chapters = IfSome_then (chapters_in words sources part) (part-chapters words sources part have) (λ n is. is.read.id);
-  tags = IfSome_then (tags_of (reads_of sources)) have.tags (λ n is. is.id);
+  tags = IfSome_then (tags_of words.order (reads_of sources)) have.tags (λ n is. is.id);
 }
 
 module _ (words : MergeWords) (sources : List Source) (sound : IsSoundMerge words) (texts : AreTexts words) (are : AreSources words sources) where
   scale-small : words.scale < 2 ^ 64
   scale-small = let most = sound.scale.most in omega arith
 
-  tracks-few : length (tracks_taken (reads_of sources)) ≤ MAX_LANES
-  tracks-few = plan-few words (reads_of sources) are.unrefused
+  -- the tracks that begin output tracks, in the order of the output
+  abbrev tracks_in : List TakenTrack
+  tracks_in = tracks_ordered words.order (reads_of sources)
 
-  lanes-as_many : length (tracks.entries_of (tracks_of_output (reads_of sources))) ≡ length (lanes_selected words sources)
-  lanes-as_many = taken-lanes (tracks_taken (reads_of sources)) (all-tracks sources are.each) tracks-few ∙ sym (lanes-length words sources)
+  tracks-many : length tracks_in ≡ length (tracks_taken (reads_of sources))
+  tracks-many = ordered-count words.order (reads_of sources)
+
+  tracks-few : length tracks_in ≤ MAX_LANES
+  tracks-few = let few = plan-few words (reads_of sources) are.unrefused in let many = tracks-many in omega arith
+
+  lanes-as_many : length (tracks.entries_of (tracks_of_output words.order (reads_of sources))) ≡ length (lanes_selected words sources)
+  lanes-as_many = taken-lanes tracks_in (all-tracks words.order sources are.each) tracks-few ∙ tracks-many ∙ sym (lanes-length words sources)
 
   -- Its tracks have the ContentEncodings of tracks that are taken as they are stored, and no others.
-  pub document-encodings : AllZip HasEncodingsOf (tracks_taken (reads_of sources)) (tracks.entries_of (tracks_of_output (reads_of sources)))
-  document-encodings = taken-encodings (tracks_taken (reads_of sources)) (all-tracks sources are.each) tracks-few
+  pub document-encodings : AllZip HasEncodingsOf tracks_in (tracks.entries_of (tracks_of_output words.order (reads_of sources)))
+  document-encodings = taken-encodings tracks_in (all-tracks words.order sources are.each) tracks-few
 
   -- The scale of its Info is the scale on the command line.
   pub document-scale : (number : ℕ) → scale_of (with_uuids (uuids_at words.uuids words.link number) (info_of words (reads_of sources))) ≡ words.scale
   document-scale number = own-scale (uuids_at words.uuids words.link number) words.scale (title_of words (reads_of sources)) ∙ info-scale words.scale (title_of words (reads_of sources)) scale-small
 
   -- It is valid if its records can be written and its blocks belong to the output tracks.
-  pub document-sound : (number : ℕ) (files : List Node) (part : Part) → HaveRecords sources → All IsFilled files → All (IsOf (length (lanes_selected words sources))) part.blocks
+  pub document-sound : (number : ℕ) (files : List Node) (part : Part) → HaveRecords words sources → All IsFilled files → All (IsOf (length (lanes_selected words sources))) part.blocks
       → length (layout (document_with words sources number files part)) ≤ LONGEST_FILE → IsSoundDocument (document_with words sources number files part)
   document-sound number files part have filled blocks short =
       let d : Document = document_with words sources number files part in
@@ -342,10 +353,10 @@ module _ (words : MergeWords) (sources : List Source) (sound : IsSoundMerge word
         info = told-record d.front.info d.front.lasting (own-record (uuids_at words.uuids words.link number) words.scale (title_of words (reads_of sources)) scale-small text (omega (arith, info-short d is_master)))
             (omega (arith, info-short d is_master));
         scale = omega (arith, document-scale number);
-        tracks = taken-tracks (tracks_taken (reads_of sources)) (all-tracks sources are.each) tracks-few (omega (arith, tracks-short d));
+        tracks = taken-tracks tracks_in (all-tracks words.order sources are.each) tracks-few (omega (arith, tracks-short d));
         attachments = files-sound (length (layout d)) files (omega arith) filled (files-short d);
         clusters = subst (λ (n : ℕ). All (IsSoundCluster n) d.clusters) (sym lanes-as_many) (clusters-sound (length (lanes_selected words sources)) (limits_of words) part.blocks blocks);
-        cued = is_cue (rules_given (reads_of sources));
+        cued = is_cue (rules_given words.order (reads_of sources));
         cues = refl;
         chapters = record-short CHAPTERS (length (layout d)) d.chapters (omega arith) (part-chapters words sources part have) (chapters-short d);
         tags = have.tags;

@@ -14,9 +14,10 @@ use Rattle.output_laws.specs.Read.{IsReadBlock, IsPlacing, LEAST_SCALE}
 use Rattle.output_laws.proofs.SoundLemmas.{placed-sound}
 use Rattle.merge_plan.specs.Front.{reads_of}
 use Rattle.requests.specs.declared.merge.MergeWords.{MergeWords}
-use Rattle.merge_plan.specs.Plan.{Source, given_from, given_of, lanes_given, lanes_taken, append_offset}
-use Rattle.merge_plan.specs.Records.{is_appended, tracks_begun, tracks_taken}
-use Rattle.merge_plan.proofs.ChainLemmas.{begins, lanes-all, lanes-first}
+use Rattle.merge_plan.specs.Plan.{Source, given_of, lanes_given, lanes_ordered, lanes_taken}
+use Rattle.merge_plan.specs.Records.{is_appended, tracks_taken}
+use Rattle.merge_plan.proofs.ChainLemmas.{lanes-all}
+use Rattle.merge_plan.proofs.OrderedLemmas.{lanes-many, lanes-ordered-count, ordered-all}
 use Rattle.merge_laws.specs.Sources.{IsReadSource}
 use Rattle.merge_laws.proofs.GivenLemmas.{CanBePlaced, given-placed}
 
@@ -57,57 +58,27 @@ module _ (P : OutputBlock → Type 0) (scale : ℕ) (holds : (p : Placing) (b : 
       of true rest = All-nil P
       of false rest = rest
 
-  lanes-hold : (b : Bool) (sources : List Source) → All IsReadSource sources → All (All P) (map (lane_blocks scale) (map (map (going_on b)) (lanes_given sources)))
-  lanes-hold b sources each =
-      All-map (All P) (lane_blocks scale) (map (map (going_on b)) (lanes_given sources))
-      (All-map (λ (gs : List Given). All P (lane_blocks scale gs)) (map (going_on b)) (lanes_given sources)
-      (All-weaker (All GivenHolds) (λ (gs : List Given). All P (lane_blocks scale (map (going_on b) gs))) (lane-holds b) (lanes_given sources)
-      (lanes-all GivenHolds (λ (s : Source). is_appended s.1) given_of IsReadSource source-holds sources each)))
+  lanes-hold : (b : Bool) (order : List (ℕ × ℕ)) (sources : List Source) → All IsReadSource sources → All (All P) (map (lane_blocks scale) (map (map (going_on b)) (lanes_ordered order sources)))
+  lanes-hold b order sources each =
+      All-map (All P) (lane_blocks scale) (map (map (going_on b)) (lanes_ordered order sources))
+      (All-map (λ (gs : List Given). All P (lane_blocks scale gs)) (map (going_on b)) (lanes_ordered order sources)
+      (All-weaker (All GivenHolds) (λ (gs : List Given). All P (lane_blocks scale (map (going_on b) gs))) (lane-holds b) (lanes_ordered order sources)
+      (ordered-all (All GivenHolds) order (reads_of sources) (lanes_given sources) (lanes-all GivenHolds (λ (s : Source). is_appended s.1) given_of IsReadSource source-holds sources each))))
 
 -- Each block of an output track is valid.
 pub lanes-sound : (words : MergeWords) (sources : List Source) → LEAST_SCALE ≤ words.scale → All IsReadSource sources → All (All IsSoundBlock) (map (lane_blocks words.scale) (lanes_taken words sources))
-lanes-sound words sources least each = lanes-hold IsSoundBlock words.scale (λ p b placing read. placed-sound words.scale p b least placing read) words.append_damaged sources each
+lanes-sound words sources least each = lanes-hold IsSoundBlock words.scale (λ p b placing read. placed-sound words.scale p b least placing read) words.append_damaged words.order sources each
 
 -- No block has an output track yet.
 pub lanes-free : (words : MergeWords) (sources : List Source) → All IsReadSource sources → All (All HasNoLane) (map (lane_blocks words.scale) (lanes_taken words sources))
-lanes-free words sources each = lanes-hold HasNoLane words.scale (λ p b placing read. no-lane words.scale p b) words.append_damaged sources each
+lanes-free words sources each = lanes-hold HasNoLane words.scale (λ p b placing read. no-lane words.scale p b) words.append_damaged words.order sources each
 
 -- ---- number of output tracks
 
--- a source that is appended
-abbrev goes_on : Source → Bool
-goes_on s = is_appended s.1
-
-begun-count : (sources : List Source) → length (flat_map (begins goes_on given_of) sources) ≡ length (tracks_taken (reads_of sources))
-begun-count [] = refl
-begun-count (s ∷ ss) =
-    length-append (begins goes_on given_of s) (flat_map (begins goes_on given_of) ss)
-    ∙ ap₂ (λ m n. m + n) (of (goes_on s)) (begun-count ss)
-    ∙ sym (length-append (tracks_begun s.1) (tracks_taken (reads_of ss)))
-  where
-    of : (b : Bool) → length (if b then [] else given_of s) ≡ length (if b then [] else s.1.taken)
-    of true = refl
-    of false = length-map s.1.taken (given_from s.1.times (append_offset s.1) s.1.blocks s.0)
-
--- 1 for each output track, and for each link that begins one
-abbrev of_lane : List Given → ℕ
-of_lane gs = 0
-
-abbrev of_link : Given → ℕ
-of_link g = 0
-
--- There is one for each track that begins an output track.
-pub lanes-count : (sources : List Source) → length (lanes_given sources) ≡ length (tracks_taken (reads_of sources))
-lanes-count sources =
-    sym (length-map (lanes_given sources) of_lane)
-    ∙ ap length (lanes-first goes_on given_of of_lane of_link (λ g gs. refl) sources)
-    ∙ length-map (flat_map (begins goes_on given_of) sources) of_link
-    ∙ begun-count sources
-
 -- There are as many with the option to go on after damage as without it.
 pub lanes-as_many : (words : MergeWords) (sources : List Source) → length (lanes_taken words sources) ≡ length (lanes_given sources)
-lanes-as_many words sources = length-map (lanes_given sources) (map (going_on words.append_damaged))
+lanes-as_many words sources = length-map (lanes_ordered words.order sources) (map (going_on words.append_damaged)) ∙ lanes-ordered-count words.order sources
 
 -- The lists of their blocks have the same number.
 pub lanes-length : (words : MergeWords) (sources : List Source) → length (map (lane_blocks words.scale) (lanes_taken words sources)) ≡ length (tracks_taken (reads_of sources))
-lanes-length words sources = length-map (lanes_taken words sources) (lane_blocks words.scale) ∙ lanes-as_many words sources ∙ lanes-count sources
+lanes-length words sources = length-map (lanes_taken words sources) (lane_blocks words.scale) ∙ lanes-as_many words sources ∙ lanes-many sources

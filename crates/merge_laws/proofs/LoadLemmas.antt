@@ -32,4 +32,4 @@ module _ (starts : List ℕ) (scale : ℕ) (drives : ℕ → Bool) (blocks : Lis
 
 pub loads-kept : (words : MergeWords) (sources : List Source) → IsSoundMerge words → IfSome (size_of words.split) (KeepsLimit (split_of words sources) (blocks_of words sources))
 loads-kept words sources sound =
-    limit-kept (starts_in (chapters_of (reads_of sources))) words.scale (drives_by (drives_given (reads_of sources))) (blocks_of words sources) words.split sound.split
+    limit-kept (starts_in (chapters_of (reads_of sources))) words.scale (drives_by (drives_given words.order (reads_of sources))) (blocks_of words sources) words.split sound.split

@@ -64,7 +64,7 @@ drafts-laid (o ∷ os) become =
 
 -- ---- written documents
 
-module _ (words : MergeWords) (sources : List Source) (sound : IsSoundMerge words) (texts : AreTexts words) (are : AreSources words sources) (have : HaveRecords sources) where
+module _ (words : MergeWords) (sources : List Source) (sound : IsSoundMerge words) (texts : AreTexts words) (are : AreSources words sources) (have : HaveRecords words sources) where
   module _ (number : ℕ) (files : List Node) (part : Part) (filled : All IsFilled files) (is : IsPartOf words sources part) where
     abbrev document : Document
     document = document_with words sources number files part

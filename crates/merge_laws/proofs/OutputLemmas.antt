@@ -87,7 +87,7 @@ module _ (words : MergeWords) (sources : List Source) (sound : IsSoundMerge word
       (numbered-are (number + 1) ps (All-tail (IsPartOf words sources) part ps each))
 
   -- A fact about the output of each part, with any attached files, holds for all outputs.
-  pub outputs-hold : (P : PlannedOutput → Type 0) → HaveRecords sources
+  pub outputs-hold : (P : PlannedOutput → Type 0) → HaveRecords words sources
       → ((number : ℕ) (files : List Node) (part : Part) → All IsFilled files → IsPartOf words sources part → P (output_with words sources number files part)) → All P (outputs_of words sources)
   outputs-hold P have holds =
       All-map P (output_at words sources) (enumerate_from 1 (parts_of words sources))
@@ -99,7 +99,7 @@ module _ (words : MergeWords) (sources : List Source) (sound : IsSoundMerge word
           of : (first : Bool) → P (record {
             name = name_of (is_split words) words.output each.0;
             blocks = each.1.blocks;
-            document = document_of (limits_of words) (rules_given (reads_of sources)) (record (front_of words sources) { info = with_uuids (uuids_at words.uuids words.link each.0) (front_of words sources).info; attachments = if first then (front_of words sources).attachments else [] }) (chapters_in words sources each.1) (tags_of (reads_of sources)) each.1.blocks;
+            document = document_of (limits_of words) (rules_given words.order (reads_of sources)) (record (front_of words sources) { info = with_uuids (uuids_at words.uuids words.link each.0) (front_of words sources).info; attachments = if first then (front_of words sources).attachments else [] }) (chapters_in words sources each.1) (tags_of words.order (reads_of sources)) each.1.blocks;
           })
           of true = holds each.0 (attachments_of sources) each.1 have.attachments is
           of false = holds each.0 [] each.1 (All-nil IsFilled) is

@@ -8,7 +8,7 @@ use Rattle.remux_plan.specs.Parts.{PlannedOutput}
 use Rattle.requests.specs.declared.merge.MergeWords.{MergeWords}
 use Rattle.requests.specs.Sound.{IsSoundMerge}
 use Rattle.merge_model.specs.Links.{Given, given_blocks}
-use Rattle.merge_plan.specs.Plan.{Source, lanes_given, lanes_taken}
+use Rattle.merge_plan.specs.Plan.{Source, lanes_given, lanes_ordered, lanes_taken}
 use Rattle.mkv_merge.specs.Merge.{blocks_of, outputs_of, sources_of}
 use Rattle.mkv_merge.specs.Records.{HaveRecords}
 use Rattle.merge_laws.specs.Merge.{HoldsOutput, lanes_selected}
@@ -32,14 +32,14 @@ SelectedBlocksAreSound =
 -- be valid. It is the law `merged_documents_are_sound`.
 abbrev pub MergedDocumentsAreSound : Type 0
 MergedDocumentsAreSound =
-    (words : MergeWords) (sources : List Source) → IsSoundMerge words → AreTexts words → AreSources words sources → HaveRecords sources
+    (words : MergeWords) (sources : List Source) → IsSoundMerge words → AreTexts words → AreSources words sources → HaveRecords words sources
     → All (λ (o : PlannedOutput). length (layout o.document) ≤ LONGEST_FILE → IsSoundDocument o.document) (outputs_of words sources)
 
 -- The bytes of each output's document hold the output of the merge `words`, if they are at most 2^48. The records of `sources` must be valid. It is
 -- the law `layouts_hold_outputs`.
 abbrev pub LayoutsHoldOutputs : Type 0
 LayoutsHoldOutputs =
-    (words : MergeWords) (sources : List Source) → IsSoundMerge words → AreTexts words → AreSources words sources → HaveRecords sources
+    (words : MergeWords) (sources : List Source) → IsSoundMerge words → AreTexts words → AreSources words sources → HaveRecords words sources
     → All (λ (o : PlannedOutput). length (layout o.document) ≤ LONGEST_FILE → HoldsOutput words sources o (layout o.document)) (outputs_of words sources)
 
 -- the name of the planned output `o`, and its blocks in order. The law that a merge without `--split` has one output compares only this pair, and so
@@ -63,11 +63,11 @@ NeverStops g = g.stops ≡ false
 -- the law `undamaged_lanes_stay`.
 abbrev pub UndamagedLanesStay : Type 0
 UndamagedLanesStay =
-    (words : MergeWords) (sources : List Source) → All (All NeverStops) (lanes_given sources) → lanes_taken words sources ≡ lanes_given sources
+    (words : MergeWords) (sources : List Source) → All (All NeverStops) (lanes_given sources) → lanes_taken words sources ≡ lanes_ordered words.order sources
 
 -- If the merge `words` has `--append-damaged`, all blocks of all links of each output track are selected, with ticks of `words.scale` nanoseconds.
 -- `sources` are its inputs. It is the law `damaged_lanes_go_on`.
 abbrev pub DamagedLanesGoOn : Type 0
 DamagedLanesGoOn =
     (words : MergeWords) (sources : List Source) → words.append_damaged ≡ true
-    → lanes_selected words sources ≡ map (λ (gs : List Given). flat_map (given_blocks words.scale) gs) (lanes_given sources)
+    → lanes_selected words sources ≡ map (λ (gs : List Given). flat_map (given_blocks words.scale) gs) (lanes_ordered words.order sources)

@@ -29,7 +29,7 @@ use Rattle.requests.specs.declared.merge.MergeWords.{MergeWords}
 use Rattle.merge_inputs.specs.declared.taken.TakenTrack.{TakenTrack}
 use Rattle.merge_plan.specs.Front.{reads_of}
 use Rattle.merge_plan.specs.Plan.{Source, lanes_given, lanes_taken}
-use Rattle.merge_plan.specs.Records.{tracks_taken}
+use Rattle.merge_plan.specs.Records.{tracks_ordered}
 use Rattle.mkv_args.specs.Words.{command}
 use Rattle.mkv_args.specs.declared.command.Command.TheVariants.{Merge}
 use Rattle.mkv_merge.specs.Merge.{blocks_of, outputs_of, sources_of, split_of}
@@ -78,7 +78,7 @@ HasEncodingsOf t entry = part CONTENT_ENCODINGS (children entry) ≡ (if t.track
 -- each once and in order. They keep their frames, laces and flags; timestamps, durations and references have the nanoseconds of their ticks.
 pub record HoldsOutput (words : MergeWords) (sources : List Source) (o : PlannedOutput) (bytes : List ℕ) : Type 0 where
   pub document : IsReadAs o.document bytes
-  pub encodings : AllZip HasEncodingsOf (tracks_taken (reads_of sources)) (entries_of o.document.front.tracks)
+  pub encodings : AllZip HasEncodingsOf (tracks_ordered words.order (reads_of sources)) (entries_of o.document.front.tracks)
   pub blocks : blocks_held o bytes ≡ map (block_in_place words.scale 0) o.blocks
 
 -- If the merge `words` of `sources` isn't split, the content `bytes` of its output `o` has the selected blocks of each output track. `IsMerged`
@@ -119,7 +119,7 @@ laid_out o = record { name = o.name; content = layout o.document }
 pub record IsMerged (world : List ℕ → Option (List ℕ)) (words : MergeWords) (new : Names) : Type 0 where
   pub sources : List Source
   pub taken : sources_of world words ≡ Ok sources
-  pub records : HaveRecords sources
+  pub records : HaveRecords words sources
   pub short : AreShort words sources
   pub sound : All (λ (o : PlannedOutput). IsSoundDocument o.document) (outputs_of words sources)
   pub written : new ≡ with_outputs (Some world) (map laid_out (outputs_of words sources))
