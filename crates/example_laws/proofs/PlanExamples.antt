@@ -17,6 +17,9 @@ lanes = record {
   all_drive = refl;
   inputs = refl;
   no_inputs = refl;
+  ordered_uids = refl;
+  ordered_inputs = refl;
+  ordered_drives = refl;
 }
 
 pub places : ArePlaced

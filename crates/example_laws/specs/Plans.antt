@@ -11,11 +11,12 @@ use Rattle.requests.specs.Plain.{plain_words}
 use Rattle.requests.specs.declared.merge.MergeWords.{MergeWords}
 use Rattle.merge_inputs.specs.Input.{Entries, InputRead}
 use Rattle.merge_inputs.specs.declared.taken.TakenTrack.{TakenTrack}
+use Rattle.merge_plan.specs.declared.refusal.PlanRefusal.{PlanRefusal}
 use Rattle.merge_plan.specs.declared.refusal.PlanRefusal.TheVariants.{NoLane, NotWebm}
 use Rattle.merge_plan.specs.Appending.{append_refusal, differs_at}
 use Rattle.merge_plan.specs.Places.{end_of, in_place}
-use Rattle.merge_plan.specs.Plan.{Source, drives_given, inputs_given, rule_of, rules_given}
-use Rattle.merge_plan.specs.Records.{info_of, title_of, tracks_of_output, tracks_taken, uids_of}
+use Rattle.merge_plan.specs.Plan.{Source, drives_given, inputs_given, inputs_taken, rule_of, rules_given}
+use Rattle.merge_plan.specs.Records.{info_of, title_of, tracks_of_output, tracks_ordered, tracks_taken, uids_of}
 use Rattle.merge_plan.specs.Refusal.{lanes_refusal}
 
 -- ---- command lines, tracks and inputs
@@ -117,17 +118,23 @@ pub record AreLanes : Type 0 where
   -- Tracks of an appended input begin no output track.
   pub appended_uids : uids_of (tracks_taken (first (audio 5 ∷ []) ∷ behind (audio 5 ∷ []) ∷ [])) ≡ 5 ∷ []
   -- By default keyframes of video and subtitle tracks get cue points, and audio tracks get none.
-  pub rules : rules_given film ≡ Key ∷ Never ∷ Key ∷ Key ∷ []
+  pub rules : rules_given [] film ≡ Key ∷ Never ∷ Key ∷ Key ∷ []
   pub all : rule_of (taken 5 2 (codes "A_OPUS") (pos 0) (Some cue_word.All)) ≡ All
   pub never : rule_of (taken 5 1 (codes "V_VP8") (pos 0) (Some cue_word.Never)) ≡ Never
   -- The first video track drives; without video every output track does.
-  pub drives : drives_given (first (audio 1 ∷ video 2 ∷ video 3 ∷ []) ∷ []) ≡ false ∷ true ∷ false ∷ []
-  pub all_drive : drives_given (first (audio 1 ∷ subtitles 2 ∷ []) ∷ []) ≡ true ∷ true ∷ []
+  pub drives : drives_given [] (first (audio 1 ∷ video 2 ∷ video 3 ∷ []) ∷ []) ≡ false ∷ true ∷ false ∷ []
+  pub all_drive : drives_given [] (first (audio 1 ∷ subtitles 2 ∷ []) ∷ []) ≡ true ∷ true ∷ []
   -- Appended inputs continue the output tracks of the previous input, place by place.
   pub inputs :
       inputs_given 0 (first (audio 1 ∷ video 2 ∷ []) ∷ behind (audio 1 ∷ video 2 ∷ []) ∷ first (audio 1 ∷ []) ∷ [])
       ≡ (0 ∷ 1 ∷ []) ∷ (0 ∷ 1 ∷ []) ∷ (2 ∷ []) ∷ []
   pub no_inputs : inputs_given 0 [] ≡ []
+  -- A track that an order names comes first, and keeps the inputs that continue it. The first video track in this order drives.
+  pub ordered_uids : uids_of (tracks_ordered ((1, 0) ∷ []) film) ≡ 1 ∷ 11 ∷ 12 ∷ 14 ∷ []
+  pub ordered_inputs :
+      inputs_taken ((2, 0) ∷ []) (first (audio 1 ∷ []) ∷ behind (audio 1 ∷ []) ∷ first (audio 1 ∷ []) ∷ [])
+      ≡ (2 ∷ []) ∷ (0 ∷ 1 ∷ []) ∷ []
+  pub ordered_drives : drives_given ((1, 0) ∷ []) (first (audio 1 ∷ video 2 ∷ []) ∷ first (video 3 ∷ []) ∷ []) ≡ true ∷ false ∷ false ∷ []
 
 -- ---- append offsets
 
@@ -170,6 +177,10 @@ written number uid =
     0xAE ∷ 0x92 ∷ 0xD7 ∷ 0x81 ∷ number ∷ 0x73 ∷ 0xC5 ∷ 0x81 ∷ uid ∷
     0x83 ∷ 0x81 ∷ 2 ∷ 0x86 ∷ 0x86 ∷ codes "A_OPUS"
 
+-- the refusal of a WebM output of the tracks `tracks`, in their order, or None, for the examples of `merge`
+abbrev pub webm_refusal : List TakenTrack → Option PlanRefusal
+webm_refusal tracks = lanes_refusal true tracks tracks
+
 -- Examples of the Info and Tracks that small merges plan, and of merges that are refused. Used by `records_are_planned_so`.
 pub record AreRecords : Type 0 where
   -- The title is the command line's, or else the first title of an input that isn't empty.
@@ -179,7 +190,7 @@ pub record AreRecords : Type 0 where
   pub taken_away : content (info_of (words (Some [])) (titled (codes "b") ∷ []))
       ≡ (0x2A ∷ 0xD7 ∷ 0xB1 ∷ 0x83 ∷ 0x0F ∷ 0x42 ∷ 0x40 ∷ []) ++ applications
   -- Entries get the number of their output track and their identifier in place, and lose ContentEncodings.
-  pub tracks : content (tracks_of_output (first (audio 5 ∷ []) ∷ first (audio 5 ∷ []) ∷ [])) ≡ written 1 5 ++ written 2 1
+  pub tracks : content (tracks_of_output [] (first (audio 5 ∷ []) ∷ first (audio 5 ∷ []) ∷ [])) ≡ written 1 5 ++ written 2 1
   -- An appended input must have equally many tracks of the same kinds.
   pub other_type : append_refusal (first (audio 5 ∷ []) ∷ behind (video 7 ∷ []) ∷ []) ≡ Some (differs_at 1 0x83)
   pub more_tracks : append_refusal (first (audio 5 ∷ []) ∷ behind (audio 5 ∷ audio 6 ∷ []) ∷ [])
@@ -189,8 +200,8 @@ pub record AreRecords : Type 0 where
   pub kept_by_one : append_refusal (first (stored (audio 5) ∷ []) ∷ behind (audio 7 ∷ []) ∷ []) ≡ Some (differs_at 1 0x6D80)
   pub kept_by_both : append_refusal (first (stored (audio 5) ∷ []) ∷ behind (stored (audio 7) ∷ []) ∷ []) ≡ None
   -- A merge needs an output track, and WebM allows only certain codecs.
-  pub no_lane : lanes_refusal true [] ≡ Some NoLane
-  pub not_webm : lanes_refusal true (audio 5 ∷ taken 6 2 (codes "A_AC3") (pos 0) None ∷ [])
+  pub no_lane : webm_refusal [] ≡ Some NoLane
+  pub not_webm : webm_refusal (audio 5 ∷ taken 6 2 (codes "A_AC3") (pos 0) None ∷ [])
       ≡ Some (NotWebm (codes "A_AC3"))
-  pub webm : lanes_refusal true (audio 5 ∷ []) ≡ None
-  pub stored_webm : lanes_refusal true (stored (audio 5) ∷ []) ≡ Some (NotWebm (codes "A_OPUS"))
+  pub webm : webm_refusal (audio 5 ∷ []) ≡ None
+  pub stored_webm : webm_refusal (stored (audio 5) ∷ []) ≡ Some (NotWebm (codes "A_OPUS"))

@@ -37,7 +37,7 @@ pub record IsMergeOutput (duration : Bool) (bytes : List ℕ) : Type 0 where
   pub lasting : words.duration ≡ duration
   pub sources : List Source
   pub taken : sources_of world words ≡ Ok sources
-  pub records : HaveRecords sources
+  pub records : HaveRecords words sources
   pub later : EndsAfterStart (whole_document words sources)
   pub written : map (λ (o : PlannedOutput). layout o.document) (outputs_of words sources) ≡ bytes ∷ []
 

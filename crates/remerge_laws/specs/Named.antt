@@ -24,14 +24,16 @@ named_by ids id =
 abbrev pub NamesOneOf : Identifiers → Node → Type 0
 NamesOneOf ids target = Contains (named_by ids (id_of target)) (integer_of target)
 
--- the Tags that a merge of the inputs `reads` writes, in one Tags Element. Used by the law on the Targets of joined Tags.
-abbrev pub tags_joined : List InputRead → Node
-tags_joined reads = joined_tags (numbers_of (records_of reads)) (records_of reads)
+-- the Tags that a merge of the inputs `reads` writes, in one Tags Element; `order` gives the order of the output's tracks. Used by the law on the
+-- Targets of joined Tags.
+abbrev pub tags_joined : List (ℕ × ℕ) → List InputRead → Node
+tags_joined order reads = joined_tags (numbers_of (records_of order reads)) (records_of order reads)
 
 -- Each Tag that a merge of the inputs `reads` writes was written from an input's Tag. Its Targets name tracks, editions, chapters and attached files
--- that the output has, also after it is read at the offset `place`. The output's identifiers must have 64 bits. The law `joined_tags_name_the_output`
--- states it.
+-- that the output has, also after it is read at the offset `place`. `order` gives the order of the output's tracks, and its identifiers must have 64
+-- bits. The law `joined_tags_name_the_output` states it.
 pub record JoinedTagsNameTheOutput : Type 0 where
-  pub written : (reads : List InputRead) → Have64Bits (identifiers_of reads) → All IsWrittenTag (tags_from (numbers_of (records_of reads)) (records_of reads))
-  pub named : (reads : List InputRead) (place : ℕ) → Have64Bits (identifiers_of reads)
-      → All (NamesOneOf (identifiers_of reads)) (targets_of (placed place (tags_joined reads)))
+  pub written : (order : List (ℕ × ℕ)) (reads : List InputRead) → Have64Bits (identifiers_of order reads)
+      → All IsWrittenTag (tags_from (numbers_of (records_of order reads)) (records_of order reads))
+  pub named : (order : List (ℕ × ℕ)) (reads : List InputRead) (place : ℕ) → Have64Bits (identifiers_of order reads)
+      → All (NamesOneOf (identifiers_of order reads)) (targets_of (placed place (tags_joined order reads)))

@@ -15,8 +15,8 @@ use Rattle.remerge_laws.specs.Limits.{RecordsAreSmall}
 -- around them. Used by the laws on an output that is merged by itself.
 abbrev pub whole_document : MergeWords → List Source → Document
 whole_document words sources =
-    document_of (limits_of words) (rules_given (reads_of sources)) (front_of words sources) (chapters_of (reads_of sources)) (tags_of (reads_of sources))
-    (blocks_of words sources)
+    document_of (limits_of words) (rules_given words.order (reads_of sources)) (front_of words sources) (chapters_of (reads_of sources))
+    (tags_of words.order (reads_of sources)) (blocks_of words sources)
 
 -- A merge `words` of `sources` without `--split` and `--segment-uid` has one output, with all blocks and the document `whole_document`. The law
 -- `whole_merges_have_one_document` states it.
