@@ -1,4 +1,4 @@
--- Numbers that are appended, and files with the items before them.
+-- Numbers that are appended, and files and attached files with the items before them.
 use Rattle.std.proofs.Common.{◌≡◌, ℕ, suc, ◌+◌, ◌-◌, ◌<◌, ◌≤◌, Bool, true, false, not, ◌||◌, ◌==◌, if◌then◌else◌, List, [], ◌∷◌, ◌++◌, length, map, take, drop, get_or, refl, sym, ap, ◌∙◌, arith, drop-cons, append_assoc, append-nil, add-one, length-drop}
 use Rattle.std.proofs.lemmas.Bool.Decides.{nat_tests}
 use Rattle.std.proofs.lemmas.Grind.{common_steps}
@@ -6,9 +6,14 @@ use Rattle.std.proofs.lemmas.List.Elements.{filter-append}
 use Rattle.std.proofs.lemmas.Map.Views.{any-filter_same}
 use Rattle.std.specs.List.{filter, flat_map, list_any, onto_first, slice_split, zip}
 use Rattle.merge_words.specs.declared.item.Item.{Item}
-use Rattle.merge_words.specs.Items.{is_file}
+use Rattle.word_values.specs.declared.values.Value.{Value}
+use Rattle.merge_words.specs.declared.options.Subject.{Subject}
+use Rattle.merge_words.specs.declared.options.Subject.TheVariants as subject
+use Rattle.merge_words.proofs.ItemsLemmas.{is_of}
 use Rattle.merge_words.specs.Files.{ids_of, once, with_new, without, file, files}
+use Rattle.merge_words.specs.Attached.{attached_file, attached}
 use Rattle.requests.specs.declared.merge.FileWords.{FileWords}
+use Rattle.requests.specs.declared.merge.AttachedWords.{AttachedWords}
 use Rattle.std.proofs.Math.Seq.{take-suc}
 
 -- ---- numbers that occur once
@@ -60,19 +65,10 @@ pub named_next : (list : List ℕ) (items : List Item) (k : ℕ) (i : Item) → 
     with_new (with_new list (ids_of i.value)) (flat_map (λ (j : Item). ids_of j.value) (drop (k + 1) items)) ≡ with_new list (flat_map (λ (j : Item). ids_of j.value) (drop k items))
 named_next list items k i within is = rw (here items k i within is) (sym (with_new_append list (ids_of i.value) (flat_map (λ (j : Item). ids_of j.value) (drop (k + 1) items))))
 
--- ---- files
--- the files of the items, after a group of items before the first
-abbrev pub files_from : List Item → List Item → List FileWords
-files_from group [] = []
-files_from group (i ∷ is) = if is_file i then file group i.value ∷ files_from [] is else files_from (group ++ i ∷ []) is
-
 -- a group before the first part
 abbrev behind : List Item → List (List Item) → List (List Item)
 behind group [] = group ∷ []
 behind group (part ∷ parts) = (group ++ part) ∷ parts
-
-abbrev with_groups : List (List Item) → List Item → List FileWords
-with_groups parts named = map (λ (f : List Item × Item). file f.0 f.1.value) (zip parts named)
 
 behind_more : (group : List Item) (i : Item) (parts : List (List Item)) → behind group (onto_first i parts) ≡ behind (group ++ i ∷ []) parts
 behind_more group i [] = refl
@@ -81,28 +77,6 @@ behind_more group i (part ∷ parts) = ap (λ l. l ∷ parts) (sym (append_assoc
 none_behind : (i : Item) (parts : List (List Item)) → behind [] (onto_first i parts) ≡ onto_first i parts
 none_behind i [] = refl
 none_behind i (part ∷ parts) = refl
-
-parts_behind : (items : List Item) → behind [] (slice_split is_file items) ≡ slice_split is_file items
-parts_behind [] = refl
-parts_behind (i ∷ is) = choose (is_file i) refl
-  where
-    choose : (b : Bool) → is_file i ≡ b → behind [] (slice_split is_file (i ∷ is)) ≡ slice_split is_file (i ∷ is)
-    choose true named = rw named refl
-    choose false other = rw other (none_behind i (slice_split is_file is))
-
-parted : (group items : List Item) → with_groups (behind group (slice_split is_file items)) (filter is_file items) ≡ files_from group items
-parted group [] = refl
-parted group (i ∷ is) = choose (is_file i) refl (ap (λ parts. with_groups parts (filter is_file is)) (sym (parts_behind is)) ∙ parted [] is) (parted (group ++ i ∷ []) is)
-  where
-    choose : (b : Bool) → is_file i ≡ b → with_groups (slice_split is_file is) (filter is_file is) ≡ files_from [] is
-        → with_groups (behind (group ++ i ∷ []) (slice_split is_file is)) (filter is_file is) ≡ files_from (group ++ i ∷ []) is
-        → with_groups (behind group (slice_split is_file (i ∷ is))) (filter is_file (i ∷ is)) ≡ files_from group (i ∷ is)
-    choose true named behind_it joined = rw named (rw (append-nil group) (ap (λ l. file group i.value ∷ l) behind_it))
-    choose false other behind_it joined = rw other (rw (behind_more group i (slice_split is_file is)) joined)
-
--- Both definitions of the files agree.
-pub parted_files : (items : List Item) → files items ≡ files_from [] items
-parted_files items = ap (λ parts. with_groups parts (filter is_file items)) (sym (parts_behind items)) ∙ parted [] items
 
 -- An item joins the group.
 group_more : (items : List Item) (start k : ℕ) (i : Item) → start ≤ k → k < length items → i ≡ get_or items k i →
@@ -113,15 +87,64 @@ group_more items start k i low within is =
     let last : get_or (drop start items) (k - start) i ≡ i = grind (arith, common_steps) in
     rw (one_more, take-suc (drop start items) (k - start) i inside, last)
 
--- An item that names no file joins the group.
-pub files_join : (all : List FileWords) (items : List Item) (start k : ℕ) (i : Item) → start ≤ k → k < length items → i ≡ get_or items k i → is_file i ≡ false →
-    all ++ files_from (take (k + 1 - start) (drop start items)) (drop (k + 1) items) ≡ all ++ files_from (take (k - start) (drop start items)) (drop k items)
-files_join all items start k i low within is other =
-    rw (group_more items start k i low within is, here items k i within is, other)
+-- ---- files, and attached files
+-- Each item with the subject `t` takes the items between the previous one and itself, its group. `make` gives what they make.
+module _ {X : Type 0} (t : Subject) (make : List Item → Value → X) where
+  -- what the items make, after a group of items before the first
+  abbrev pub made_from : List Item → List Item → List X
+  made_from group [] = []
+  made_from group (i ∷ is) = if is_of t i then make group i.value ∷ made_from [] is else made_from (group ++ i ∷ []) is
 
--- A file takes the group.
-pub files_take : (all : List FileWords) (items : List Item) (start k : ℕ) (i : Item) → k < length items → i ≡ get_or items k i → is_file i ≡ true →
-    (all ++ file (take (k - start) (drop start items)) i.value ∷ []) ++ files_from (take (k + 1 - (k + 1)) (drop (k + 1) items)) (drop (k + 1) items) ≡ all ++ files_from (take (k - start) (drop start items)) (drop k items)
-files_take all items start k i within is named =
-    let none : k + 1 - (k + 1) ≡ 0 = omega arith in
-    rw (none, here items k i within is, named) (append_assoc all (file (take (k - start) (drop start items)) i.value ∷ []) (files_from [] (drop (k + 1) items)))
+  abbrev with_groups : List (List Item) → List Item → List X
+  with_groups parts named = map (λ (f : List Item × Item). make f.0 f.1.value) (zip parts named)
+
+  parts_behind : (items : List Item) → behind [] (slice_split (is_of t) items) ≡ slice_split (is_of t) items
+  parts_behind [] = refl
+  parts_behind (i ∷ is) = choose (is_of t i) refl
+    where
+      choose : (b : Bool) → is_of t i ≡ b → behind [] (slice_split (is_of t) (i ∷ is)) ≡ slice_split (is_of t) (i ∷ is)
+      choose true named = rw named refl
+      choose false other = rw other (none_behind i (slice_split (is_of t) is))
+
+  parted : (group items : List Item) → with_groups (behind group (slice_split (is_of t) items)) (filter (is_of t) items) ≡ made_from group items
+  parted group [] = refl
+  parted group (i ∷ is) = choose (is_of t i) refl (ap (λ parts. with_groups parts (filter (is_of t) is)) (sym (parts_behind is)) ∙ parted [] is) (parted (group ++ i ∷ []) is)
+    where
+      choose : (b : Bool) → is_of t i ≡ b → with_groups (slice_split (is_of t) is) (filter (is_of t) is) ≡ made_from [] is
+          → with_groups (behind (group ++ i ∷ []) (slice_split (is_of t) is)) (filter (is_of t) is) ≡ made_from (group ++ i ∷ []) is
+          → with_groups (behind group (slice_split (is_of t) (i ∷ is))) (filter (is_of t) (i ∷ is)) ≡ made_from group (i ∷ is)
+      choose true named behind_it joined = rw named (rw (append-nil group) (ap (λ l. make group i.value ∷ l) behind_it))
+      choose false other behind_it joined = rw other (rw (behind_more group i (slice_split (is_of t) is)) joined)
+
+  -- Both definitions of what the items make agree.
+  pub parted_made : (items : List Item) → map (λ (f : List Item × Item). make f.0 f.1.value) (zip (slice_split (is_of t) items) (filter (is_of t) items)) ≡ made_from [] items
+  parted_made items = ap (λ parts. with_groups parts (filter (is_of t) items)) (sym (parts_behind items)) ∙ parted [] items
+
+  -- An item with another subject joins the group.
+  pub made_join : (all : List X) (items : List Item) (start k : ℕ) (i : Item) → start ≤ k → k < length items → i ≡ get_or items k i → is_of t i ≡ false →
+      all ++ made_from (take (k + 1 - start) (drop start items)) (drop (k + 1) items) ≡ all ++ made_from (take (k - start) (drop start items)) (drop k items)
+  made_join all items start k i low within is other =
+      rw (group_more items start k i low within is, here items k i within is, other)
+
+  -- An item with the subject takes the group.
+  pub made_take : (all : List X) (items : List Item) (start k : ℕ) (i : Item) → k < length items → i ≡ get_or items k i → is_of t i ≡ true →
+      (all ++ make (take (k - start) (drop start items)) i.value ∷ []) ++ made_from (take (k + 1 - (k + 1)) (drop (k + 1) items)) (drop (k + 1) items) ≡ all ++ made_from (take (k - start) (drop start items)) (drop k items)
+  made_take all items start k i within is named =
+      let none : k + 1 - (k + 1) ≡ 0 = omega arith in
+      rw (none, here items k i within is, named) (append_assoc all (make (take (k - start) (drop start items)) i.value ∷ []) (made_from [] (drop (k + 1) items)))
+
+-- the files of the items, after a group of items before the first
+abbrev pub files_from : List Item → List Item → List FileWords
+files_from group items = made_from subject.File file group items
+
+-- the attached files of the items, after a group of items before the first
+abbrev pub attached_from : List Item → List Item → List AttachedWords
+attached_from group items = made_from subject.AttachedFile attached_file group items
+
+-- Both definitions of the files agree.
+pub parted_files : (items : List Item) → files items ≡ files_from [] items
+parted_files items = parted_made subject.File file items
+
+-- Both definitions of the attached files agree.
+pub parted_attached : (items : List Item) → attached items ≡ attached_from [] items
+parted_attached items = parted_made subject.AttachedFile attached_file items

@@ -3,3 +3,4 @@ pub mod FilesLemmas
 pub mod ItemsLemmas
 pub mod SoundLemmas
 pub mod PlaceLemmas
+pub mod AttachedLemmas

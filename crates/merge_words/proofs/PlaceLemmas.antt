@@ -1,5 +1,5 @@
 -- Each item begins at an argument of the command line.
-use Rattle.std.proofs.Common.{◌≡◌, ◌<◌, ◌≤◌, ℕ, ◌+◌, Bool, true, false, nat_le, if◌then◌else◌, List, [], ◌∷◌, ◌++◌, length, Option, Some, None, Ok, All, refl, sym, subst, arith, drop}
+use Rattle.std.proofs.Common.{◌≡◌, ◌<◌, ◌≤◌, ℕ, ◌+◌, Bool, true, false, nat_le, if◌then◌else◌, List, [], ◌∷◌, ◌++◌, length, Option, Some, None, Ok, All, refl, sym, subst, arith}
 use Rattle.std.specs.Prelude.{◌==◌, codes}
 use Rattle.std.specs.Str.{bytes_eq}
 use Rattle.std.proofs.lemmas.List.Elements.{All-nil, All-cons, All-head, All-tail, All-push}
@@ -9,7 +9,7 @@ use Rattle.merge_words.specs.declared.options.Subject.TheVariants as subject
 use Rattle.merge_words.specs.declared.options.Meaning.{Meaning}
 use Rattle.merge_words.specs.declared.item.Item.{Item}
 use Rattle.merge_words.specs.Options.{same, meaning_of}
-use Rattle.merge_words.specs.Items.{Start, files_in, since_file, stands, track_in, repeats, repeats_for, said, option_at, append_at, file_at, known, item_at}
+use Rattle.merge_words.specs.Items.{Start, files_in, since_file, stands, track_in, overfull, repeats, repeats_for, said, option_at, append_at, file_at, known, item_at}
 use Rattle.merge_words.specs.Merge.{start, starts, read_all, takes_next, items, AreWithin}
 
 -- The item begins at the argument with this number.
@@ -36,7 +36,8 @@ module _ (before : List Item) (at : ℕ) (item : Item) where
       let other = ok-else (same means.subject subject.Identify) _ _ item is in
       let once = ok-else (repeats means before) _ _ item other.1 in
       ok-then (BeginsAt at item) (said at means.form next count) _ item once.1 (λ v here more.
-      let last = ok-else (repeats_for means.subject (track_in v) before) _ _ item more in
+      let room = ok-else (overfull means.subject before) _ _ item more in
+      let last = ok-else (repeats_for means.subject (track_in v) before) _ _ item room.1 in
       ok-made (BeginsAt at) _ item last.1 refl)
 
   known-begins : (means : Option Meaning) (next : Option (List ℕ)) (count : ℕ) → known before at means next count ≡ Ok item → BeginsAt at item

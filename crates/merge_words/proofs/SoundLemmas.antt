@@ -36,7 +36,7 @@ use Rattle.requests.specs.Texts.{AreTexts, HasTexts}
 use Rattle.merge_words.proofs.ItemsLemmas.{latest, latest_other}
 use Rattle.merge_words.proofs.FilesLemmas.{files_from, parted_files}
 use Rattle.merge_words.proofs.MergeLemmas.{IsStart, starts-keep}
-use Rattle.merge_words.specs.Items.{Start, is_file, files_in, since_file, stands, track_in, repeats, repeats_for, read_value, value_at, said, option_at, append_at, file_at, known, item_at}
+use Rattle.merge_words.specs.Items.{Start, is_file, files_in, since_file, stands, track_in, overfull, repeats, repeats_for, read_value, value_at, said, option_at, append_at, file_at, known, item_at}
 
 -- ---- options
 
@@ -122,7 +122,8 @@ module _ (given : Type 0) (before : List Item) where
       let once = ok-else (repeats means before) _ _ item other.1 in
       ok-then (Joins given before item) (said at means.form next count) _ item once.1 (λ v here more.
       let made : Item = record { at = at; subject = means.subject; scope = means.scope; value = v } in
-      let last = ok-else (repeats_for means.subject (track_in v) before) _ (Ok made) item more in
+      let room = ok-else (overfull means.subject before) _ _ item more in
+      let last = ok-else (repeats_for means.subject (track_in v) before) _ (Ok made) item room.1 in
       let file_not = option-other subject.File word means no-file named in
       let append_not = option-other subject.Append word means no-append named in
       ok-made (Joins given before) made item last.1 (record {
@@ -154,14 +155,14 @@ files_in-first : (i : Item) (items : List Item) → files_in (i ∷ items) ≡ c
 files_in-first i items = let apart = sum_by-append (λ x. cond (is_file x) 1 0) (i ∷ []) items in apart ∙ omega arith
 
 -- A file that comes last takes the items after the previous file.
-files-more : (group items : List Item) (i : Item) → files_from group (items ++ i ∷ []) ≡ files_from group items ++ cond (is_file i) (file (latest group items) i.value ∷ []) []
+files-more : (group items : List Item) (i : Item) → files_from group (items ++ i ∷ []) ≡ files_from group items ++ cond (is_file i) (file (latest subject.File group items) i.value ∷ []) []
 files-more group [] i = refl
 files-more group (x ∷ xs) i = split (is_file x) (files-more [] xs i) (files-more (group ++ x ∷ []) xs i)
   where
-    split : (b : Bool) → files_from [] (xs ++ i ∷ []) ≡ files_from [] xs ++ cond (is_file i) (file (latest [] xs) i.value ∷ []) []
-        → files_from (group ++ x ∷ []) (xs ++ i ∷ []) ≡ files_from (group ++ x ∷ []) xs ++ cond (is_file i) (file (latest (group ++ x ∷ []) xs) i.value ∷ []) []
+    split : (b : Bool) → files_from [] (xs ++ i ∷ []) ≡ files_from [] xs ++ cond (is_file i) (file (latest subject.File [] xs) i.value ∷ []) []
+        → files_from (group ++ x ∷ []) (xs ++ i ∷ []) ≡ files_from (group ++ x ∷ []) xs ++ cond (is_file i) (file (latest subject.File (group ++ x ∷ []) xs) i.value ∷ []) []
         → (if b then file group x.value ∷ files_from [] (xs ++ i ∷ []) else files_from (group ++ x ∷ []) (xs ++ i ∷ []))
-        ≡ (if b then file group x.value ∷ files_from [] xs else files_from (group ++ x ∷ []) xs) ++ cond (is_file i) (file (cond b (latest [] xs) (latest (group ++ x ∷ []) xs)) i.value ∷ []) []
+        ≡ (if b then file group x.value ∷ files_from [] xs else files_from (group ++ x ∷ []) xs) ++ cond (is_file i) (file (cond b (latest subject.File [] xs) (latest subject.File (group ++ x ∷ []) xs)) i.value ∷ []) []
     split true named other = ap (λ l. file group x.value ∷ l) named
     split false named other = other
 
@@ -257,7 +258,7 @@ files-read given group (x ∷ xs) front are =
 record Kept (given : Type 0) (items : List Item) : Type 0 where
   values : All (IsReadItem given) items
   few : files_in items ≤ 64
-  alone : length (files_from [] items) ≡ 0 → stands subject.Append (latest [] items) ≡ false
+  alone : length (files_from [] items) ≡ 0 → stands subject.Append (latest subject.File [] items) ≡ false
   first : IfSome (slice_get (files_from [] items) 0) (λ (f : FileWords). f.appended ≡ false)
 
 kept-none : (given : Type 0) → Kept given []
@@ -276,12 +277,12 @@ module _ (given : Type 0) (before : List Item) (item : Item) (kept : Kept given 
   few-more true is = let under = joins.few is in omega arith
   few-more false is = let few = kept.few in omega arith
 
-  more_files : (b : Bool) → is_file item ≡ b → files_from [] (before ++ item ∷ []) ≡ files_from [] before ++ cond b (file (latest [] before) item.value ∷ []) []
-  more_files b is = files-more [] before item ∙ ap (λ t. files_from [] before ++ cond t (file (latest [] before) item.value ∷ []) []) is
+  more_files : (b : Bool) → is_file item ≡ b → files_from [] (before ++ item ∷ []) ≡ files_from [] before ++ cond b (file (latest subject.File [] before) item.value ∷ []) []
+  more_files b is = files-more [] before item ∙ ap (λ t. files_from [] before ++ cond t (file (latest subject.File [] before) item.value ∷ []) []) is
 
   first-more : (b : Bool) → is_file item ≡ b → IfSome (slice_get (files_from [] (before ++ item ∷ [])) 0) (λ (f : FileWords). f.appended ≡ false)
   first-more true is =
-      rw (more_files true is) (first-appended (files_from [] before) (file (latest [] before) item.value) kept.first (λ empty. file-appended (latest [] before) item.value ∙ kept.alone empty))
+      rw (more_files true is) (first-appended (files_from [] before) (file (latest subject.File [] before) item.value) kept.first (λ empty. file-appended (latest subject.File [] before) item.value ∙ kept.alone empty))
   first-more false is = rw (more_files false is) (rw (append-nil (files_from [] before)) kept.first)
 
   append_not : (b : Bool) → same item.subject subject.Append ≡ b → length (files_from [] before) ≡ 0 → b ≡ false
@@ -291,12 +292,12 @@ module _ (given : Type 0) (before : List Item) (item : Item) (kept : Kept given 
       let zero_files : files_in before ≡ 0 = sym (length-files [] before) ∙ empty in
       absurd (grind (arith, nat_tests))
 
-  alone-more : (b : Bool) → is_file item ≡ b → length (files_from [] (before ++ item ∷ [])) ≡ 0 → stands subject.Append (latest [] (before ++ item ∷ [])) ≡ false
-  alone-more true is empty = absurd (omega (arith, ap length (more_files true is), length-append (files_from [] before) (file (latest [] before) item.value ∷ [])))
+  alone-more : (b : Bool) → is_file item ≡ b → length (files_from [] (before ++ item ∷ [])) ≡ 0 → stands subject.Append (latest subject.File [] (before ++ item ∷ [])) ≡ false
+  alone-more true is empty = absurd (omega (arith, ap length (more_files true is), length-append (files_from [] before) (file (latest subject.File [] before) item.value ∷ [])))
   alone-more false is empty =
       let none_before : length (files_from [] before) ≡ 0 = sym (ap length (more_files false is ∙ append-nil (files_from [] before))) ∙ empty in
-      let behind_it : latest [] (before ++ item ∷ []) ≡ latest [] before ++ item ∷ [] = latest_other [] before item is in
-      ap (stands subject.Append) behind_it ∙ list_any-append (λ (i : Item). same i.subject subject.Append) (latest [] before) (item ∷ [])
+      let behind_it : latest subject.File [] (before ++ item ∷ []) ≡ latest subject.File [] before ++ item ∷ [] = latest_other subject.File [] before item is in
+      ap (stands subject.Append) behind_it ∙ list_any-append (λ (i : Item). same i.subject subject.Append) (latest subject.File [] before) (item ∷ [])
       ∙ or_from _ _ (kept.alone none_before) (or_from _ _ (append_not (same item.subject subject.Append) refl none_before) refl)
 
   kept-more : Kept given (before ++ item ∷ [])
@@ -401,7 +402,7 @@ complete-files : (count : ℕ) (items : List Item) (t : Unit {0}) → complete c
 unfolding complete
 complete-files count items t is =
     ok-then ((files_in items == 0) ≡ false) (wrong_if (stands subject.Append (since_file items)) count MissingValue) _ t is (λ a here more.
-    ok-then ((files_in items == 0) ≡ false) (wrong_at (dangling (since_file items)) DanglingOption) _ t more (λ b there others.
+    ok-then ((files_in items == 0) ≡ false) (wrong_at (dangling items) DanglingOption) _ t more (λ b there others.
     ok-then ((files_in items == 0) ≡ false) (wrong_if (not (stands subject.Output items)) count NoOutput) _ t others (λ c output rest.
     ok-then ((files_in items == 0) ≡ false) (wrong_if (files_in items == 0) count NoInput) _ t rest (λ d input last.
     wrong_if-ok (files_in items == 0) count NoInput d input))))

@@ -14,7 +14,7 @@ use Rattle.merge_words.specs.declared.options.Meaning.{Meaning}
 use Rattle.word_values.specs.declared.values.Value.{Value}
 use Rattle.word_values.specs.declared.values.Value.TheVariants.{Flag, File, TrackDelay, TrackText, TrackLanguage, TrackLanguageTag, TrackFlag, TrackCues, TrackFile}
 use Rattle.merge_words.specs.declared.item.Item.{Item}
-use Rattle.merge_words.specs.declared.item.TheConstants.{MAX_FILES}
+use Rattle.merge_words.specs.declared.item.TheConstants.{MAX_FILES, MAX_ATTACHED}
 use Rattle.word_values.specs.Answers.{wrong, ◌>>=◌}
 use Rattle.merge_words.specs.Options.{same}
 use Rattle.word_values.specs.Place.{due, is_option}
@@ -24,14 +24,35 @@ use Rattle.word_values.specs.Values.{flag_of, value_of}
 abbrev pub is_file : Item → Bool
 is_file i = same i.subject subject.File
 
+-- The item `i` is the name of an attached file. Options for attached files before it are for it. Used by `attached`.
+abbrev pub is_attached : Item → Bool
+is_attached i = same i.subject subject.AttachedFile
+
+-- the number of `items` that have the subject `subject`. For `files_in` and `overfull`.
+abbrev pub counted : Subject → List Item → ℕ
+counted subject items = count_by (λ i. same i.subject subject) items
+
 -- the number of inputs that the items `items` name. For the limit of inputs, and for the refusals of `+` and of no input.
 abbrev pub files_in : List Item → ℕ
-files_in items = count_by is_file items
+files_in items = counted subject.File items
+
+-- An option with the subject `about` attaches a file, and the items `before` attach 256 already. For `option_at`.
+abbrev pub overfull : Subject → List Item → Bool
+overfull about before = same about subject.AttachedFile && nat_le MAX_ATTACHED (counted subject.AttachedFile before)
+
+-- those of `items` after the last one with the subject `subject`, or all if there is none. Used by `since_file` and `since_attached`.
+unfoldable pub since : Subject → List Item → List Item
+since subject items = after_last (λ i. same i.subject subject) items
 
 -- the items after the last input, which are options for the next one, or all items if there is no input. For refusals of repetitions and of options
 -- without an input. Used by `repeats_in`, `repeats_for` and others.
-unfoldable pub since_file : List Item → List Item
-since_file items = after_last is_file items
+abbrev pub since_file : List Item → List Item
+since_file items = since subject.File items
+
+-- the items after the last attached file, or all items if there is none. The options for attached files among them are for the next one. For refusals
+-- of repetitions and of options without an attached file. Used by `repeats_in` and `dangling`.
+abbrev pub since_attached : List Item → List Item
+since_attached items = since subject.AttachedFile items
 
 -- One of the items `items` has the subject `subject`. Used for options without a value, for `+`, and for options that must be given.
 abbrev pub stands : Subject → List Item → Bool
@@ -63,6 +84,7 @@ stands_for subject id items = list_any (λ i. same i.subject subject && is_track
 -- read.
 abbrev pub repeats_in : Scope → Subject → List Item → Bool
 repeats_in scope.Output subject before = stands subject before
+repeats_in scope.Attached subject before = stands subject (since_attached before)
 repeats_in scope.File subject before = stands subject (since_file before)
 repeats_in scope.Track subject before = false
 
@@ -95,15 +117,16 @@ abbrev pub said : ℕ → ValueForm → Option (List ℕ) → ℕ → Result Val
 said at form next count = unwrap_or (option_map (λ (v : Value). Ok v) (flag_of form)) (value_at (at + 1) form next count)
 
 -- the item of an option that means `means`, at argument number `at`, after the items `before`, or its refusal. `next` is the argument after it, and
--- `count` the number of arguments. A repetition is refused before its value is read, except of an option for a track. For `item_at`, when the command
--- line of `merge` is read.
+-- `count` the number of arguments. A repetition is refused before its value is read, except of an option for a track. A 257th attached file is refused
+-- at its name. For `item_at`, when the command line of `merge` is read.
 unfoldable pub option_at : List Item → ℕ → Meaning → Option (List ℕ) → ℕ → Result Item Usage
 option_at before at means next count =
     if same means.subject subject.Identify then wrong at ExtraWord
     else if repeats means before then wrong at RepeatedOption
     else do
       value ← said at means.form next count
-      if repeats_for means.subject (track_in value) before then wrong at RepeatedOption
+      if overfull means.subject before then wrong (at + 1) TooManyInputs
+          else if repeats_for means.subject (track_in value) before then wrong at RepeatedOption
           else Ok (record { at = at; subject = means.subject; scope = means.scope; value = value })
 
 -- the item `+` at argument number `at`, or its refusal. It needs an input among the items `before`, and is allowed once before the next input. For

@@ -1,6 +1,6 @@
 -- The command line of `merge`: it is divided into items, and each item is read after all earlier ones. Missing parts are reported in a fixed order.
 -- The grammar is this project's, after mkvmerge(1).
-use Rattle.std.specs.Prelude.{ℕ, ◌+◌, ◌<◌, All, Bool, true, false, not, ◌==◌, if◌then◌else◌, List, [], ◌∷◌, ◌++◌, length, drop, Option, Some, None, is_none, option_map, slice_get, Result, Ok}
+use Rattle.std.specs.Prelude.{ℕ, ◌+◌, ◌<◌, min, All, Bool, true, false, not, ◌==◌, if◌then◌else◌, List, [], ◌∷◌, ◌++◌, length, drop, Option, Some, None, is_none, option_map, slice_get, Result, Ok}
 use Rattle.std.specs.List.{find, list_all}
 use denote.Enum.Bare.{sameb}
 use Rattle.merge_words.specs.contracts.options.Scope.{the_type}
@@ -8,6 +8,7 @@ use Rattle.word_values.specs.declared.usage.Usage.{Usage}
 use Rattle.word_values.specs.declared.usage.Why.{Why}
 use Rattle.word_values.specs.declared.usage.Why.TheVariants.{MissingValue, NoOutput, NoInput, DanglingOption, NeedsUuids, NoSuchFile}
 use Rattle.merge_words.specs.declared.options.Subject.TheVariants as subject
+use Rattle.merge_words.specs.declared.options.Scope.{Scope}
 use Rattle.merge_words.specs.declared.options.Scope.TheVariants as scope
 use Rattle.merge_words.specs.declared.options.Meaning.{Meaning}
 use Rattle.merge_words.specs.declared.item.Item.{Item}
@@ -16,7 +17,7 @@ use Rattle.requests.specs.declared.merge.MergeWords.{MergeWords}
 use Rattle.word_values.specs.Answers.{wrong, ◌>>=◌}
 use Rattle.merge_words.specs.Options.{same, meaning_of}
 use Rattle.word_values.specs.Values.{flag_of}
-use Rattle.merge_words.specs.Items.{Start, item_at, since_file, stands, files_in}
+use Rattle.merge_words.specs.Items.{Start, item_at, since_file, since_attached, stands, files_in}
 use Rattle.merge_words.specs.Output.{merge_words}
 
 -- An option with this meaning has the next argument as its value. For `starts`, when the command line of `merge` is read.
@@ -60,10 +61,32 @@ abbrev pub wrong_at : Option ℕ → Why → Result (Unit {0}) Usage
 wrong_at None why = Ok tt
 wrong_at (Some word) why = wrong word why
 
--- the argument number of the first option for an input among `items`, the items after the last input, if there is one. For `complete`, when the
--- command line of `merge` is read.
+-- An option with this scope is for the next input, or for one of its tracks. For `fileless`.
+abbrev pub is_for_input : Scope → Bool
+is_for_input scope.Output = false
+is_for_input scope.Attached = false
+is_for_input scope.File = true
+is_for_input scope.Track = true
+
+-- the argument number of the first option for an input among `items`, the items after the last input, if there is one. For `dangling`.
+abbrev pub fileless : List Item → Option ℕ
+fileless items = option_map (λ (i : Item). i.at) (find (λ i. is_for_input i.scope) items)
+
+-- the argument number of the first option for an attached file among `items`, the items after the last attached file, if there is one. For
+-- `dangling`.
+abbrev pub unattached : List Item → Option ℕ
+unattached items = option_map (λ (i : Item). i.at) (find (λ i. sameb the_type i.scope scope.Attached) items)
+
+-- the smaller one of two argument numbers, or the one that is given. For `dangling`.
+abbrev pub earlier : Option ℕ → Option ℕ → Option ℕ
+earlier None b = b
+earlier (Some a) None = Some a
+earlier (Some a) (Some b) = Some (min a b)
+
+-- the argument number of the first of `items` that is an option for the next input or for the next attached file, if no such file follows it. For
+-- `complete`, when the command line of `merge` is read.
 abbrev pub dangling : List Item → Option ℕ
-dangling items = option_map (λ (i : Item). i.at) (find (λ i. not (sameb the_type i.scope scope.Output)) items)
+dangling items = earlier (fileless (since_file items)) (unattached (since_attached items))
 
 -- the argument number of the option `--link`, if it is given among `items`. For `unlinked`.
 abbrev pub linking : List Item → Option ℕ
@@ -77,7 +100,7 @@ unlinked items = if stands subject.Uuids items then None else linking items
 unfoldable pub complete : ℕ → List Item → Result (Unit {0}) Usage
 complete count items = do
   _ ← wrong_if (stands subject.Append (since_file items)) count MissingValue
-  _ ← wrong_at (dangling (since_file items)) DanglingOption
+  _ ← wrong_at (dangling items) DanglingOption
   _ ← wrong_if (not (stands subject.Output items)) count NoOutput
   _ ← wrong_if (files_in items == 0) count NoInput
   wrong_at (unlinked items) NeedsUuids

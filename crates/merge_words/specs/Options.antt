@@ -8,7 +8,7 @@ use Rattle.word_values.specs.Place.{is_option}
 use Rattle.merge_words.specs.declared.options.Subject.{Subject}
 use Rattle.merge_words.specs.declared.options.Subject.TheVariants as s
 use Rattle.merge_words.specs.declared.options.Scope.{Scope}
-use Rattle.merge_words.specs.declared.options.Scope.TheVariants.{Output, File, Track}
+use Rattle.merge_words.specs.declared.options.Scope.TheVariants.{Output, Attached, File, Track}
 use Rattle.word_values.specs.declared.values.ValueForm.{ValueForm}
 use Rattle.word_values.specs.declared.values.ValueForm.TheVariants as f
 use Rattle.merge_words.specs.declared.options.Meaning.{Meaning}
@@ -27,7 +27,7 @@ pub record Row : Type 0 where
 abbrev pub option : List ℕ → List ℕ → Subject → Scope → ValueForm → Row
 option short long subject scope form = record { short = short; long = long; subject = subject; scope = scope; form = form }
 
--- all options of `merge`: the ones for the whole output, then the ones for the next input. For `meaning_of`.
+-- all options of `merge`: the ones for the whole output, with the ones for the next attached file among them, then the ones for the next input. For `meaning_of`.
 unfoldable pub table : List Row
 table =
     option (codes "-o") (codes "--output") s.Output Output f.Name ∷
@@ -42,6 +42,10 @@ table =
     option (codes "") (codes "--duration") s.Duration Output f.Flag ∷
     option (codes "") (codes "--append-damaged") s.AppendDamaged Output f.Flag ∷
     option (codes "") (codes "--track-order") s.Order Output f.Order ∷
+    option (codes "") (codes "--attachment-name") s.AttachedName Attached f.FullText ∷
+    option (codes "") (codes "--attachment-mime-type") s.AttachedType Attached f.MediaType ∷
+    option (codes "") (codes "--attachment-description") s.AttachedNote Attached f.Text ∷
+    option (codes "") (codes "--attach-file") s.AttachedFile Attached f.Name ∷
     option (codes "-J") (codes "") s.Identify Output f.Flag ∷
     option (codes "-a") (codes "--audio-tracks") s.Audio File f.Ids ∷
     option (codes "-A") (codes "--no-audio") s.Audio File f.Exclusion ∷

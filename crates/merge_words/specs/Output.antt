@@ -8,6 +8,7 @@ use Rattle.merge_words.specs.declared.output.TheConstants.{DEFAULT_SCALE, DEFAUL
 use Rattle.merge_words.specs.Items.{stands}
 use Rattle.merge_words.specs.Said.{value_in, file_in, text_of, scale_of, blocks_of, span_of, split_of, uuids_of, order_of}
 use Rattle.merge_words.specs.Files.{files}
+use Rattle.merge_words.specs.Attached.{attached}
 
 -- the name of the output, the value of `-o` among `items`, or an empty text without it. For `merge_words`, when the command line of `merge` is read.
 abbrev pub output_in : List Item → List ℕ
@@ -58,6 +59,6 @@ merge_words items = record {
   link = stands subject.Link items;
   duration = stands subject.Duration items;
   append_damaged = stands subject.AppendDamaged items;
-  attached = [];
+  attached = attached items;
   order = order_in items;
 }

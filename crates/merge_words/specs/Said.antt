@@ -19,7 +19,7 @@ abbrev pub file_of : Value → Option (List ℕ)
 file_of (File name) = Some name
 file_of _ = None
 
--- the text that an option value is, if it is one. For the title.
+-- the text that an option value is, if it is one. For the title, and for the texts of attached files. Used by `title_in` and `text_or`.
 abbrev pub text_of : Value → Option (List ℕ)
 text_of (Text text) = Some text
 text_of _ = None

@@ -146,9 +146,9 @@ fn flag_words_in(alloc: Global, items: &[Item]) -> Result<FlagWords, AllocError>
     })
 }
 
-/// Returns the name of an input, which is the value `value` of the item that ends its options. For `file`, when the
-/// command line of `merge` is read.
-fn file_name(alloc: Global, value: &Value) -> Result<Text, AllocError>
+/// Returns the name of an input or of an attached file, which is the value `value` of the item that ends its options.
+/// For `file` and `attached_file`, when the command line of `merge` is read.
+pub(crate) fn file_name(alloc: Global, value: &Value) -> Result<Text, AllocError>
     ensures { IfOk result (λ name. name ≡ spec.file_name value.now) }
 {
     match value {

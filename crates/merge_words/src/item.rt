@@ -14,6 +14,9 @@ use word_values::{
 /// Maximum number of inputs of a merge.
 const MAX_FILES: usize = 64;
 
+/// Maximum number of files that a merge attaches to its output.
+const MAX_ATTACHED: usize = 256;
+
 /// Item of a merge's command line: an option with its value, a `+`, or the name of an input.
 #[derive(Drop)]
 pub(crate) struct Item {
@@ -57,10 +60,10 @@ pub(crate) fn item_at(
 fn append_at(at: usize, before: &[Item]) -> Result<Item, ArgsEnd>
     ensures { Tells result (spec.append_at before.now at) }
 {
-    if files_in(before) == 0 {
+    if counted(Subject::File, before) == 0 {
         return refused(at, Why::AppendFirst);
     }
-    if stands(Subject::Append, since_file(before)) {
+    if stands(Subject::Append, since(Subject::File, before)) {
         return refused(at, Why::ExtraWord);
     }
     Ok(Item {
@@ -77,7 +80,7 @@ fn append_at(at: usize, before: &[Item]) -> Result<Item, ArgsEnd>
 fn file_at(alloc: Global, at: usize, word: &str, before: &[Item]) -> Result<Item, ArgsEnd>
     ensures { Tells result (spec.file_at before.now at word.now) }
 {
-    if files_in(before) >= MAX_FILES {
+    if counted(Subject::File, before) >= MAX_FILES {
         return refused(at, Why::TooManyInputs);
     }
     Ok(Item {
@@ -89,8 +92,8 @@ fn file_at(alloc: Global, at: usize, word: &str, before: &[Item]) -> Result<Item
 }
 
 /// Reads the option at argument number `at`, which means `means`, with its value. If it is allowed only once, a
-/// repetition among the items `before` is refused before its value is read. `merge` is argument 0 of `words`. For
-/// `item_at`.
+/// repetition among the items `before` is refused before its value is read. A 257th attached file is refused at its
+/// name. `merge` is argument 0 of `words`. For `item_at`.
 #[tactic(auto, unfolding(crate::specs::Items::option_at))]
 fn option_at(
     alloc: Global,
@@ -112,8 +115,11 @@ fn option_at(
         Some(value) => value,
         None => value_at(alloc, words, at + 1, means.form)?,
     };
+    if overfull(means.subject, before) {
+        return refused(at + 1, Why::TooManyInputs);
+    }
     if let Some(id) = track_in(&value) {
-        if stands_for(means.subject, id, since_file(before)) {
+        if stands_for(means.subject, id, since(Subject::File, before)) {
             return refused(at, Why::RepeatedOption);
         }
     }
@@ -147,7 +153,8 @@ fn repeats(means: Meaning, before: &[Item]) -> bool
 {
     match means.scope {
         Scope::Output => stands(means.subject, before),
-        Scope::File => stands(means.subject, since_file(before)),
+        Scope::Attached => stands(means.subject, since(Subject::AttachedFile, before)),
+        Scope::File => stands(means.subject, since(Subject::File, before)),
         Scope::Track => false,
     }
 }
@@ -185,27 +192,32 @@ pub(crate) fn track_in(value: &Value) -> Option<u64>
     }
 }
 
-/// Returns the number of inputs that the items `items` name. For the limit of inputs, and for the refusals of `+` and
-/// of no input.
-pub(crate) fn files_in(items: &[Item]) -> usize
-    ensures { result ≡ spec.files_in items.now }
+/// Checks whether an option with the subject `subject` attaches a file and the items `before` attach 256 already. For
+/// `option_at`.
+fn overfull(subject: Subject, before: &[Item]) -> bool
+    ensures { result ≡ spec.overfull subject before.now }
 {
-    items
-        .iter()
-        .filter(|item| item.subject.is(Subject::File))
-        .count()
+    subject.is(Subject::AttachedFile) && counted(Subject::AttachedFile, before) >= MAX_ATTACHED
 }
 
-/// Returns the items after the last input, which are options for the next one, or all if there is no input. Looks at no
-/// item before that input. For refusals of repetitions and of options without an input. Used by `append_at`,
-/// `option_at` and others.
+/// Returns the number of `items` that have the subject `subject`. For the limits of inputs and of attached files, and
+/// for the refusals of `+` and of no input.
+pub(crate) fn counted(subject: Subject, items: &[Item]) -> usize
+    ensures { result ≡ spec.counted subject items.now }
+{
+    items.iter().filter(|item| item.subject.is(subject)).count()
+}
+
+/// Returns those of `items` after the last one with the subject `subject`, an input or an attached file, or all if
+/// there is none. They are options for the next one. Looks at no item before that one. For refusals of repetitions and
+/// of options without a file. Used by `append_at`, `option_at` and others.
 #[tactic(auto, using(crate::proofs::ItemsLemmas::since_latest))]
-pub(crate) fn since_file(items: &[Item]) -> &[Item]
-    ensures { result.now ≡ spec.since_file items.now }
+pub(crate) fn since(subject: Subject, items: &[Item]) -> &[Item]
+    ensures { result.now ≡ spec.since subject items.now }
 {
     let mut start = items.len();
     while start > 0 {
-        if items[start - 1].subject.is(Subject::File) {
+        if items[start - 1].subject.is(subject) {
             return &items[start..];
         }
         start -= 1;

@@ -2,6 +2,7 @@
 
 //! Command line of a merge: its options, and their values for the output and for each file.
 
+mod attached;
 mod files;
 mod item;
 mod merge;

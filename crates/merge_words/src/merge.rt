@@ -5,7 +5,7 @@ ghost use Rattle.merge_words.specs.Merge as spec;
 ghost use Rattle.word_values.specs.Answers.{Tells};
 ghost use Rattle.word_values.specs.Place.{texts};
 
-use crate::item::{Item, files_in, item_at, since_file, stands};
+use crate::item::{Item, counted, item_at, since, stands};
 use crate::options::{Meaning, Scope, Subject, meaning_of};
 use crate::output::merge_words;
 use mkv_io::List;
@@ -64,11 +64,11 @@ fn width(means: Option<Meaning>) -> usize
 fn complete(count: usize, items: &[Item]) -> Result<(), ArgsEnd>
     ensures { Tells result (spec.complete count items.now) }
 {
-    let open = since_file(items);
-    refuse_if(stands(Subject::Append, open), count, Why::MissingValue)?;
-    refuse_at(dangling(open), Why::DanglingOption)?;
+    let open = stands(Subject::Append, since(Subject::File, items));
+    refuse_if(open, count, Why::MissingValue)?;
+    refuse_at(dangling(items), Why::DanglingOption)?;
     refuse_if(!stands(Subject::Output, items), count, Why::NoOutput)?;
-    refuse_if(files_in(items) == 0, count, Why::NoInput)?;
+    refuse_if(counted(Subject::File, items) == 0, count, Why::NoInput)?;
     refuse_at(unlinked(items), Why::NeedsUuids)
 }
 
@@ -135,12 +135,53 @@ fn begins(files: &[FileWords], file: u64) -> bool
     }
 }
 
-/// Returns for `complete` the argument number of the first option for an input among `items`, the items after the last
-/// input; no input follows it. Returns None if there is no such option.
+/// Returns for `complete` the argument number of the first of `items` that is an option for the next input or for the
+/// next attached file, if no such file follows. Returns None if there is no such option.
 fn dangling(items: &[Item]) -> Option<usize>
     ensures { result ≡ spec.dangling items.now }
 {
-    let item = items.iter().find(|item| item.scope != Scope::Output)?;
+    let input = fileless(since(Subject::File, items));
+    let attached = unattached(since(Subject::AttachedFile, items));
+    earlier(input, attached)
+}
+
+/// Returns the smaller one of the argument numbers `a` and `b`; if only one is given, that one, otherwise None. For
+/// `dangling`.
+fn earlier(a: Option<usize>, b: Option<usize>) -> Option<usize>
+    ensures { result ≡ spec.earlier a b }
+{
+    match (a, b) {
+        (Some(a), Some(b)) => Some(a.min(b)),
+        (Some(a), None) => Some(a),
+        (None, b) => b,
+    }
+}
+
+/// Returns for `dangling` the argument number of the first option for an input among `items`, the items after the last
+/// input; no input follows it. Returns None if there is no such option.
+fn fileless(items: &[Item]) -> Option<usize>
+    ensures { result ≡ spec.fileless items.now }
+{
+    let item = items.iter().find(|item| is_for_input(item.scope))?;
+    Some(item.at)
+}
+
+/// Checks whether an option with the scope `scope` is for the next input, or for one of its tracks. For `fileless`.
+fn is_for_input(scope: Scope) -> bool
+    ensures { result ≡ spec.is_for_input scope }
+{
+    match scope {
+        Scope::File | Scope::Track => true,
+        Scope::Output | Scope::Attached => false,
+    }
+}
+
+/// Returns for `dangling` the argument number of the first option for an attached file among `items`, the items after
+/// the last attached file; none follows it. Returns None if there is no such option.
+fn unattached(items: &[Item]) -> Option<usize>
+    ensures { result ≡ spec.unattached items.now }
+{
+    let item = items.iter().find(|item| item.scope == Scope::Attached)?;
     Some(item.at)
 }
 

@@ -20,6 +20,11 @@ pub enum Subject {
     Duration,
     AppendDamaged,
     Order,
+    AttachedName,
+    AttachedType,
+    /// Description of an attached file.
+    AttachedNote,
+    AttachedFile,
     Identify,
     Audio,
     Video,
@@ -55,6 +60,8 @@ pub enum Subject {
 pub enum Scope {
     /// Whole command line.
     Output,
+    /// Options of one attached file, and its name.
+    Attached,
     /// Options of one input.
     File,
     /// Options of one input, for one track.
@@ -82,7 +89,7 @@ pub struct OptionRow(
 );
 
 #[rattlefmt::skip]
-static MERGE_OPTIONS: [OptionRow; 39] = [
+static MERGE_OPTIONS: [OptionRow; 43] = [
     OptionRow("-o", "--output", Subject::Output, Scope::Output, ValueForm::Name),
     OptionRow("-w", "--webm", Subject::Webm, Scope::Output, ValueForm::Flag),
     OptionRow("", "--title", Subject::Title, Scope::Output, ValueForm::Text),
@@ -95,6 +102,10 @@ static MERGE_OPTIONS: [OptionRow; 39] = [
     OptionRow("", "--duration", Subject::Duration, Scope::Output, ValueForm::Flag),
     OptionRow("", "--append-damaged", Subject::AppendDamaged, Scope::Output, ValueForm::Flag),
     OptionRow("", "--track-order", Subject::Order, Scope::Output, ValueForm::Order),
+    OptionRow("", "--attachment-name", Subject::AttachedName, Scope::Attached, ValueForm::FullText),
+    OptionRow("", "--attachment-mime-type", Subject::AttachedType, Scope::Attached, ValueForm::MediaType),
+    OptionRow("", "--attachment-description", Subject::AttachedNote, Scope::Attached, ValueForm::Text),
+    OptionRow("", "--attach-file", Subject::AttachedFile, Scope::Attached, ValueForm::Name),
     OptionRow("-J", "", Subject::Identify, Scope::Output, ValueForm::Flag),
     OptionRow("-a", "--audio-tracks", Subject::Audio, Scope::File, ValueForm::Ids),
     OptionRow("-A", "--no-audio", Subject::Audio, Scope::File, ValueForm::Exclusion),
@@ -124,7 +135,8 @@ static MERGE_OPTIONS: [OptionRow; 39] = [
     OptionRow("", "--timestamps", Subject::Times, Scope::Track, ValueForm::TrackFile),
 ];
 
-/// Returns all options of `merge`: first the ones for the whole output, then the ones for the next input. For
+/// Returns all options of `merge`: first the ones for the whole output, with the ones for the next attached file among
+/// them, then the ones for the next input. For
 /// `meaning_of`.
 #[tactic(auto, unfolding(crate::specs::Options::table))]
 pub fn merge_options() -> &'static [OptionRow]

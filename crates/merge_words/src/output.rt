@@ -3,6 +3,7 @@
 ghost use Rattle.std.specs.Prelude.{◌≡◌, IfOk};
 ghost use Rattle.merge_words.specs.Output as spec;
 
+use crate::attached::attached;
 use crate::files::files;
 use crate::item::{Item, stands};
 use crate::options::Subject;
@@ -38,7 +39,7 @@ pub(crate) fn merge_words(alloc: Global, items: &[Item]) -> Result<MergeWords, A
         link: stands(Subject::Link, items),
         duration: stands(Subject::Duration, items),
         append_damaged: stands(Subject::AppendDamaged, items),
-        attached: List::new(alloc),
+        attached: attached(alloc, items)?,
         order: order_in(alloc, items)?,
     })
 }

@@ -30,7 +30,7 @@ use Rattle.requests.specs.Decimal.{number, whole}
 use Rattle.word_values.specs.Lists.{chapters as chapters_split, duration, ids, numbers, span, spans, split, split_of, times, uuids}
 use Rattle.word_values.specs.Values.{cluster_length, cue_word, language, scale, text, track_and_rest, track_flag, track_value, value_of}
 use Rattle.merge_words.specs.Options.{meaning_of, table}
-use Rattle.merge_words.specs.Items.{append_at, file_at, item_at, option_at, since_file}
+use Rattle.merge_words.specs.Items.{append_at, file_at, item_at, option_at, since}
 use Rattle.merge_words.specs.Files.{file, named_in}
 use Rattle.merge_words.specs.Output.{merge_words}
 use Rattle.merge_words.specs.Merge.{complete, items, merged}
@@ -158,7 +158,7 @@ pub outputs : Hold (
     asks (codes "merge -o o --cluster-length 100ms f") (commands.Merge (record (merging (codes "o") (plain_file (codes "f") ∷ [])) { span = 100000000 })) ∷
     asks (codes "merge -o o --cluster-length 32000ms f") (commands.Merge (record (merging (codes "o") (plain_file (codes "f") ∷ [])) { span = 32000000000 })) ∷
     [])
-unfolding command first_command command_named verbs merge merged items complete meaning_of table item_at option_at append_at file_at since_file merge_words file named_in value_of text scale cluster_length number whole
+unfolding command first_command command_named verbs merge merged items complete meaning_of table item_at option_at append_at file_at since merge_words file named_in value_of text scale cluster_length number whole
 outputs = refl
 
 -- `merge --split`
@@ -181,7 +181,7 @@ pub splits-of-merges : Hold (
     asks_split (codes "merge -o o --split size:17179869184g f") (splits.Size 18446744073709551615) ∷
     asks_split (codes "merge -o o --split size:999999999999g f") (splits.Size 18446744073709551615) ∷
     [])
-unfolding command first_command command_named verbs merge merged items complete meaning_of table item_at option_at append_at file_at since_file merge_words file named_in value_of split split_of duration chapters_split spans span times numbers size amount time clock seconds fraction minutes_or_seconds cut number whole
+unfolding command first_command command_named verbs merge merged items complete meaning_of table item_at option_at append_at file_at since merge_words file named_in value_of split split_of duration chapters_split spans span times numbers size amount time clock seconds fraction minutes_or_seconds cut number whole
 splits-of-merges = refl
 
 -- `merge` with `--segment-uid`, `--link` and `-J`
@@ -191,7 +191,7 @@ pub identifiers : Hold (
     asks (codes "merge -J f") (commands.Identify (codes "f")) ∷
     asks (codes "merge -J -") (commands.Identify (codes "-")) ∷
     [])
-unfolding command first_command command_named verbs merge merged items complete meaning_of table item_at option_at append_at file_at since_file merge_words file named_in value_of identify beside uuids uuid
+unfolding command first_command command_named verbs merge merged items complete meaning_of table item_at option_at append_at file_at since merge_words file named_in value_of identify beside uuids uuid
 identifiers = refl
 
 -- `merge`, options of the next file
@@ -206,7 +206,7 @@ pub selections : Hold (
     asks_merge (codes "merge -o o -M -T --no-global-tags --no-chapters f g") (codes "o") (record (plain_file (codes "f")) { attachments = false; track_tags = false; global_tags = false; chapters = false } ∷ plain_file (codes "g") ∷ []) ∷
     asks_file (codes "merge -o o --no-attachments --no-track-tags f") (record (plain_file (codes "f")) { attachments = false; track_tags = false }) ∷
     [])
-unfolding command first_command command_named verbs merge merged items complete meaning_of table item_at option_at append_at file_at since_file merge_words file named_in value_of ids numbers number whole
+unfolding command first_command command_named verbs merge merged items complete meaning_of table item_at option_at append_at file_at since merge_words file named_in value_of ids numbers number whole
 selections = refl
 
 -- `merge`, options of one track of the next file
@@ -226,7 +226,7 @@ pub options-of-tracks : Hold (
     asks_file (codes "merge -o o --timestamps 0:t.txt f") (record (plain_file (codes "f")) { times = ((0, codes "t.txt") ∷ []); named = (0 ∷ []) }) ∷
     asks_file (codes "merge -o o --timestamps 1: -a !4 f") (record (plain_file (codes "f")) { audio = AllBut (4 ∷ []); times = ((1, []) ∷ []); named = (1 ∷ 4 ∷ []) }) ∷
     [])
-unfolding command first_command command_named verbs merge merged items complete meaning_of table item_at option_at append_at file_at since_file merge_words file named_in value_of text language ids numbers track_flag track_value track_and_rest cue_word delay delay_size cut number whole
+unfolding command first_command command_named verbs merge merged items complete meaning_of table item_at option_at append_at file_at since merge_words file named_in value_of text language ids numbers track_flag track_value track_and_rest cue_word delay delay_size cut number whole
 options-of-tracks = refl
 
 -- `merge` with `+`, with options after the last file, and with many files
@@ -236,5 +236,5 @@ pub joins : Hold (
     asks_merge (codes "merge -o o f + g + h") (codes "o") (plain_file (codes "f") ∷ record (plain_file (codes "g")) { appended = true } ∷ record (plain_file (codes "h")) { appended = true } ∷ []) ∷
     asks_merge (codes "merge -o o" ++ flat_map {X = ℕ} (λ _. codes " f") (replicate 64 0)) (codes "o") (replicate 64 (plain_file (codes "f"))) ∷
     [])
-unfolding command first_command command_named verbs merge merged items complete meaning_of table item_at option_at append_at file_at since_file merge_words file named_in value_of ids numbers number whole
+unfolding command first_command command_named verbs merge merged items complete meaning_of table item_at option_at append_at file_at since merge_words file named_in value_of ids numbers number whole
 joins = refl

@@ -54,7 +54,7 @@ pub(crate) const INFO_PAGE: [&str; 11] = [
 
 /// The page of `merge`.
 #[rattlefmt::skip]
-pub(crate) const MERGE_PAGE: [&str; 98] = [
+pub(crate) const MERGE_PAGE: [&str; 105] = [
     "usage: mkvsuite merge -o OUT [OUTPUT OPTIONS] [FILE OPTIONS] FILE",
     "                      [[+] [FILE OPTIONS] FILE]..",
     "       mkvsuite merge -J FILE",
@@ -87,6 +87,13 @@ pub(crate) const MERGE_PAGE: [&str; 98] = [
     "                                ends the reading of one (default: stop)",
     "    --track-order ORDER         tracks that come first; the others follow, in",
     "                                the order of the files (default: none)",
+    "    --attachment-name TEXT      name of the next attached file (default: its",
+    "                                own name, without folders)",
+    "    --attachment-mime-type TEXT",
+    "                                its media type (default: by the ending of FILE)",
+    "    --attachment-description TEXT",
+    "                                its description (default: none)",
+    "    --attach-file FILE          attach FILE; of several parts the first has it",
     "    -J                          print what FILE contains as JSON; only as",
     "                                merge -J FILE",
     "  file options:",

@@ -65,7 +65,8 @@ pub(crate) const WORD_TOPICS: [(&str, &[&str]); 15] = [
     ("RepeatedOption", &[
         "RepeatedOption: an option is given twice, but is allowed once.",
         "Cause: two outputs (-o); before one FILE two -a, or -a and -A (-d and -D, -s",
-        "  and -S). Or one track twice in an option such as --language.",
+        "  and -S); before one --attach-file two --attachment-name. Or one track twice",
+        "  in an option such as --language.",
         "Do: put all track IDs in one option (-a 1,2). Options before another FILE are",
         "  separate.",
     ]),
@@ -88,9 +89,12 @@ pub(crate) const WORD_TOPICS: [(&str, &[&str]); 15] = [
         "Do: name at least one FILE.",
     ]),
     ("DanglingOption", &[
-        "DanglingOption: word N is an option for the next FILE, but no FILE follows.",
-        "Cause: a file option at the end (\"merge -o OUT film.mkv -A\").",
-        "Do: put file options before their FILE: \"merge -o OUT -A film.mkv\".",
+        "DanglingOption: word N is an option for the next FILE or the next attached",
+        "  file, but none follows.",
+        "Cause: a file option at the end (\"merge -o OUT film.mkv -A\"), or",
+        "  --attachment-name after the last --attach-file.",
+        "Do: put such options before their FILE or --attach-file: \"merge -o OUT -A",
+        "  film.mkv\".",
     ]),
     ("AppendFirst", &[
         "AppendFirst: there is a + before the first FILE.",
@@ -103,9 +107,11 @@ pub(crate) const WORD_TOPICS: [(&str, &[&str]); 15] = [
         "Do: give each output its own name.",
     ]),
     ("TooManyInputs", &[
-        "TooManyInputs: word N is the 65th FILE; merge takes 64.",
+        "TooManyInputs: word N is the 65th FILE, or the 257th attached file; merge",
+        "  takes 64 and 256.",
         "Cause: a long list of files, often from *.mkv.",
-        "Do: merge the first 64, then merge that output with the others.",
+        "Do: merge the first 64, then merge that output with the others; attach the",
+        "  others so, too.",
     ]),
     ("NeedsUuids", &[
         "NeedsUuids: --link is given without --segment-uid.",

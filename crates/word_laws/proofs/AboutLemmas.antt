@@ -126,3 +126,16 @@ ids_part _ _ _ are = absurd are
 pub piece_items-append : (ps qs : List Piece) (at : ℕ) → piece_items at (ps ++ qs) ≡ piece_items at ps ++ piece_items (after_pieces at ps) qs
 piece_items-append [] qs at = refl
 piece_items-append (p ∷ ps) qs at = rw (piece_items-append ps qs (after_said at p.said)) (sym (append_assoc (said_items at p.subject p.scope p.said) (piece_items (after_said at p.said) ps) (piece_items (after_pieces (after_said at p.said) ps) qs)))
+
+pub after_pieces-append : (ps qs : List Piece) (at : ℕ) → after_pieces at (ps ++ qs) ≡ after_pieces (after_pieces at ps) qs
+after_pieces-append [] qs at = refl
+after_pieces-append (p ∷ ps) qs at = after_pieces-append ps qs (after_said at p.said)
+
+pub about-append : (t : Subject) (ps qs : List Piece) → about t (ps ++ qs) ≡ about t ps ++ about t qs
+about-append t [] qs = refl
+about-append t (p ∷ ps) qs =
+    let rest = about-append t ps qs in
+    elim (cases_Bool (same p.subject t)) [
+      | inl is ↦ rw is (rw rest (sym (append_assoc p.said (about t ps) (about t qs))))
+      | inr is ↦ rw is rest
+    ]

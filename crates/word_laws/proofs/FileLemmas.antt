@@ -8,10 +8,11 @@ use Rattle.std.specs.List.{AllZip}
 use Rattle.word_values.specs.declared.values.Value.TheVariants.{Flag, File, TrackDelay, TrackText, TrackLanguage, TrackLanguageTag, TrackFlag, TrackCues, TrackFile}
 use Rattle.word_values.specs.declared.values.ValueForm.TheVariants as form
 use Rattle.requests.specs.declared.merge.FileWords.{FileWords}
+use Rattle.merge_words.specs.declared.options.Subject.{Subject}
 use Rattle.merge_words.specs.declared.options.Subject.TheVariants as subject
 use Rattle.merge_words.specs.declared.options.Scope.TheVariants as scope
-use Rattle.merge_words.specs.Options.{meaning_of, table}
-use Rattle.merge_words.specs.Items.{item_at, append_at, file_at, files_in, stands, is_file, since_file}
+use Rattle.merge_words.specs.Options.{meaning_of, table, same}
+use Rattle.merge_words.specs.Items.{item_at, append_at, file_at, counted, files_in, stands, is_file, since_file}
 use Rattle.merge_words.specs.Merge.{starts, read_all}
 use Rattle.requests.specs.Sound.{IsSoundFile}
 use Rattle.word_laws.specs.Names.{IsInputName}
@@ -208,16 +209,16 @@ file_items at f = piece_items at (group f) ++ item (after_pieces at (group f)) s
 abbrev pub after_file : ℕ → FileWords → ℕ
 after_file at f = after_pieces at (group f) + 1
 
--- Items without a file count as no file.
-none_counted : (items : List Item) → stands subject.File items ≡ false → files_in items ≡ 0
-none_counted [] none = refl
-none_counted (i ∷ is) none = let parts = or_parts (is_file i) (stands subject.File is) none in rw parts.0 (none_counted is parts.1)
+-- Items with another subject aren't counted.
+pub none_with : (t : Subject) (items : List Item) → stands t items ≡ false → counted t items ≡ 0
+none_with t [] none = refl
+none_with t (i ∷ is) none = let parts = or_parts (same i.subject t) (stands t is) none in rw parts.0 (none_with t is parts.1)
 
 pub counted_both : (a b : List Item) → files_in (a ++ b) ≡ files_in a + files_in b
 counted_both a b = sum_by-append (λ (i : Item). if is_file i then 1 else 0) a b
 
 pub same_count : (before more : List Item) → stands subject.File more ≡ false → files_in (before ++ more) ≡ files_in before
-same_count before more none = let e = counted_both before more in let z = none_counted more none in omega arith
+same_count before more none = let e = counted_both before more in let z = none_with subject.File more none in omega arith
 
 group_no_file : (f : FileWords) (at : ℕ) → stands subject.File (piece_items at (group f)) ≡ false
 group_no_file f at = other_stands at subject.File (group f) refl
@@ -231,7 +232,7 @@ file_read count before at f rest sound is some few free =
     let all = piece_items at (group f) in
     let opts : (parts_joined (file_options f) ++ f.name ∷ []) ++ rest ≡ parts_joined (file_options f) ++ (f.name ∷ rest) = append_assoc (parts_joined (file_options f)) (f.name ∷ []) rest in
     let first = join_read count before at f.appended (parts_joined (file_options f) ++ (f.name ∷ rest)) some free.0 in
-    let next = pieces_read (file_pieces f) count (before ++ joins) behind (f.name ∷ rest) refl refl (file_readable f sound is) (still_free before at subject.Append scope.File (join_said f) (file_pieces f) refl refl free.1) in
+    let next = pieces_read (file_pieces f) count (before ++ joins) behind (f.name ∷ rest) refl refl refl (file_readable f sound is) (still_free before at subject.Append scope.File (join_said f) (file_pieces f) refl refl refl free.1) in
     let ends = item (after_pieces at (group f)) subject.File scope.Output (File f.name) in
     let read = subst (λ ws. read_all count (before ++ joins) (starts behind (ws ++ (f.name ∷ rest))) ≡ read_all count ((before ++ joins) ++ options) (starts (after_pieces at (group f)) (f.name ∷ rest))) (file_spelled f) next in
     let whole : (before ++ joins) ++ options ≡ before ++ all = append_assoc before joins options in

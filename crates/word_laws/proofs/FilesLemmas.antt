@@ -1,20 +1,23 @@
 -- The inputs of a merge are read back, in sequence.
-use Rattle.std.proofs.Common.{◌≡◌, ◌<◌, ◌≤◌, ℕ, ◌+◌, Bool, true, false, ◌&&◌, List, [], ◌∷◌, ◌++◌, length, Ok, refl, ◌∙◌, arith, append_assoc, All, ◌==◌, flat_map}
+use Rattle.std.proofs.Common.{◌≡◌, ◌<◌, ◌≤◌, ℕ, ◌+◌, Bool, true, false, ◌&&◌, if◌then◌else◌, List, [], ◌∷◌, ◌++◌, length, Ok, refl, ap, ◌∙◌, arith, append_assoc, All, ◌==◌, flat_map}
 use Rattle.std.proofs.lemmas.Bool.{and_parts, or_parts}
 use Rattle.std.proofs.lemmas.Bool.Decides.{nat_tests}
 use Rattle.std.proofs.lemmas.List.{append-nil}
 use Rattle.std.proofs.lemmas.List.Elements.{All-head, All-tail}
+use Rattle.word_values.specs.declared.values.Value.{Value}
 use Rattle.word_values.specs.declared.values.Value.TheVariants.{File}
 use Rattle.requests.specs.declared.merge.FileWords.{FileWords}
+use Rattle.merge_words.specs.declared.options.Subject.{Subject}
 use Rattle.merge_words.specs.declared.options.Subject.TheVariants as subject
+use Rattle.merge_words.specs.Options.{same}
 use Rattle.merge_words.specs.declared.options.Scope.{Scope}
 use Rattle.merge_words.specs.declared.options.Scope.TheVariants as scope
-use Rattle.merge_words.specs.Items.{files_in, stands, is_file, since_file}
+use Rattle.merge_words.specs.Items.{files_in, stands, since_file}
 use Rattle.merge_words.specs.Files.{file}
 use Rattle.merge_words.specs.Merge.{starts, read_all}
 use Rattle.requests.specs.Sound.{IsSoundFile}
-use Rattle.merge_words.proofs.ItemsLemmas.{latest_file, since_latest}
-use Rattle.merge_words.proofs.FilesLemmas.{files_from}
+use Rattle.merge_words.proofs.ItemsLemmas.{latest_end, since_latest}
+use Rattle.merge_words.proofs.FilesLemmas.{made_from, files_from}
 use Rattle.word_laws.specs.SpelledMerge.{file_words}
 use Rattle.word_laws.specs.SpellableMerge.{IsMergeFile}
 use Rattle.word_laws.proofs.SayingLemmas.{Item, Piece, item, piece_items, after_pieces, other_stands}
@@ -26,10 +29,11 @@ use Rattle.word_laws.proofs.OwnLemmas.{group_says, file_is}
 pub none_since : (before : List Item) (at : ℕ) (f : FileWords) → since_file (before ++ file_items at f) ≡ []
 none_since before at f =
     let last = item (after_pieces at (group f)) subject.File scope.Output (File f.name) in
-    since_latest (before ++ file_items at f) ∙ rw (← append_assoc before (piece_items at (group f)) (last ∷ [])) (latest_file [] (before ++ piece_items at (group f)) last refl)
+    since_latest subject.File (before ++ file_items at f) ∙ rw (← append_assoc before (piece_items at (group f)) (last ∷ [])) (latest_end subject.File [] (before ++ piece_items at (group f)) last refl)
 
 abbrev in_file : Scope → Bool
 in_file scope.Output = false
+in_file scope.Attached = false
 in_file scope.File = true
 in_file scope.Track = true
 
@@ -39,6 +43,7 @@ in_files (p ∷ ps) = in_file p.scope && in_files ps
 
 none_among : (before : List Item) (c : Scope) → since_file before ≡ [] → in_file c ≡ true → among c before ≡ []
 none_among before scope.Output none is = absurd (cc)
+none_among before scope.Attached none is = absurd (cc)
 none_among before scope.File none is = none
 none_among before scope.Track none is = none
 
@@ -71,11 +76,28 @@ files_read (f ∷ fs) count before at sound are some few none =
     here ∙ (next ∙ rw (append_assoc before (file_items at f) (files_items (after_file at f) fs)) refl)
 
 -- ---- the files that are read are the given ones
+-- Items with another subject join the group.
+pub made_behind : {X : Type 0} (t : Subject) (make : List Item → Value → X) (front own rest : List Item) → stands t own ≡ false → made_from t make front (own ++ rest) ≡ made_from t make (front ++ own) rest
+made_behind t make front [] rest none = rw (append-nil front) refl
+made_behind t make front (i ∷ is) rest none =
+    let parts = or_parts (same i.subject t) (stands t is) none in
+    rw parts.0 (made_behind t make (front ++ i ∷ []) is rest parts.1 ∙ rw (append_assoc front (i ∷ []) is) refl)
+
+made_none : {X : Type 0} (t : Subject) (make : List Item → Value → X) (group ys : List Item) → stands t ys ≡ false → made_from t make group ys ≡ []
+made_none t make group [] none = refl
+made_none t make group (y ∷ ys) none = let parts = or_parts (same y.subject t) (stands t ys) none in rw parts.0 (made_none t make (group ++ y ∷ []) ys parts.1)
+
+-- Items with another subject at the end make nothing.
+pub made_end : {X : Type 0} (t : Subject) (make : List Item → Value → X) (group xs ys : List Item) → stands t ys ≡ false → made_from t make group (xs ++ ys) ≡ made_from t make group xs
+made_end t make group [] ys none = made_none t make group ys none
+made_end t make group (x ∷ xs) ys none =
+    elim (same x.subject t) as (λ b. (if b then make group x.value ∷ made_from t make [] (xs ++ ys) else made_from t make (group ++ x ∷ []) (xs ++ ys)) ≡ (if b then make group x.value ∷ made_from t make [] xs else made_from t make (group ++ x ∷ []) xs)) [
+      | true ↦ ap (λ l. make group x.value ∷ l) (made_end t make [] xs ys none)
+      | false ↦ made_end t make (group ++ x ∷ []) xs ys none
+    ]
+
 pub files_behind : (front own rest : List Item) → stands subject.File own ≡ false → files_from front (own ++ rest) ≡ files_from (front ++ own) rest
-files_behind front [] rest none = rw (append-nil front) refl
-files_behind front (i ∷ is) rest none =
-    let parts = or_parts (is_file i) (stands subject.File is) none in
-    rw parts.0 (files_behind (front ++ i ∷ []) is rest parts.1 ∙ rw (append_assoc front (i ∷ []) is) refl)
+files_behind front own rest none = made_behind subject.File file front own rest none
 
 pub files_first : (front : List Item) (at : ℕ) (f : FileWords) (rest : List Item) → files_from front (file_items at f ++ rest) ≡ file (front ++ piece_items at (group f)) (File f.name) ∷ files_from [] rest
 files_first front at f rest =

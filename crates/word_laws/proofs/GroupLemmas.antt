@@ -15,39 +15,41 @@ use Rattle.merge_words.specs.declared.options.Scope.TheVariants as scope
 use Rattle.merge_words.specs.declared.options.Meaning.{Meaning}
 use Rattle.merge_words.specs.Options.{meaning_of, same}
 use Rattle.word_values.specs.Values.{flag_of, value_of}
-use Rattle.merge_words.specs.Items.{is_file, item_at, stands, stands_for, track_in, is_track, repeats_in, repeats_for, since_file}
+use Rattle.merge_words.specs.Items.{item_at, stands, stands_for, track_in, is_track, repeats_in, repeats_for, since, since_file, since_attached}
 use Rattle.merge_words.specs.Merge.{start, starts, read_all, takes_next}
 use Rattle.merge_words.proofs.ItemsLemmas.{latest, since_latest}
 use Rattle.word_laws.proofs.SayingLemmas.{Item, Said, Piece, words_said, said_words, piece_words, takes, next_of, item, said_items, after_said, piece_items, after_pieces, read_one, IsOption, value_item, flag_item, value_width, flag_width, none_about, not_and, said_stands, stands_both}
 
 -- ---- the items since the last file grow with each option
-latest_none : (group ys : List Item) → stands subject.File ys ≡ false → latest group ys ≡ group ++ ys
-latest_none group [] none = sym (append-nil group)
-latest_none group (y ∷ ys) none =
-    let parts = or_parts (is_file y) (stands subject.File ys) none in
-    rw parts.0 (latest_none (group ++ y ∷ []) ys parts.1 ∙ append_assoc group (y ∷ []) ys)
+latest_none : (t : Subject) (group ys : List Item) → stands t ys ≡ false → latest t group ys ≡ group ++ ys
+latest_none t group [] none = sym (append-nil group)
+latest_none t group (y ∷ ys) none =
+    let parts = or_parts (same y.subject t) (stands t ys) none in
+    rw parts.0 (latest_none t (group ++ y ∷ []) ys parts.1 ∙ append_assoc group (y ∷ []) ys)
 
-latest_grows : (group xs ys : List Item) → stands subject.File ys ≡ false → latest group (xs ++ ys) ≡ latest group xs ++ ys
-latest_grows group [] ys none = latest_none group ys none
-latest_grows group (x ∷ xs) ys none =
-    elim (is_file x) as (λ b. (if b then latest [] (xs ++ ys) else latest (group ++ x ∷ []) (xs ++ ys)) ≡ (if b then latest [] xs else latest (group ++ x ∷ []) xs) ++ ys) [
-      | true ↦ latest_grows [] xs ys none
-      | false ↦ latest_grows (group ++ x ∷ []) xs ys none
+latest_grows : (t : Subject) (group xs ys : List Item) → stands t ys ≡ false → latest t group (xs ++ ys) ≡ latest t group xs ++ ys
+latest_grows t group [] ys none = latest_none t group ys none
+latest_grows t group (x ∷ xs) ys none =
+    elim (same x.subject t) as (λ b. (if b then latest t [] (xs ++ ys) else latest t (group ++ x ∷ []) (xs ++ ys)) ≡ (if b then latest t [] xs else latest t (group ++ x ∷ []) xs) ++ ys) [
+      | true ↦ latest_grows t [] xs ys none
+      | false ↦ latest_grows t (group ++ x ∷ []) xs ys none
     ]
 
-pub since_grows : (before ys : List Item) → stands subject.File ys ≡ false → since_file (before ++ ys) ≡ since_file before ++ ys
-since_grows before ys none = since_latest (before ++ ys) ∙ (latest_grows [] before ys none ∙ ap (λ l. l ++ ys) (sym (since_latest before)))
+pub since_grows : (t : Subject) (before ys : List Item) → stands t ys ≡ false → since t (before ++ ys) ≡ since t before ++ ys
+since_grows t before ys none = since_latest t (before ++ ys) ∙ (latest_grows t [] before ys none ∙ ap (λ l. l ++ ys) (sym (since_latest t before)))
 
 -- the items among which an option of this scope may be given once
 abbrev pub among : Scope → List Item → List Item
 among scope.Output before = before
+among scope.Attached before = since_attached before
 among scope.File before = since_file before
 among scope.Track before = since_file before
 
-pub among_grows : (c : Scope) (before ys : List Item) → stands subject.File ys ≡ false → among c (before ++ ys) ≡ among c before ++ ys
-among_grows scope.Output before ys none = refl
-among_grows scope.File before ys none = since_grows before ys none
-among_grows scope.Track before ys none = since_grows before ys none
+pub among_grows : (c : Scope) (before ys : List Item) → stands subject.File ys ≡ false → stands subject.AttachedFile ys ≡ false → among c (before ++ ys) ≡ among c before ++ ys
+among_grows scope.Output before ys none alone = refl
+among_grows scope.Attached before ys none alone = since_grows subject.AttachedFile before ys alone
+among_grows scope.File before ys none alone = since_grows subject.File before ys none
+among_grows scope.Track before ys none alone = since_grows subject.File before ys none
 
 -- ---- options
 pub record IsSaid (s : Subject) (c : Scope) (x : Said) : Type 0 where
@@ -71,6 +73,7 @@ flag_said word means value is says = record {
 
 once_free : (s : Subject) (c : Scope) (before : List Item) → stands s (among c before) ≡ false → repeats_in c s before ≡ false
 once_free s scope.Output before free = free
+once_free s scope.Attached before free = free
 once_free s scope.File before free = free
 once_free s scope.Track before free = refl
 
@@ -104,7 +107,7 @@ module _ {X : Type 0} (s : Subject) (make : ℕ × X → Said) (names : (p : ℕ
       → stands_for s q.0 (since_file (before ++ item at s scope.Track (make p).says ∷ [])) ≡ false
   free_next p q before at file other free =
       let none : stands subject.File (item at s scope.Track (make p).says ∷ []) ≡ false = rw file refl in
-      rw (since_grows before (item at s scope.Track (make p).says ∷ []) none)
+      rw (since_grows subject.File before (item at s scope.Track (make p).says ∷ []) none)
       (rw (list_any-append (λ (i : Item). same i.subject s && is_track q.0 (track_in i.value)) (since_file before) (item at s scope.Track (make p).says ∷ []))
       (rw free (rw (names p) (rw other (rw (and_right (same s s) false refl) refl)))))
 
@@ -158,22 +161,24 @@ abbrev pub AreFree : List Item → List Piece → Type 0
 AreFree before [] = Unit {0}
 AreFree before (p ∷ ps) = (stands p.subject (among p.scope before) ≡ false) × AreFree before ps
 
-pub still_free : (before : List Item) (at : ℕ) (s : Subject) (c : Scope) (list : List Said) (ps : List Piece) → same s subject.File ≡ false → none_like s ps ≡ true → AreFree before ps
+pub still_free : (before : List Item) (at : ℕ) (s : Subject) (c : Scope) (list : List Said) (ps : List Piece) → same s subject.File ≡ false → same s subject.AttachedFile ≡ false → none_like s ps ≡ true → AreFree before ps
     → AreFree (before ++ said_items at s c list) ps
-still_free before at s c list [] file other free = tt
-still_free before at s c list (p ∷ ps) file other free =
+still_free before at s c list [] file alone other free = tt
+still_free before at s c list (p ∷ ps) file alone other free =
     let parts = not_and (same s p.subject) (none_like s ps) other in
     let no_file = said_stands at s subject.File c list file in
+    let no_attached = said_stands at s subject.AttachedFile c list alone in
     let own = said_stands at s p.subject c list parts.0 in
-    (rw (among_grows p.scope before (said_items at s c list) no_file) (stands_both p.subject (among p.scope before) (said_items at s c list) free.0 own), still_free before at s c list ps file parts.1 free.1)
+    (rw (among_grows p.scope before (said_items at s c list) no_file no_attached) (stands_both p.subject (among p.scope before) (said_items at s c list) free.0 own), still_free before at s c list ps file alone parts.1 free.1)
 
-pub pieces_read : (ps : List Piece) (count : ℕ) (before : List Item) (at : ℕ) (rest : List (List ℕ)) → are_apart ps ≡ true → none_about subject.File ps ≡ true → AreReadable ps → AreFree before ps
+pub pieces_read : (ps : List Piece) (count : ℕ) (before : List Item) (at : ℕ) (rest : List (List ℕ)) → are_apart ps ≡ true → none_about subject.File ps ≡ true → none_about subject.AttachedFile ps ≡ true → AreReadable ps → AreFree before ps
     → read_all count before (starts at (piece_words ps ++ rest)) ≡ read_all count (before ++ piece_items at ps) (starts (after_pieces at ps) rest)
-pieces_read [] count before at rest apart files are free = rw (append-nil before) refl
-pieces_read (p ∷ ps) count before at rest apart files are free =
+pieces_read [] count before at rest apart files others are free = rw (append-nil before) refl
+pieces_read (p ∷ ps) count before at rest apart files others are free =
     let parts = and_parts (none_like p.subject ps) (are_apart ps) apart in
     let file = not_and (same p.subject subject.File) (none_about subject.File ps) files in
+    let other = not_and (same p.subject subject.AttachedFile) (none_about subject.AttachedFile ps) others in
     let items = said_items at p.subject p.scope p.said in
     let first = are.0 count before at (piece_words ps ++ rest) free.0 in
-    let next = pieces_read ps count (before ++ items) (after_said at p.said) rest parts.1 file.1 are.1 (still_free before at p.subject p.scope p.said ps file.0 parts.0 free.1) in
+    let next = pieces_read ps count (before ++ items) (after_said at p.said) rest parts.1 file.1 other.1 are.1 (still_free before at p.subject p.scope p.said ps file.0 other.0 parts.0 free.1) in
     rw (append_assoc (said_words p.said) (piece_words ps) rest) (first ∙ (next ∙ rw (append_assoc before items (piece_items (after_said at p.said) ps)) refl))

@@ -13,6 +13,7 @@ mod FileLemmas
 mod OwnLemmas
 mod OutputLemmas
 mod FilesLemmas
+mod AttachedLemmas
 mod MergedLemmas
 mod LawLemmas
 mod PlainLemmas

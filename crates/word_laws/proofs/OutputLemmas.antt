@@ -14,6 +14,7 @@ use Rattle.requests.specs.declared.merge.FileWords.{FileWords}
 use Rattle.requests.specs.declared.merge.MergeWords.{MergeWords}
 use Rattle.merge_words.specs.declared.options.Subject.{Subject}
 use Rattle.merge_words.specs.declared.options.Subject.TheVariants as subject
+use Rattle.merge_words.specs.declared.options.Scope.{Scope}
 use Rattle.merge_words.specs.declared.options.Scope.TheVariants as scope
 use Rattle.merge_words.specs.Options.{meaning_of, table}
 use Rattle.merge_words.specs.Files.{ids_of}
@@ -143,11 +144,11 @@ output_spelled w = pieces_spelled (output_pieces w) (output_options w) (
     tt)
 
 -- A value is read back, if there is one.
-value_readable : {X : Type 0} (s : Subject) (f : ValueForm) (word : List ℕ) (text : X → List ℕ) (value : X → Value) (o : Option X) → IsOption word (means s scope.Output f) → flag_of f ≡ None
-    → ((x : X) → track_in (value x) ≡ None) → ((x : X) → o ≡ Some x → value_of f (text x) ≡ Some (value x)) → IsReadable (record { subject = s; scope = scope.Output; said = said_value word text value o })
-value_readable s f word text value None is due none reads = once_read s scope.Output [] tt
-value_readable s f word text value (Some x) is due none reads =
-    once_read s scope.Output (said_value word text value (Some x)) (value_said word (means s scope.Output f) (text x) (value x) is due (reads x refl), none x)
+pub value_readable : {X : Type 0} (c : Scope) (s : Subject) (f : ValueForm) (word : List ℕ) (text : X → List ℕ) (value : X → Value) (o : Option X) → IsOption word (means s c f) → flag_of f ≡ None
+    → ((x : X) → track_in (value x) ≡ None) → ((x : X) → o ≡ Some x → value_of f (text x) ≡ Some (value x)) → IsReadable (record { subject = s; scope = c; said = said_value word text value o })
+value_readable c s f word text value None is due none reads = once_read s c [] tt
+value_readable c s f word text value (Some x) is due none reads =
+    once_read s c (said_value word text value (Some x)) (value_said word (means s c f) (text x) (value x) is due (reads x refl), none x)
 
 title_is : (o : Option (List ℕ)) (x : List ℕ) → IfSome o IsText → o ≡ Some x → IsText x
 title_is None x is same = absurd (cc)
@@ -159,14 +160,14 @@ scale_is scale x same = elim (cases_Bool (scale == 1000000)) [ inl is ↦ absurd
 output_readable : (w : MergeWords) → IsSoundMerge w → IsSpellableMerge w → AreReadable (output_pieces w)
 unfolding meaning_of table value_of
 output_readable w sound is = (
-    value_readable subject.Output form.Name (codes "--output") (λ t. t) File (Some w.output) (refl, refl) refl (λ x. refl) (λ x same. refl) &
+    value_readable scope.Output subject.Output form.Name (codes "--output") (λ t. t) File (Some w.output) (refl, refl) refl (λ x. refl) (λ x same. refl) &
     flag_readable subject.Webm scope.Output (codes "--webm") w.webm (refl, refl) &
-    value_readable subject.Title form.Text (codes "--title") (λ t. t) Text w.title (refl, refl) refl (λ x. refl) (λ x same. rw (text_read x (title_is w.title x is.title same)) refl) &
-    value_readable subject.ChapterFile form.Name (codes "--chapters") (λ t. t) File w.chapters (refl, refl) refl (λ x. refl) (λ x same. refl) &
-    value_readable subject.Scale form.Scale (codes "--timestamp-scale") decimal Scale (unusual 1000000 w.scale) (refl, refl) refl (λ x. refl)
+    value_readable scope.Output subject.Title form.Text (codes "--title") (λ t. t) Text w.title (refl, refl) refl (λ x. refl) (λ x same. rw (text_read x (title_is w.title x is.title same)) refl) &
+    value_readable scope.Output subject.ChapterFile form.Name (codes "--chapters") (λ t. t) File w.chapters (refl, refl) refl (λ x. refl) (λ x same. refl) &
+    value_readable scope.Output subject.Scale form.Scale (codes "--timestamp-scale") decimal Scale (unusual 1000000 w.scale) (refl, refl) refl (λ x. refl)
     (λ x same. scale_read x (let e = scale_is w.scale x same in rw e at sound.scale)) &
     length_readable (w.blocks == 65535) (w.span == 5000000000) w.blocks w.span (refl, refl) sound.blocks sound.span is.milliseconds &
-    value_readable subject.Split form.Split (codes "--split") split_word Split w.split (refl, refl) refl (λ x. refl)
+    value_readable scope.Output subject.Split form.Split (codes "--split") split_word Split w.split (refl, refl) refl (λ x. refl)
     (λ x same. let both = split_sound w.split x sound.split is.split same in split_value_read x both.0 both.1) &
     uuids_readable w.uuids (refl, refl) sound.uuids is.uuids &
     flag_readable subject.Link scope.Output (codes "--link") w.link (refl, refl) &
@@ -178,7 +179,7 @@ output_readable w sound is = (
 pub output_read : (w : MergeWords) (count : ℕ) (rest : List (List ℕ)) → IsSoundMerge w → IsSpellableMerge w
     → read_all count [] (starts 1 (parts_joined (output_options w) ++ rest)) ≡ read_all count (piece_items 1 (output_pieces w)) (starts (after_pieces 1 (output_pieces w)) rest)
 output_read w count rest sound is =
-    let read = pieces_read (output_pieces w) count [] 1 rest refl refl (output_readable w sound is) (refl, (refl, (refl, (refl, (refl, (refl, (refl, (refl, (refl, (refl, (refl, (refl, tt)))))))))))) in
+    let read = pieces_read (output_pieces w) count [] 1 rest refl refl refl (output_readable w sound is) (refl, (refl, (refl, (refl, (refl, (refl, (refl, (refl, (refl, (refl, (refl, (refl, tt)))))))))))) in
     subst (λ ws. read_all count [] (starts 1 (ws ++ rest)) ≡ read_all count (piece_items 1 (output_pieces w)) (starts (after_pieces 1 (output_pieces w)) rest)) (output_spelled w) read
 
 -- ---- the pieces have no subject of a file

@@ -74,7 +74,8 @@ module _ (output name : List ℕ) where
     split = tt;
     uuids = All-nil _;
     link = tt;
-    attached = refl;
+    attached = All-nil _;
+    few = omega arith;
     order = record { differ = refl; short = All-nil _; begin = refl };
     files = All-cons IsMergeFile (plain_file name) [] (file-spelled name input) (All-nil IsMergeFile);
   }

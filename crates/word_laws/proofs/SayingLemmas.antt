@@ -1,6 +1,6 @@
 -- Options in sequence are read as items.
-use Rattle.std.proofs.Common.{◌≡◌, ℕ, ◌+◌, Bool, true, false, not, ◌&&◌, List, [], ◌∷◌, ◌++◌, codes, Option, Some, None, Ok, refl, ap, ◌∙◌, slice_get, is_some, inl, inr, flat_map}
-use Rattle.std.proofs.lemmas.Bool.{and_parts, not-true, cases_Bool}
+use Rattle.std.proofs.Common.{◌≡◌, ℕ, ◌+◌, Bool, true, false, not, ◌&&◌, ◌||◌, List, [], ◌∷◌, ◌++◌, codes, Option, Some, None, Ok, refl, ap, ◌∙◌, slice_get, is_some, inl, inr, flat_map}
+use Rattle.std.proofs.lemmas.Bool.{and_parts, or_parts, not-true, cases_Bool}
 use Rattle.std.proofs.lemmas.List.Folds.{list_any-append}
 use Rattle.std.specs.Str.{bytes_eq}
 use Rattle.word_values.specs.declared.values.Value.{Value}
@@ -11,7 +11,7 @@ use Rattle.merge_words.specs.declared.options.Subject.TheVariants as subject
 use Rattle.merge_words.specs.declared.options.Scope.{Scope}
 use Rattle.merge_words.specs.declared.options.Meaning.{Meaning}
 use Rattle.merge_words.specs.Options.{same, meaning_of}
-use Rattle.merge_words.specs.Items.{item_at, option_at, stands, track_in, repeats, repeats_for, since_file}
+use Rattle.merge_words.specs.Items.{item_at, option_at, stands, track_in, overfull, repeats, repeats_for, since_file}
 use Rattle.merge_words.specs.Merge.{start, starts, read_all, takes_next}
 use Rattle.word_laws.proofs.SimpleLemmas.{other_word}
 
@@ -94,7 +94,7 @@ read_one count before at word value i rest is reads = rw (starts_one at word val
 
 -- ---- an option
 abbrev pub IsOption : List ℕ → Meaning → Type 0
-IsOption word means = (meaning_of word ≡ Some means) × (same means.subject subject.Identify ≡ false)
+IsOption word means = (meaning_of word ≡ Some means) × ((same means.subject subject.Identify || same means.subject subject.AttachedFile) ≡ false)
 
 looks_known : (word : List ℕ) (means : Meaning) → meaning_of word ≡ Some means → is_option word ≡ true
 unfolding meaning_of
@@ -103,13 +103,18 @@ looks_known word means known = elim (cases_Bool (is_option word)) [ inl is ↦ i
 no_join : (word : List ℕ) → is_option word ≡ true → bytes_eq word (codes "+") ≡ false
 no_join word looks = other_word word (codes "+") (λ is. let e : is_option word ≡ false = ap is_option is in cc)
 
+-- An option of another subject attaches no file.
+not_overfull : (about : Subject) (before : List Item) → same about subject.AttachedFile ≡ false → overfull about before ≡ false
+not_overfull about before other = rw other refl
+
 -- The option with a value.
 pub value_item : (word : List ℕ) (means : Meaning) (before : List Item) (at count : ℕ) (text : List ℕ) (value : Value) → IsOption word means
     → flag_of means.form ≡ None → value_of means.form text ≡ Some value → repeats means before ≡ false → repeats_for means.subject (track_in value) before ≡ false
     → item_at before (start at word (Some text)) count ≡ Ok (item at means.subject means.scope value)
 unfolding item_at option_at
 value_item word means before at count text value is due reads once free =
-    rw (no_join word (looks_known word means is.0)) (rw (looks_known word means is.0) (rw is.0 (rw is.1 (rw once (rw due (rw reads (rw free refl)))))))
+    let parts = or_parts (same means.subject subject.Identify) (same means.subject subject.AttachedFile) is.1 in
+    rw (no_join word (looks_known word means is.0)) (rw (looks_known word means is.0) (rw is.0 (rw parts.0 (rw once (rw due (rw reads (rw (not_overfull means.subject before parts.1) (rw free refl))))))))
 
 -- The option without a value.
 pub flag_item : (word : List ℕ) (means : Meaning) (before : List Item) (at count : ℕ) (next : Option (List ℕ)) (value : Value) → IsOption word means
@@ -117,7 +122,8 @@ pub flag_item : (word : List ℕ) (means : Meaning) (before : List Item) (at cou
     → item_at before (start at word next) count ≡ Ok (item at means.subject means.scope value)
 unfolding item_at option_at
 flag_item word means before at count next value is says once free =
-    rw (no_join word (looks_known word means is.0)) (rw (looks_known word means is.0) (rw is.0 (rw is.1 (rw once (rw says (rw free refl))))))
+    let parts = or_parts (same means.subject subject.Identify) (same means.subject subject.AttachedFile) is.1 in
+    rw (no_join word (looks_known word means is.0)) (rw (looks_known word means is.0) (rw is.0 (rw parts.0 (rw once (rw says (rw (not_overfull means.subject before parts.1) (rw free refl)))))))
 
 pub value_width : (word : List ℕ) (means : Meaning) → IsOption word means → flag_of means.form ≡ None → takes_next (meaning_of word) ≡ true
 value_width word means is due = rw is.0 (rw due refl)

@@ -17,9 +17,10 @@ use Rattle.std.proofs.lemmas.List.Elements.{All-nil, All-cons}
 use Rattle.std.proofs.lemmas.Slice.Eq.{bytes_eq-Decides}
 use Rattle.std.specs.Str.{bytes_eq}
 use Rattle.requests.specs.Plain.{no_flags, plain_file, plain_words}
+use Rattle.requests.specs.declared.merge.AttachedWords.{AttachedWords}
 use Rattle.requests.specs.declared.merge.FileWords.{FileWords}
 use Rattle.requests.specs.declared.merge.MergeWords.{MergeWords}
-use Rattle.word_laws.specs.SpellableMerge.{AreOfTracks, IsDelay, IsText, IsLanguage, IsLanguageTag, IsMergeFile, IsSpellableMerge}
+use Rattle.word_laws.specs.SpellableMerge.{AreOfTracks, IsDelay, IsText, IsLanguage, IsLanguageTag, IsMergeFile, IsAttachable, IsSpellableMerge}
 
 -- the arguments of a line, separated by one space each
 abbrev words : List ℕ → List (List ℕ)
@@ -62,17 +63,22 @@ first_file = record (plain_file (codes "f.mkv")) {
 abbrev second_file : FileWords
 second_file = record (plain_file (codes "g.mkv")) { appended = true }
 
+-- a file that is attached
+abbrev font : AttachedWords
+font = record { file = codes "f.ttf"; name = codes "F.ttf"; media_type = codes "font/ttf"; description = codes "d" }
+
 abbrev merging : MergeWords
 merging = record (plain_words (codes "o.mkv") (Some (splits.Duration 3723500000000)) (first_file ∷ second_file ∷ [])) {
   title = Some (codes "x");
   span = 250000000;
   uuids = 10 ∷ [];
   link = true;
+  attached = font ∷ [];
   order = (0, 12) ∷ (0, 0) ∷ [];
 }
 
 abbrev merge_line : List ℕ
-merge_line = codes "merge --output o.mkv --title x --cluster-length 250ms --split duration:1:02:03.500000000 --segment-uid 0000000000000000000000000000000a --link --track-order 0:12,0:0 --no-audio --subtitle-tracks !1,3 --no-chapters --keep-encodings --sync 0:-20 --language 0:eng --language-ietf 0:en-GB --forced-display-flag 2:1 --commentary-flag 2:0 --cues 0:none f.mkv + g.mkv"
+merge_line = codes "merge --output o.mkv --title x --cluster-length 250ms --split duration:1:02:03.500000000 --segment-uid 0000000000000000000000000000000a --link --track-order 0:12,0:0 --attachment-name F.ttf --attachment-mime-type font/ttf --attachment-description d --attach-file f.ttf --no-audio --subtitle-tracks !1,3 --no-chapters --keep-encodings --sync 0:-20 --language 0:eng --language-ietf 0:en-GB --forced-display-flag 2:1 --commentary-flag 2:0 --cues 0:none f.mkv + g.mkv"
 
 pub a_merge : spelled (commands.Merge merging) ≡ words merge_line
 unfolding digits last_digits
@@ -138,6 +144,9 @@ second_spelled = record {
   named = refl;
 }
 
+font_spelled : IsAttachable font
+font_spelled = record { some = omega arith; name = refl; media_type = refl; description = refl }
+
 abbrev IsShort : ℕ × ℕ → Type 0
 IsShort track = HasFewDigits track.0 × HasFewDigits track.1
 
@@ -149,7 +158,8 @@ a_merge_is_spelled = record {
   split = tt;
   uuids = All-cons (λ u. u < 2 ^ 128) 10 [] (omega arith) (All-nil (λ u. u < 2 ^ 128));
   link = omega arith;
-  attached = refl;
+  attached = All-cons IsAttachable font [] font_spelled (All-nil IsAttachable);
+  few = omega arith;
   order = record {
     differ = refl;
     short = All-cons IsShort (0, 12) ((0, 0) ∷ []) (omega arith, omega arith) (All-cons IsShort (0, 0) [] (omega arith, omega arith) (All-nil IsShort));

@@ -1,5 +1,5 @@
 -- The merges that have a canonical command line: their values are ones that a command line can give.
-use Rattle.std.specs.Prelude.{◌≡◌, ◌⊎◌, ◌<◌, IfSome, ⊤, ℕ, ℤ, ◌-◌, ◌%◌, ◌^◌, ◌==◌, ◌||◌, nat_lt, nat_abs, All, length, Bool, true, false, List, [], ◌∷◌, map}
+use Rattle.std.specs.Prelude.{◌≡◌, ◌⊎◌, ◌<◌, ◌≤◌, IfSome, ⊤, ℕ, ℤ, ◌-◌, ◌%◌, ◌^◌, ◌==◌, ◌||◌, nat_lt, nat_abs, All, length, Bool, true, false, List, [], ◌∷◌, map}
 use Rattle.std.specs.List.{flat_map}
 use Rattle.requests.specs.declared.track.Select.{Select}
 use Rattle.requests.specs.declared.track.Select.TheVariants as select
@@ -8,7 +8,8 @@ use Rattle.requests.specs.declared.split.SplitWords.TheVariants as split
 use Rattle.requests.specs.Lists.{differ}
 use Rattle.requests.specs.Language.{is_language_tag}
 use Rattle.word_values.specs.Lists.{pairs_differ}
-use Rattle.word_values.specs.Values.{is_language}
+use Rattle.word_values.specs.Values.{is_language, is_media_type}
+use Rattle.requests.specs.declared.merge.AttachedWords.{AttachedWords}
 use Rattle.requests.specs.declared.merge.FileWords.{FileWords}
 use Rattle.requests.specs.declared.merge.MergeWords.{MergeWords}
 use Rattle.merge_words.specs.Files.{ids_of_select, once}
@@ -116,6 +117,14 @@ IsLinkable false uuids = ⊤
 abbrev pub IsLength : ℕ → ℕ → Type 0
 IsLength blocks span = (blocks ≡ 65535) ⊎ (span ≡ 5000000000)
 
+-- The attached file `attached` can be given on a command line: its name isn't empty, its texts have no zero byte, and its media type has printable
+-- ASCII characters only. For `IsSpellableMerge`, in the laws on canonical command lines.
+pub record IsAttachable (attached : AttachedWords) : Type 0 where
+  pub some : 0 < length attached.name
+  pub name : IsText attached.name
+  pub media_type : is_media_type attached.media_type ≡ true
+  pub description : IsText attached.description
+
 -- The order of tracks `order`, of a merge of the inputs `files`, can be given on a command line. Its tracks differ, their numbers have at most 18
 -- digits, and each is of an input that isn't appended to another one. For `IsSpellableMerge`, in the laws on canonical command lines.
 pub record IsOrder (files : List FileWords) (order : List (ℕ × ℕ)) : Type 0 where
@@ -126,11 +135,12 @@ pub record IsOrder (files : List FileWords) (order : List (ℕ × ℕ)) : Type 0
 -- The merge `words` has a canonical command line: its options for the output and the files can be given. For `IsSpellable`.
 pub record IsSpellableMerge (words : MergeWords) : Type 0 where
   pub title : IfSome words.title IsText
+  pub few : length words.attached ≤ 256
+  pub attached : All IsAttachable words.attached
   pub length : IsLength words.blocks words.span
   pub milliseconds : words.span % 1000000 ≡ 0
   pub split : IfSome words.split IsSplit
   pub uuids : All (λ u. u < 2 ^ 128) words.uuids
   pub link : IsLinkable words.link words.uuids
-  pub attached : words.attached ≡ []
   pub order : IsOrder words.files words.order
   pub files : All IsMergeFile words.files

@@ -1,9 +1,10 @@
--- The canonical command line of a merge: the options for the whole output, and then each file after the options for it.
+-- The canonical command line of a merge: the options for the whole output, then each attached file and each file after the options for it.
 use Rattle.std.specs.Prelude.{ℕ, ◌/◌, ◌==◌, Bool, true, false, not, if◌then◌else◌, List, [], ◌∷◌, ◌++◌, codes, Option, Some, None, option_map}
 use Rattle.std.specs.List.{flat_map}
 use Rattle.std.specs.Fmt.{decimal}
 use Rattle.requests.specs.declared.track.Select.{Select}
 use Rattle.requests.specs.declared.track.Select.TheVariants as select
+use Rattle.requests.specs.declared.merge.AttachedWords.{AttachedWords}
 use Rattle.requests.specs.declared.merge.FileWords.{FileWords}
 use Rattle.requests.specs.declared.merge.MergeWords.{MergeWords}
 use Rattle.word_laws.specs.Values.{with_number, numbers_word, split_word, uuids_word, order_word, delay_word, flag_word, cues_word}
@@ -95,6 +96,13 @@ file_options file =
 abbrev pub file_words : FileWords → List (List ℕ)
 file_words file = flag (codes "+") file.appended ++ (parts_joined (file_options file) ++ file.name ∷ [])
 
+-- the arguments for the attached file `attached`: its name, media type and description, and the file. For `merge_words`, in the laws on canonical
+-- command lines.
+abbrev pub attached_words : AttachedWords → List (List ℕ)
+attached_words attached =
+    codes "--attachment-name" ∷ attached.name ∷ codes "--attachment-mime-type" ∷ attached.media_type ∷
+    codes "--attachment-description" ∷ attached.description ∷ codes "--attach-file" ∷ attached.file ∷ []
+
 -- the arguments of the merge `words` after `merge`. For `spelled`.
 abbrev pub merge_words : MergeWords → List (List ℕ)
-merge_words words = parts_joined (output_options words) ++ flat_map file_words words.files
+merge_words words = parts_joined (output_options words) ++ (flat_map attached_words words.attached ++ flat_map file_words words.files)

@@ -1,7 +1,7 @@
 -- Every value that is read from an argument keeps its limits.
 use Rattle.std.proofs.Common.{◌≡◌, ◌<◌, ◌≤◌, ℕ, zero, suc, ◌+◌, ◌-◌, ◌*◌, ◌^◌, min, ℤ, pos, Bool, true, false, ◌&&◌, nat_lt, nat_le, if◌then◌else◌, List, [], ◌∷◌, length, take, drop, get_or, Option, Some, None, option_map, refl, subst, arith}
 use Rattle.std.specs.Prelude.{nat_abs, neg_ℤ, slice_index, ◌==◌, codes, All}
-use Rattle.std.specs.List.{list_any, position}
+use Rattle.std.specs.List.{list_all, list_any, position}
 use Rattle.std.specs.Str.{IsUtf8, bytes_eq}
 use Rattle.std.proofs.lemmas.Bool.Decides.{nat_tests}
 use Rattle.std.proofs.lemmas.List.Elements.{All-nil, All-cons}
@@ -23,7 +23,7 @@ use Rattle.requests.specs.Decimal.{below, number, whole}
 use Rattle.requests.specs.Language.{is_language_tag}
 use Rattle.word_values.specs.Lists.{pieces, onto, each, passing, times, span_of, span, spans, uuids, numbers, ids, duration, order, chapters, split_of, split}
 use Rattle.requests.specs.Lists.{ascend, follow, differ}
-use Rattle.word_values.specs.Values.{flag_of, text, is_language, language, language_tag, scale, cluster_length, track_and_rest, flag_in, track_flag, cue_word, track_value, value_of}
+use Rattle.word_values.specs.Values.{flag_of, text, full_text, is_printable, is_media_type, media_type, is_language, language, language_tag, scale, cluster_length, track_and_rest, flag_in, track_flag, cue_word, track_value, value_of}
 use Rattle.word_values.proofs.AnswerLemmas.{either}
 use Rattle.requests.proofs.DecimalLemmas.{whole_small}
 use Rattle.word_values.specs.Sound.{IsSoundValue}
@@ -215,6 +215,32 @@ tag-same : (word t : List ℕ) → language_tag word ≡ Some t → word ≡ t
 unfolding language_tag
 tag-same word t is = either (word ≡ t) (is_language_tag word) _ _ _ is (λ found. cc) (λ never. absurd (cc))
 
+full-plain : (word t : List ℕ) → full_text word ≡ Some t → text word ≡ Some t
+unfolding full_text
+full-plain word t is = either (text word ≡ Some t) (length word == 0) _ _ _ is (λ never. absurd (cc)) (λ found. found)
+
+-- A printable character isn't a zero byte.
+printable-some : (octet : ℕ) → is_printable octet ≡ true → (octet == 0) ≡ false
+printable-some octet is = let parts = conj (nat_le 32 octet) (nat_le octet 126) is in let least = parts.0 in grind (arith, nat_tests)
+
+printable-text : (word : List ℕ) → list_all is_printable word ≡ true → list_any (λ b. b == 0) word ≡ false
+printable-text [] all = refl
+printable-text (b ∷ bs) all =
+    let parts = conj (is_printable b) (list_all is_printable bs) all in
+    rw (printable-some b parts.0) (printable-text bs parts.1)
+
+-- A media type is a text.
+media-own : (word t : List ℕ) → media_type word ≡ Some t → (word ≡ t) × (text word ≡ Some word)
+unfolding media_type text
+media-own word t is = branch (is_media_type word) refl is
+  where
+    branch : (b : Bool) → is_media_type word ≡ b → (if b then Some word else None) ≡ Some t → (word ≡ t) × ((if list_any (λ b. b == 0) word then None else Some word) ≡ Some word)
+    branch true good found =
+        let outer = conj (nat_le 1 (length word)) (nat_le (length word) 127 && list_all is_printable word) good in
+        let inner = conj (nat_le (length word) 127) (list_all is_printable word) outer.1 in
+        (cc, rw (printable-text word inner.1) refl)
+    branch false bad found = absurd (cc)
+
 -- The part after a colon is UTF-8 if the whole word is.
 behind-colon : (word : List ℕ) (p : List ℕ × List ℕ) → IsUtf8 word → cut COLON word ≡ Some p → IsUtf8 p.1
 unfolding cut
@@ -287,6 +313,15 @@ value_of-read given form.Text word v utf8 is =
     mapped (IsRead given) Text (text word) v is (λ t here.
     let same = text-same word t here in
     (tt, (subst (λ x. text x ≡ Some t) same here, λ all. subst IsUtf8 same (utf8 all))))
+value_of-read given form.FullText word v utf8 is =
+    mapped (IsRead given) Text (full_text word) v is (λ t here.
+    let plain = full-plain word t here in
+    let same = text-same word t plain in
+    (tt, (subst (λ x. text x ≡ Some t) same plain, λ all. subst IsUtf8 same (utf8 all))))
+value_of-read given form.MediaType word v utf8 is =
+    mapped (IsRead given) Text (media_type word) v is (λ t here.
+    let own = media-own word t here in
+    (tt, (subst (λ x. text x ≡ Some x) own.0 own.1, λ all. subst IsUtf8 own.0 (utf8 all))))
 value_of-read given form.Scale word v utf8 is = mapped (IsRead given) Scale (below 10000001 (from 1000 (number word))) v is (λ n here. (within 1000 10000001 (number word) n here, tt))
 value_of-read given form.Length word v utf8 is = length-read given word v is
 value_of-read given form.Split word v utf8 is = mapped (IsRead given) Split (split word) v is (λ s here. (split-sound word s here, tt))

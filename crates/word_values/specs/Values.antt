@@ -1,5 +1,5 @@
 -- Values of options by their form, in this project's grammar.
-use Rattle.std.specs.Prelude.{ℕ, ◌*◌, Bool, true, false, ◌&&◌, ◌==◌, if◌then◌else◌, List, length, codes, Option, Some, None, option_map}
+use Rattle.std.specs.Prelude.{ℕ, ◌*◌, Bool, true, false, ◌&&◌, ◌==◌, nat_le, if◌then◌else◌, List, length, codes, Option, Some, None, option_map}
 use Rattle.std.specs.List.{list_any, list_all}
 use Rattle.std.specs.Char.{is_ascii_lowercase}
 use Rattle.std.specs.Str.{bytes_eq}
@@ -28,6 +28,22 @@ flag_of _ = None
 -- the text `word`, if it has no zero byte, or else None, for titles and names of tracks. Used by `track_value` and `value_of`.
 unfoldable pub text : List ℕ → Option (List ℕ)
 text word = if list_any (λ b. b == 0) word then None else Some word
+
+-- the text `word`, if it isn't empty and has no zero byte, or else None, for the name of an attached file. Used by `value_of`.
+unfoldable pub full_text : List ℕ → Option (List ℕ)
+full_text word = if length word == 0 then None else text word
+
+-- The byte `octet` is a printable ASCII character, from a space to `~`. Used by `is_media_type`.
+abbrev pub is_printable : ℕ → Bool
+is_printable octet = nat_le 32 octet && nat_le octet 126
+
+-- The word `word`, the value of `merge --attachment-mime-type`, has 1 to 127 printable ASCII characters. Used by `media_type`.
+abbrev pub is_media_type : List ℕ → Bool
+is_media_type word = nat_le 1 (length word) && (nat_le (length word) 127 && list_all is_printable word)
+
+-- the media type `word`, if it has 1 to 127 printable ASCII characters, or else None, for `--attachment-mime-type`. Used by `value_of`.
+unfoldable pub media_type : List ℕ → Option (List ℕ)
+media_type word = if is_media_type word then Some word else None
 
 -- The word `word`, the value of `merge --language`, is a language code: it consists of three lower-case letters. Used by `language`.
 abbrev pub is_language : List ℕ → Bool
@@ -100,6 +116,8 @@ value_of form.Flag word = None
 value_of form.Exclusion word = None
 value_of form.Name word = Some (File word)
 value_of form.Text word = option_map Text (text word)
+value_of form.FullText word = option_map Text (full_text word)
+value_of form.MediaType word = option_map Text (media_type word)
 value_of form.Scale word = scale word
 value_of form.Length word = cluster_length word
 value_of form.Split word = option_map Split (split word)

@@ -24,6 +24,10 @@ pub enum ValueForm {
     Name,
     /// Any text without a zero byte.
     Text,
+    /// Text of at least one byte, without a zero byte.
+    FullText,
+    /// Media type: 1 to 127 printable ASCII characters.
+    MediaType,
     /// Nanoseconds per tick, 1000 to 10000000.
     Scale,
     /// Blocks of a Cluster, 1 to 65535, or milliseconds, 100 to 32000, followed by `ms`.
@@ -102,6 +106,8 @@ pub fn value_of(alloc: Global, form: ValueForm, word: &str) -> Result<Value, Val
         ValueForm::Flag | ValueForm::Exclusion => Err(ValueEnd::Bad),
         ValueForm::Name => Ok(Value::File(name(alloc, word)?)),
         ValueForm::Text => Ok(Value::Text(text(alloc, word)?)),
+        ValueForm::FullText => Ok(Value::Text(full_text(alloc, word)?)),
+        ValueForm::MediaType => Ok(Value::Text(media_type(alloc, word)?)),
         ValueForm::Scale => scale(word.as_bytes()).ok_or(ValueEnd::Bad),
         ValueForm::Length => cluster_length(word.as_bytes()).ok_or(ValueEnd::Bad),
         ValueForm::Split => Ok(Value::Split(split(alloc, word)?)),
@@ -176,6 +182,51 @@ fn text(alloc: Global, word: &str) -> Result<Text, ValueEnd>
         return Err(ValueEnd::Bad);
     }
     Ok(name(alloc, word)?)
+}
+
+/// Returns a copy of `word`, the name of an attached file, for `value_of`; fails with `Bad` if it is empty or has a zero
+/// byte.
+#[tactic(auto, unfolding(crate::specs::Values::full_text))]
+fn full_text(alloc: Global, word: &str) -> Result<Text, ValueEnd>
+    ensures { ReadsValue result (spec.full_text word.now) }
+{
+    if word.is_empty() {
+        return Err(ValueEnd::Bad);
+    }
+    text(alloc, word)
+}
+
+/// Returns a copy of `word`, a media type, for `value_of`; fails with `Bad` unless it has 1 to 127 printable ASCII
+/// characters.
+#[tactic(auto, unfolding(crate::specs::Values::media_type))]
+fn media_type(alloc: Global, word: &str) -> Result<Text, ValueEnd>
+    ensures { ReadsValue result (spec.media_type word.now) }
+{
+    if !is_media_type(word.as_bytes()) {
+        return Err(ValueEnd::Bad);
+    }
+    Ok(name(alloc, word)?)
+}
+
+/// Checks whether `word` can be a media type: it has 1 to 127 printable ASCII characters. For `media_type`.
+fn is_media_type(word: &[u8]) -> bool
+    ensures { result ≡ spec.is_media_type word.now }
+{
+    1 <= word.len() && word.len() <= 127 && are_printable(word)
+}
+
+/// Checks whether all bytes of `word` are printable ASCII characters, for `is_media_type`.
+fn are_printable(word: &[u8]) -> bool
+    ensures { result ≡ list_all spec.is_printable word.now }
+{
+    word.iter().all(|b| is_printable(*b))
+}
+
+/// Checks whether `octet` is a printable ASCII character, from a space to `~`, for `are_printable`.
+fn is_printable(octet: u8) -> bool
+    ensures { result ≡ spec.is_printable octet }
+{
+    b' ' <= octet && octet <= b'~'
 }
 
 /// Returns a copy of `word`, a language code, for `track_value`; fails with `Bad` unless it has three lower-case

@@ -1,7 +1,9 @@
 use Rattle.std.proofs.Common.{arith, sym, ◌≡◌, ◌∙◌, true, false, [], drop, append-nil}
 use Rattle.std.proofs.lemmas.List.{drop_all}
+use Rattle.merge_words.specs.declared.options.Subject.TheVariants as subject
 use Rattle.merge_words.specs.Items.{is_file}
-use Rattle.merge_words.proofs.FilesLemmas.{files_join, files_take, parted_files}
+use Rattle.merge_words.specs.Files.{file}
+use Rattle.merge_words.proofs.FilesLemmas.{made_join, made_take, parted_files}
 use Rattle.merge_words.proofs.files.files.Goals as goal
 use Rattle.merge_words.proofs.files.files.Goals.{then-is+in_ok-file+in_ok-push, else-is}
 
@@ -14,13 +16,13 @@ loop-k-preserved c =
           let named : is_file i ≡ true = sym c.is.ensures ∙ w.if-is.true in
           record {
             within = omega arith;
-            left = rw (w.files-is, w.start-is, w.in_ok-push.ensures.ok, w.in_ok-file.ensures) (files_take l.files items l.start l.k i c.loop-k-test.true c.index-items-k.is named ∙ l.invariant.left);
+            left = rw (w.files-is, w.start-is, w.in_ok-push.ensures.ok, w.in_ok-file.ensures) (made_take subject.File file l.files items l.start l.k i c.loop-k-test.true c.index-items-k.is named ∙ l.invariant.left);
           }
       | else-is w ↦
           let other : is_file i ≡ false = sym c.is.ensures ∙ w.if-is.false in
           record {
             within = omega arith;
-            left = rw (w.files-is, w.start-is) (files_join l.files items l.start l.k i l.invariant.within c.loop-k-test.true c.index-items-k.is other ∙ l.invariant.left);
+            left = rw (w.files-is, w.start-is) (made_join subject.File file l.files items l.start l.k i l.invariant.within c.loop-k-test.true c.index-items-k.is other ∙ l.invariant.left);
           }
     ]
 
