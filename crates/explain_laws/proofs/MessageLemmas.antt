@@ -128,6 +128,7 @@ lines_have (line.BadConfig name number) = record { has = named (codes "error: ")
 lines_have (line.Missing name) = record { has = named (codes "error: ") (shown_text name.now) (codes "Missing") ([]); page = refl }
 lines_have (line.BadText name n) = record { has = named (codes "error: ") (shown_text name.now) (codes "BadText") (codes ", line " ++ decimal n); page = refl }
 lines_have (line.TextTooLarge name) = record { has = named (codes "error: ") (shown_text name.now) (codes "TextTooLarge") ([]); page = refl }
+lines_have (line.FileTooLarge name) = record { has = named (codes "error: ") (shown_text name.now) (codes "FileTooLarge") ([]); page = refl }
 lines_have (line.PendingEdit name) = record { has = named (codes "error: ") (shown_text name.now) (codes "PendingEdit") (codes ", run recover"); page = refl }
 lines_have (line.OutputIsInput name) = record { has = named (codes "error: ") (shown_text name.now) (codes "OutputIsInput") ([]); page = refl }
 lines_have (line.AppendDiffers name id) = record { has = named (codes "error: ") (shown_text name.now) (codes "AppendDiffers") (element_text id); page = refl }

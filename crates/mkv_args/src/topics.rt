@@ -2,14 +2,15 @@
 
 /// List of all names.
 #[rattlefmt::skip]
-pub(crate) const TOPIC_LIST: [&str; 18] = [
+pub(crate) const TOPIC_LIST: [&str; 19] = [
     "Give one of these names: mkvsuite explain NAME",
     "",
     "command line: NoCommand UnknownCommand UnknownOption MissingValue BadValue",
     "              RepeatedOption ExtraWord NoOutput NoInput DanglingOption",
     "              AppendFirst RepeatedOutput TooManyInputs NeedsUuids NoSuchFile",
     "refused:      Missing OutputIsInput PendingEdit BadText TextTooLarge",
-    "              AppendDiffers NoLane TooManyLanes NotWebm NoExtractor BadConfig",
+    "              FileTooLarge AppendDiffers NoLane TooManyLanes NotWebm",
+    "              NoExtractor BadConfig",
     "edits:        NoInfo NoSuchTrack NoSuchProperty BadPropertyValue AlreadyThere",
     "              Mandatory EditTooLarge NoRoom SeekHead Tail Twin SegmentSize",
     "              BadSidecar Foreign",
@@ -131,7 +132,7 @@ pub(crate) const WORD_TOPICS: [(&str, &[&str]); 15] = [
 
 /// Names of the group 'refused', each with its page.
 #[rattlefmt::skip]
-pub(crate) const REFUSAL_TOPICS: [(&str, &[&str]); 11] = [
+pub(crate) const REFUSAL_TOPICS: [(&str, &[&str]); 12] = [
     ("Missing", &[
         "Missing: there is no file of this name.",
         "Cause: a wrong name or folder; a glued + (\"+two.mkv\" is a name; write \"+",
@@ -168,6 +169,12 @@ pub(crate) const REFUSAL_TOPICS: [(&str, &[&str]); 11] = [
         "Cause: SubRip and timestamp files may have 16 MiB each (all timestamp files",
         "  together 64 MiB), a chapter file 1 MiB. Often it isn't a text file.",
         "Do: check that the name is right; otherwise shorten the file.",
+    ]),
+    ("FileTooLarge", &[
+        "FileTooLarge: a file of --attach-file has more than 1 GiB.",
+        "Cause: not a font or a picture, but a film; players read attachments into",
+        "  memory.",
+        "Do: attach a smaller file.",
     ]),
     ("AppendDiffers", &[
         "AppendDiffers: FILE can't be appended: its tracks differ from those before the",

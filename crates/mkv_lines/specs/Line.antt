@@ -6,7 +6,7 @@ use Rattle.mkv_schema.specs.declared.element.Header.{Header}
 use Rattle.sidecar_edit.specs.declared.outcome.Mark.{Mark}
 use Rattle.mkv_lines.specs.Shown.{damage_text, element_text, level_0_name, level_1_name, mark_text, place_text, shown_text, track_text}
 use Rattle.mkv_lines.specs.declared.line.Line.{Line}
-use Rattle.mkv_lines.specs.declared.line.Line.TheVariants.{Level0, Level1, Track, Refused, Warned, MoreDamages, MoreBadFrames, NoTrack, NoAttachment, NoExtractor, BadConfig, Missing, BadText, TextTooLarge, PendingEdit, OutputIsInput, AppendDiffers, NoLane, TooManyLanes, NotWebm, TooLarge, Wrote, WroteBlocks, Generated, UuidCount, Edited, Reindexed, EditRefused, NoRoom, EditTooLarge, Recovered, NothingToRecover, BadSidecar, Foreign, Word, FilesFault}
+use Rattle.mkv_lines.specs.declared.line.Line.TheVariants.{Level0, Level1, Track, Refused, Warned, MoreDamages, MoreBadFrames, NoTrack, NoAttachment, NoExtractor, BadConfig, Missing, BadText, TextTooLarge, FileTooLarge, PendingEdit, OutputIsInput, AppendDiffers, NoLane, TooManyLanes, NotWebm, TooLarge, Wrote, WroteBlocks, Generated, UuidCount, Edited, Reindexed, EditRefused, NoRoom, EditTooLarge, Recovered, NothingToRecover, BadSidecar, Foreign, Word, FilesFault}
 
 -- the line of `info` for the Element `h` at level 0
 abbrev pub level_0_line : Header → List ℕ
@@ -97,6 +97,10 @@ bad_text_line name line = codes "error: " ++ (shown_text name ++ (codes ": BadTe
 -- the line that refuses the text file `name` because it is too long, of `merge`
 abbrev pub text_too_large_line : List ℕ → List ℕ
 text_too_large_line name = codes "error: " ++ (shown_text name ++ codes ": TextTooLarge")
+
+-- the line that refuses to attach the file `name` because it is too long, of `merge`
+abbrev pub file_too_large_line : List ℕ → List ℕ
+file_too_large_line name = codes "error: " ++ (shown_text name ++ codes ": FileTooLarge")
 
 -- the line that refuses a run because the file `name` has a pending edit, of `info`, `merge`, `extract`, `propedit` and `reindex`
 abbrev pub pending_edit_line : List ℕ → List ℕ
@@ -220,6 +224,7 @@ text_of (BadConfig name number) = bad_config_line name.now number
 text_of (Missing name) = missing_line name.now
 text_of (BadText name line) = bad_text_line name.now line
 text_of (TextTooLarge name) = text_too_large_line name.now
+text_of (FileTooLarge name) = file_too_large_line name.now
 text_of (PendingEdit name) = pending_edit_line name.now
 text_of (OutputIsInput name) = output_is_input_line name.now
 text_of (AppendDiffers name id) = append_differs_line name.now id

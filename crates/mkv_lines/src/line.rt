@@ -76,6 +76,10 @@ pub enum Line<'a> {
     TextTooLarge {
         name: &'a str,
     },
+    /// A file that is to be attached is longer than it may be.
+    FileTooLarge {
+        name: &'a str,
+    },
     /// The file has a pending edit.
     PendingEdit {
         name: &'a str,
@@ -224,6 +228,7 @@ impl fmt::Display for Line<'_> {
             Line::Missing { name } => named(f, "error: ", name, ": Missing"),
             Line::BadText { name, line } => numbered(f, "error: ", name, ": BadText, line ", line),
             Line::TextTooLarge { name } => named(f, "error: ", name, ": TextTooLarge"),
+            Line::FileTooLarge { name } => named(f, "error: ", name, ": FileTooLarge"),
             Line::PendingEdit { name } => named(f, "error: ", name, ": PendingEdit, run recover"),
             Line::OutputIsInput { name } => named(f, "error: ", name, ": OutputIsInput"),
             Line::AppendDiffers { name, id } => of_element(f, name, "AppendDiffers", id),

@@ -23,6 +23,10 @@ pub returns-in-TextTooLarge-clause-writes : goal.returns-in-TextTooLarge-clause-
 returns-in-TextTooLarge-clause-writes g c = λ plain ok.
     has_written_of_eq _ _ _ _ _ (ap text_of (sym c.in-TextTooLarge.is)) (c.named-in-TextTooLarge.ensures plain ok)
 
+pub returns-in-FileTooLarge-clause-writes : goal.returns-in-FileTooLarge-clause-writes
+returns-in-FileTooLarge-clause-writes g c = λ plain ok.
+    has_written_of_eq _ _ _ _ _ (ap text_of (sym c.in-FileTooLarge.is)) (c.named-in-FileTooLarge.ensures plain ok)
+
 pub returns-in-TooLarge-clause-writes : goal.returns-in-TooLarge-clause-writes
 returns-in-TooLarge-clause-writes g c = λ plain ok.
     has_written_of_eq _ _ _ _ _ (ap text_of (sym c.in-TooLarge.is)) (c.of_element-in-TooLarge.ensures plain ok)
