@@ -2,7 +2,6 @@
 use Rattle.std.proofs.Common.{◌≡◌, ◌≢◌, ℕ, zero, suc, ◌+◌, ◌<◌, Bool, true, false, if◌then◌else◌, List, [], ◌∷◌, ◌++◌, length, take, drop, get_or, map, Option, Some, None, is_none, refl, sym, ◌∙◌, ap, arith}
 use Rattle.std.specs.List.{position_from}
 use Rattle.std.proofs.Math.Seq.{drop-cons, take-suc}
-use Rattle.std.proofs.lemmas.List.{map-append}
 use Rattle.mkv_io.specs.declared.outside.FileId.{FileId}
 use Rattle.mkv_io.specs.Names.{AreOthers}
 use Rattle.sidecar_edit.specs.Name.{sidecar_of}
@@ -18,8 +17,8 @@ abbrev pub first_from : (List ℕ → Bool) → ℕ → List FileWords → Optio
 first_from test k words = position_from test k (file_names words)
 
 -- the first name without a content
-abbrev pub missing_from : (List ℕ → Option (List ℕ)) → ℕ → List FileWords → Option ℕ
-missing_from world k words = first_from (λ name. is_none (world name)) k words
+abbrev pub missing_from : (List ℕ → Option (List ℕ)) → ℕ → List (List ℕ) → Option ℕ
+missing_from world k names = position_from (λ name. is_none (world name)) k names
 
 -- the first name with a pending edit
 abbrev pub pending_from : (List ℕ → Option (List ℕ)) → ℕ → List FileWords → Option ℕ
@@ -36,19 +35,23 @@ first-next test words k w is below at tested =
     one_more n = omega arith
 
 -- A name with a content is skipped.
-pub missing-passed : (world : List ℕ → Option (List ℕ)) (words : List FileWords) (k : ℕ) (w : FileWords) → k < length words → w ≡ get_or words k w → world w.name ≢ None → missing_from world k (drop k words) ≡ missing_from world (k + 1) (drop (k + 1) words)
-missing-passed world words k w below at there = first-next (λ name. is_none (world name)) words k w false below at (step (world w.name) refl)
+pub missing-passed : (world : List ℕ → Option (List ℕ)) (names : List (List ℕ)) (k : ℕ) (name : List ℕ) → k < length names → name ≡ get_or names k name → world name ≢ None → missing_from world k (drop k names) ≡ missing_from world (k + 1) (drop (k + 1) names)
+missing-passed world names k name below at there =
+    ap (missing_from world k) (drop-cons names k name below ∙ ap (λ (each : List ℕ). each ∷ drop (suc k) names) (sym at))
+    ∙ ap (λ (here : Bool). if here then Some k else missing_from world (k + 1) (drop (suc k) names)) (step (world name) refl)
+    ∙ ap (λ (n : ℕ). missing_from world (k + 1) (drop n names)) (one_more k)
   where
-    step : (content : Option (List ℕ)) → world w.name ≡ content → is_none content ≡ false
+    step : (content : Option (List ℕ)) → world name ≡ content → is_none content ≡ false
     step None none = absurd (there none)
     step (Some bytes) some = refl
 
--- One more input adds its name.
-pub names-more : (words : List FileWords) (k : ℕ) (w : FileWords) (name : List ℕ) → k < length words → w ≡ get_or words k w → name ≡ w.name → file_names (take (k + 1) words) ≡ file_names (take k words) ++ name ∷ []
-names-more words k w name below is named =
-    ap file_names (ap (λ (n : ℕ). take n words) (one_more k) ∙ take-suc words k w below ∙ ap (λ (each : FileWords). take k words ++ each ∷ []) (sym is))
-    ∙ map-append (λ (each : FileWords). each.name) (take k words) (w ∷ [])
-    ∙ ap (λ (last : List ℕ). file_names (take k words) ++ last ∷ []) (sym named)
+    one_more : (n : ℕ) → suc n ≡ n + 1
+    one_more n = omega arith
+
+-- One more name.
+pub names-more : (names : List (List ℕ)) (k : ℕ) (each name : List ℕ) → k < length names → each ≡ get_or names k each → name ≡ each → take (k + 1) names ≡ take k names ++ name ∷ []
+names-more names k each name below is named =
+    ap (λ (n : ℕ). take n names) (one_more k) ∙ take-suc names k each below ∙ ap (λ (last : List ℕ). take k names ++ last ∷ []) (sym is ∙ sym named)
   where
     one_more : (n : ℕ) → n + 1 ≡ suc n
     one_more n = omega arith
@@ -56,11 +59,11 @@ names-more words k w name below is named =
 -- ---- different names
 
 -- A name outside all is outside the first ones.
-pub others-first : (name : List ℕ) (words : List FileWords) (k : ℕ) → AreOthers name (file_names words) → AreOthers name (file_names (take k words))
+pub others-first : (name : List ℕ) (names : List (List ℕ)) (k : ℕ) → AreOthers name names → AreOthers name (take k names)
 others-first name [] zero others = tt
 others-first name [] (suc k) others = tt
-others-first name (w ∷ ws) zero others = tt
-others-first name (w ∷ ws) (suc k) others = (others.0, others-first name ws k others.1)
+others-first name (n ∷ ns) zero others = tt
+others-first name (n ∷ ns) (suc k) others = (others.0, others-first name ns k others.1)
 
 -- A name outside all journals differs from each.
 pub others-sidecar : (name : List ℕ) (words : List FileWords) (k : ℕ) (w : FileWords) → k < length words → w ≡ get_or words k w → AreOthers name (map sidecar_of (file_names words)) → sidecar_of w.name ≢ name

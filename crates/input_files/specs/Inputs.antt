@@ -1,17 +1,19 @@
 -- The input files of a merge: how they are opened, and which of them is missing or has a pending edit. The rule is this project's.
-use Rattle.std.specs.Prelude.{◌≡◌, ◌≤◌, ⊤, ℕ, Bool, true, false, List, [], map, Option, Some, None, is_none, Result, Ok, Err}
+use Rattle.std.specs.Prelude.{◌≡◌, ◌≤◌, ⊤, ℕ, nat_lt, Bool, true, false, List, [], map, Option, Some, None, is_none, Result, Ok, Err}
 use Rattle.std.specs.List.{All, position_from}
 use Rattle.mkv_io.specs.declared.outside.FileId.{FileId}
 use Rattle.mkv_io.specs.declared.outside.OpenFault.{OpenFault}
 use Rattle.mkv_io.specs.declared.outside.OpenFault.TheVariants as open_fault
 use Rattle.mkv_io.specs.Asked.{AsksOnly}
-use Rattle.mkv_io.specs.LiveFiles.{KeepsFiles, KeepsHolders}
+use Rattle.mkv_io.specs.LiveFiles.{KeepsFiles, KeepsHolders, LiveFiles}
 use Rattle.mkv_io.specs.Sources.{live_files}
 use Rattle.mkv_io.specs.declared.reads.Reads.{Ghosts}
 use Rattle.mkv_io.specs.declared.files.Files as writing
 use Rattle.sidecar_edit.specs.Pending.{is_pending}
+use Rattle.requests.specs.declared.merge.AttachedWords.{AttachedWords}
 use Rattle.requests.specs.declared.merge.FileWords.{FileWords}
 use Rattle.mkv_outputs.specs.Sinks.{AreLive, AreRising, IsNoneOf, holders_of}
+use Rattle.input_files.specs.declared.limits.TheConstants.{MAX_ATTACHED_LEN}
 use Rattle.input_files.specs.declared.inputs_end.InputsEnd.{InputsEnd}
 use Rattle.input_files.specs.declared.inputs_end.InputsEnd.TheVariants as inputs_end
 use Rattle.mkv_io.specs.Told.{IfVisible}
@@ -20,6 +22,10 @@ use Rattle.mkv_io.specs.Writing.{IfByNames}
 -- the names of the inputs `words`, in the order of the command line. Used by all contracts on inputs.
 abbrev pub file_names : List FileWords → List (List ℕ)
 file_names words = map (λ (w : FileWords). w.name) words
+
+-- the names of the files that a merge attaches by the requests `attached`, in the order of the command line. Used by the contracts on opened files.
+abbrev pub attached_names : List AttachedWords → List (List ℕ)
+attached_names attached = map (λ (w : AttachedWords). w.file) attached
 
 -- the contents of the open files `ids`, as far as `content`, which gives them by file number, has them. For contracts on what inputs contain.
 abbrev pub contents_of : (ℕ → Option (List ℕ)) → List FileId → List (Option (List ℕ))
@@ -65,7 +71,7 @@ TellsMissing world names (Err (inputs_end.Missing input)) = first_missing world 
 TellsMissing world names (Err inputs_end.Failed) = ⊤
 TellsMissing world names (Err inputs_end.Memory) = ⊤
 
--- the error for the input with the index `k`, from 0, which couldn't be opened for the given reason. The contract of the function of the same name
+-- the error for the name with the index `k`, from 0, whose file couldn't be opened for the given reason. The contract of the function of the same name
 -- states it.
 abbrev pub end_of : ℕ → OpenFault → InputsEnd
 end_of k open_fault.Missing = inputs_end.Missing k
@@ -87,7 +93,15 @@ is_inputs_fault (inputs_end.Missing input) = false
 is_inputs_fault inputs_end.Failed = true
 is_inputs_fault inputs_end.Memory = false
 
--- In the state `new`, the open files `ids` have the contents that the names of the inputs `words` had in `old`. It is promised if the names are
--- visible to the proof. The contract of `open_all` states it. `r` and `f` give the proof's view of the files.
-abbrev pub HaveContents : {S : Type 0} → Ghosts S → writing.Ghosts S → List FileWords → S → S → List FileId → Type 0
-HaveContents r f words old new ids = IfVisible (f.names old) (λ world. contents_of (live_files r new).content ids ≡ map world (file_names words))
+-- In the state `new`, the open files `ids` have the contents that the names `names` had in `old`. It is promised if the names are visible to the
+-- proof. The contract of `open_all` states it. `r` and `f` give the proof's view of the files.
+abbrev pub HaveContents : {S : Type 0} → Ghosts S → writing.Ghosts S → List (List ℕ) → S → S → List FileId → Type 0
+HaveContents r f names old new ids = IfVisible (f.names old) (λ world. contents_of (live_files r new).content ids ≡ map world names)
+
+-- the lengths in bytes of the live files `f` with the IDs `ids`, in their order. For the contract of `first_large`.
+abbrev pub sizes_of : LiveFiles → List FileId → List ℕ
+sizes_of f ids = map (λ (file : FileId). f.size file.n) ids
+
+-- the index, from 0, of the first of the lengths `lens`, in bytes, that is too large for a file that is attached, if any. `merge` is refused then.
+abbrev pub first_large : List ℕ → Option ℕ
+first_large lens = position_from (λ len. nat_lt MAX_ATTACHED_LEN len) 0 lens

@@ -5,10 +5,10 @@ ghost use Rattle.input_files.specs.declared.inputs_end.InputsEnd.TheVariants as 
 
 use std::alloc::AllocError;
 
-/// Failure to open the input files of a merge
+/// Failure to open the input files of a merge, or the files that it attaches
 #[derive(Clone, Copy, Debug, PartialEq, Eq)]
 pub enum InputsEnd {
-    /// Index of the first input without a file, counted from 0
+    /// Index of the first name without a file, counted from 0
     Missing { input: usize },
     /// Failed system call
     Failed,

@@ -1,9 +1,10 @@
 #![tactic(auto)]
 
-//! The files that a merge reads. Its inputs are opened, all or none, and closed together, and the first with a pending
-//! edit is found. Text files are read whole: SubRip as a track and entries, simple chapters as Chapters, and timestamp
+//! The files that a merge reads. Its inputs and the files that it attaches are opened, all or none, and closed together.
+//! The first input with a pending edit is found, and the first attached file that is too large. Text files are read whole: SubRip as a track and entries, simple chapters as Chapters, and timestamp
 //! files (RFC 9559, sections 5.1.4, Tracks, and 5.1.7, Chapters).
 
+mod attached;
 mod chapter_file;
 mod files;
 mod inputs_end;
@@ -17,10 +18,13 @@ mod text_files;
 mod times_file;
 mod track;
 
+pub use attached::first_large;
 pub use chapter_file::{ChapterFile, read_chapter_file};
 pub use files::{close_all, open_all};
 pub use inputs_end::InputsEnd;
-pub use limits::{MAX_ALL_TIMES_LEN, MAX_CHAPTERS_LEN, MAX_SRT_LEN, MAX_TIMES_LEN};
+pub use limits::{
+    MAX_ALL_TIMES_LEN, MAX_ATTACHED_LEN, MAX_CHAPTERS_LEN, MAX_SRT_LEN, MAX_TIMES_LEN,
+};
 pub use names::{begins_ebml, is_srt_name};
 pub use pending::first_pending;
 pub use reading::{read_chapters, read_entries, read_track_times};

@@ -1,4 +1,4 @@
-//! Size limits of text files
+//! Size limits of text files, and of files that are attached
 
 /// Maximum size of a SubRip file in bytes
 pub const MAX_SRT_LEN: u64 = 16 << 20;
@@ -11,3 +11,6 @@ pub const MAX_TIMES_LEN: u64 = 16 << 20;
 
 /// Maximum total size of a merge's timestamp files in bytes
 pub const MAX_ALL_TIMES_LEN: u64 = 64 << 20;
+
+/// Maximum size of a file that is attached to an output, in bytes
+pub const MAX_ATTACHED_LEN: u64 = 1 << 30;
