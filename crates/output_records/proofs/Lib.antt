@@ -4,3 +4,4 @@ pub mod ListLemmas
 pub mod KeptLemmas
 pub mod OutputLemmas
 pub mod StandardFacts
+pub mod AttachedLemmas

@@ -1,5 +1,6 @@
 pub mod Inputs
 pub mod Attachments
+pub mod Attached
 pub mod Chapters
 pub mod Tags
 pub mod Limits
