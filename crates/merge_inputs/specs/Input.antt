@@ -147,12 +147,6 @@ abbrev pub held_in : Blocks → ℕ
 held_in (held_by.Clusters outline scale) = outline.value.held
 held_in (held_by.Entries entries) = 0
 
--- the length in bytes of an input's file as its outline has it, given the source of its blocks; 0 for a text. The data of its attached files are
--- within it. Used by `IsInput`.
-abbrev pub total_in : Blocks → ℕ
-total_in (held_by.Clusters outline scale) = outline.value.total
-total_in (held_by.Entries entries) = 0
-
 -- the timestamps of timestamp files for an input, as the code has them, as the definitions have them, by track ID. Used by `read_in` and others.
 abbrev pub listings_in : List TrackTimes → List (ℕ × Listing)
 listings_in times = map (λ (t : TrackTimes). (t.id, t.times.value)) times
@@ -213,12 +207,13 @@ abbrev pub CanBeGiven : ℕ → Blocks → Type 0
 CanBeGiven size (held_by.Clusters outline scale) = AreClusters size outline.value scale
 CanBeGiven size (held_by.Entries entries) = AreWithin MAX_SRT_LEN entries
 
--- The opened input `i` of `merge` is valid, as planning requires. Its file is live among `files`, its blocks can be read, and its selected tracks can
--- be copied. The data of its attached files are in it, and its Chapters and Tags were read.
+-- The opened input `i` of `merge` is valid, as planning requires. Its file is live among `files` and has the length `len`, its blocks can be read,
+-- and its selected tracks can be copied. The data of its attached files are in it, and its Chapters and Tags were read.
 pub record IsInput (files : LiveFiles) (i : Input) : Type 0 where
   pub live : files.live i.file.n ≡ true
+  pub len : i.len ≡ files.size i.file.n
   pub blocks : CanBeGiven (files.size i.file.n) i.blocks
   pub taken : All IsTaken i.taken
-  pub attachments : All (IsAttachedIn i.file (total_in i.blocks)) i.attachments
+  pub attachments : All (IsAttachedIn i.file i.len) i.attachments
   pub chapters : IfSome i.chapters (IsRead CHAPTERS)
   pub tags : IfSome i.tags (IsRead TAGS)

@@ -27,6 +27,8 @@ pub enum Blocks {
 #[derive(Drop)]
 pub struct Input {
     pub file: FileId,
+    /// Length of the file in bytes; the data of its attached files are within it
+    pub len: u64,
     pub blocks: Blocks,
     /// Title of the file, empty if absent
     pub title: Text,

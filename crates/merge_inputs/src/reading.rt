@@ -59,6 +59,7 @@ fn read_file<R: Reads>(
     let tags = kept_tags(alloc, words, tags)?;
     Ok(Input {
         file,
+        len: src.size(file),
         blocks: Blocks::Clusters {
             outline: Rc::new(alloc, outline)?,
             scale: scale_of(&info),
@@ -97,6 +98,7 @@ fn read_text<R: Reads>(
     let tracks = text_tracks(alloc)?;
     Ok(Input {
         file,
+        len: src.size(file),
         blocks: Blocks::Entries { entries },
         title: Text::new(alloc),
         count: 1,

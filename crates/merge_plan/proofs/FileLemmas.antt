@@ -24,7 +24,7 @@ use Rattle.output_records.specs.Inputs.{children_in, uids_in, with_some}
 use Rattle.output_records.specs.Tags.{all_uids, behind, joined_tags, merged_tags, number_of, numbers_of, tags_from, tags_in}
 use Rattle.output_records.specs.declared.inputs.InputRecords.{InputRecords}
 use Rattle.merge_model.specs.FileLinks.{octets_in}
-use Rattle.merge_inputs.specs.Input.{InputRead, read_in, total_in}
+use Rattle.merge_inputs.specs.Input.{InputRead, read_in}
 use Rattle.merge_inputs.specs.declared.input.Input.{Input}
 use Rattle.merge_plan.specs.Front.{attached_from, attachments_of, attached_length, files_in, reads_of}
 use Rattle.merge_plan.specs.Planned.{StandsInInput, IsToldInput, source_in}
@@ -92,7 +92,7 @@ with-data f [] files = refl
 with-data f (uid ∷ uids) [] = refl
 with-data f (uid ∷ uids) (a ∷ files) = ap (λ l. attached_file f (with_uid uid a) ∷ l) (with-data f uids files)
 
-data-one : (f : LiveFiles) (i : Input) → IsToldInput f i → (files : List Attachment) → All (IsAttachedIn i.file (total_in i.blocks)) files
+data-one : (f : LiveFiles) (i : Input) → IsToldInput f i → (files : List Attachment) → All (IsAttachedIn i.file i.len) files
     → map (with_octets f) files ≡ map (λ (a : AttachedFile). (a, octets_told (Some (octets_in f i.file.n)) a.at a.len)) (map in_file files)
 data-one f i told [] each = refl
 data-one f i told (a ∷ files) each =

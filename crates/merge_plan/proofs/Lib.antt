@@ -11,3 +11,4 @@ pub mod OrderedLemmas
 mod LinkLemmas
 pub mod PlaceLemmas
 pub mod TimesLemmas
+pub mod AttachedLemmas

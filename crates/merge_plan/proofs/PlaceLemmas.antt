@@ -45,6 +45,7 @@ moved shift i = record i { shift = shift }
 moved-good : (f : LiveFiles) (shift : Option ℕ) (i : Input) → IsInput f i → IsInput f (moved shift i)
 moved-good f shift i is = record {
   live = is.live;
+  len = is.len;
   blocks = is.blocks;
   taken = is.taken;
   attachments = is.attachments;

@@ -7,6 +7,7 @@ pub mod Identifiers
 pub mod Plan
 pub mod Front
 pub mod Places
+pub mod Attached
 pub mod TakenTracks
 pub mod Webm
 pub mod Refusal

@@ -19,7 +19,7 @@ use Rattle.remux_plan.specs.Plan.{links_of, rules_of}
 use Rattle.remux_plan.specs.declared.plan.MergePlan.{MergePlan}
 use Rattle.remux_plan.specs.declared.plan.PlannedLane.{PlannedLane}
 use Rattle.requests.specs.declared.merge.MergeWords.{MergeWords}
-use Rattle.merge_inputs.specs.Input.{IsInput, read_in, total_in}
+use Rattle.merge_inputs.specs.Input.{IsInput, read_in}
 use Rattle.merge_inputs.specs.declared.input.Input.{Input}
 use Rattle.merge_plan.specs.declared.refusal.PlanEnd.{PlanEnd}
 use Rattle.merge_plan.specs.declared.refusal.PlanEnd.TheVariants.{Refused, Memory}
@@ -58,7 +58,7 @@ pub record StandsInInput (inputs : List Input) (a : Attachment) : Type 0 where
   pub inside : number < length inputs
   pub is : input ≡ get_or inputs number input
   pub same : a.file ≡ input.file
-  pub within : a.at + a.len ≤ total_in input.blocks
+  pub within : a.at + a.len ≤ input.len
 
 -- The records `r` of the output for `inputs` can be written and read again, and its identifiers have 64 bits. `order` gives the order of the output
 -- tracks. Used by the contract of `output_of`.

@@ -27,7 +27,7 @@ use Rattle.merge_inputs.specs.declared.input.Blocks.{Blocks}
 use Rattle.merge_inputs.specs.declared.input.Blocks.TheVariants as held_by
 use Rattle.merge_inputs.specs.declared.input.Input.{Input}
 use Rattle.merge_inputs.specs.declared.taken.TakenTrack.{TakenTrack}
-use Rattle.merge_inputs.specs.Input.{read_in, total_in}
+use Rattle.merge_inputs.specs.Input.{read_in}
 use Rattle.merge_plan.specs.Chains.{at_place, lanes_by}
 use Rattle.merge_plan.specs.Plan.{append_offset, rule_of}
 use Rattle.merge_plan.specs.Records.{is_appended, ordered}
@@ -179,6 +179,6 @@ HasPlace i = append_offset (read_in i) ≤ MAX_SHIFT
 -- The data of the attached files of the input `i` are in its file, and its Chapters and Tags were read. The plan of a merge requires it of each
 -- input. Used by `output_of`, `records_for` and others.
 pub record HasRecords (i : Input) : Type 0 where
-  pub attachments : All (IsAttachedIn i.file (total_in i.blocks)) i.attachments
+  pub attachments : All (IsAttachedIn i.file i.len) i.attachments
   pub chapters : IfSome i.chapters (IsRead CHAPTERS)
   pub tags : IfSome i.tags (IsRead TAGS)

@@ -4,6 +4,7 @@
 //! of appended inputs. Files are walked over only for these beginnings. Nothing is written here.
 
 mod appending;
+mod attached;
 mod entries;
 mod order;
 mod outputs;
@@ -17,6 +18,7 @@ mod title;
 mod webm;
 
 pub use appending::{AppendDiffers, append_refusal};
+pub use attached::attached_input;
 pub use placing::assign_append_offsets;
 pub use plan::plan_of;
 pub use planned_lanes::links_of;

@@ -1,4 +1,4 @@
-use Rattle.std.proofs.Common.{ℕ, Bool, true, map, Option, IfSome, option_map, sym, ◌∙◌, ap, subst}
+use Rattle.std.proofs.Common.{◌≡◌, ℕ, Bool, true, map, Option, IfSome, option_map, sym, ◌∙◌, ap, subst}
 use Rattle.std.specs.List.{All}
 use Rattle.element_reader.specs.Outline.{FileOutline}
 use Rattle.block_format.specs.Elements.{with_limits}
@@ -61,8 +61,11 @@ returns-clause-exact g c = λ bytes told.
 pub returns-clause-input : goal.returns-clause-input
 returns-clause-input g c =
     let stands = c.read_records.ensures.standing ∙ c.read_after.ensures.same.standing in
+    let total : c.in_ok-outline.outline.total ≡ c.size.result =
+    c.in_ok-outline.ensures.total ∙ sym (ap (λ s. (g.R.Reads.files s).size c.args.file.n) stands) ∙ sym c.size.ensures.exact in
     record {
       live = ap (λ s. (g.R.Reads.files s).live c.args.file.n) stands ∙ c.requires.live;
+      len = c.size.ensures.exact;
       blocks = record {
         size = ap (λ s. (g.R.Reads.files s).size c.args.file.n) stands ∙ sym c.in_ok-outline.ensures.total ∙ ap (λ (o : FileOutline). o.total) (sym c.in_ok-new.ensures.ok);
         scale = c.scale_of.ensures.some;
@@ -70,7 +73,7 @@ returns-clause-input g c =
       taken = AreTaken-read c.args.words.now c.in_ok-info.field-0.tracks c.in_ok-taken.taken c.in_ok-taken.ensures c.in_ok-info.ensures.good.tracks c.requires.delays
           (ap first_unusable (sym c.as_slice.ensures) ∙ sym c.first_unusable.ensures ∙ c.in_default.is);
       attachments =
-          subst (λ (o : FileOutline). All (IsAttachedIn c.args.file o.total) c.kept_files.result) (sym c.in_ok-new.ensures.ok)
+          subst (λ (n : ℕ). All (IsAttachedIn c.args.file n) c.kept_files.result) total
           (subst (All (IsAttachedIn c.args.file c.in_ok-outline.outline.total)) (sym c.kept_files.ensures)
           (kept-all (IsAttachedIn c.args.file c.in_ok-outline.outline.total) _ _ c.in_ok-info.ensures.good.attachments));
       chapters = subst (λ (tree : Option Node). IfSome tree (IsRead CHAPTERS)) (sym c.kept_tree.ensures) (kept-some (IsRead CHAPTERS) _ _ c.in_ok-info.ensures.good.chapters);

@@ -15,10 +15,11 @@ pub returns-clause-input : goal.returns-clause-input
 returns-clause-input g c =
     record {
       live = ap (λ s. (g.R.Reads.files s).live c.args.file.n) c.in_ok-entries.ensures.only.standing ∙ c.requires.live;
+      len = c.size.ensures.exact;
       blocks = c.in_ok-entries.ensures.within;
       taken = AreTaken-read c.args.words.now c.in_ok-tracks.tracks _ c.in_ok-taken_of.ensures (text-read c.in_ok-tracks.tracks c.in_ok-tracks.ensures.exact c.in_ok-tracks.ensures.whole c.in_ok-tracks.ensures.tracks) c.requires.delays
           (ap first_unusable (c.in_ok-taken_of.ensures ∙ ap (taken_from c.args.words.now 0) c.in_ok-tracks.ensures.exact) ∙ text-usable c.args.words.now);
-      attachments = subst (All (IsAttachedIn c.args.file 0)) (sym c.new-2.ensures) (All-nil (IsAttachedIn c.args.file 0));
+      attachments = subst (All (IsAttachedIn c.args.file c.size.result)) (sym c.new-2.ensures) (All-nil (IsAttachedIn c.args.file c.size.result));
       chapters = tt;
       tags = tt;
     }
