@@ -25,6 +25,7 @@ use Rattle.input_files.specs.TextFiles.{text_names}
 use Rattle.merge_inputs.specs.declared.input.Input.{Input}
 use Rattle.merge_plan.specs.Planned.{IsPlanOf}
 use Rattle.mkv_merge.specs.Asked.{AsksToMerge, IsBesidesMerge, opened_by, sidecars_of}
+use Rattle.mkv_merge.specs.Opened.{opened_names}
 use Rattle.mkv_merge.specs.Read.{is_split}
 use Rattle.mkv_merge.proofs.WritingLemmas.{plan-split}
 
@@ -90,21 +91,19 @@ looks-output r f words output old new whole same looks =
 
 -- ---- inputs and text files
 
--- The inputs are opened.
-pub merge-asks-inputs : (words : MergeWords) (files : List FileWords) (old new : List Asked) → files ≡ words.files → AsksOnly (file_names files) [] old new → AsksToMerge (file_names words.files) words old new
-merge-asks-inputs words files old new same asks =
-    merge-asks-opened (file_names words.files) (file_names words.files) words old new (λ name others. others)
-    (subst (λ (each : List FileWords). AsksOnly (file_names each) [] old new) same asks)
+-- The inputs and the attached files are opened.
+pub merge-asks-inputs : (words : MergeWords) (old new : List Asked) → AsksOnly (opened_names words) [] old new → AsksToMerge (opened_names words) words old new
+merge-asks-inputs words old new asks = merge-asks-opened (opened_names words) (opened_names words) words old new (λ name others. others) asks
 
--- A name that a merge doesn't open is neither a text file, nor an input, nor a journal.
-others-opened : (words : MergeWords) (name : List ℕ) → AreOthers name (opened_by words) → AreOthers name (text_names words.chapters words.files) × AreOthers name (file_names words.files) × AreOthers name (sidecars_of words)
+-- A name that a merge doesn't open is neither a text file, nor an input or an attached file, nor a journal.
+others-opened : (words : MergeWords) (name : List ℕ) → AreOthers name (opened_by words) → AreOthers name (text_names words.chapters words.files) × AreOthers name (opened_names words) × AreOthers name (sidecars_of words)
 others-opened words name others =
-    let behind = others-behind name (text_names words.chapters words.files) (file_names words.files ++ sidecars_of words) others in
-    (others-front name (text_names words.chapters words.files) (file_names words.files ++ sidecars_of words) others, others-front name (file_names words.files) (sidecars_of words) behind, others-behind name (file_names words.files) (sidecars_of words) behind)
+    let behind = others-behind name (text_names words.chapters words.files) (opened_names words ++ sidecars_of words) others in
+    (others-front name (text_names words.chapters words.files) (opened_names words ++ sidecars_of words) others, others-front name (opened_names words) (sidecars_of words) behind, others-behind name (opened_names words) (sidecars_of words) behind)
 
--- Calls that open only inputs, or only journals, open only files that a merge opens.
-pub merge-asks-files : (words : MergeWords) (old new : List Asked) → AsksToMerge (file_names words.files) words old new → AsksToMerge (opened_by words) words old new
-merge-asks-files words old new asks = merge-asks-more (file_names words.files) (opened_by words) words old new (λ name others. (others-opened words name others).1) asks
+-- Calls that open only these files, or only journals, open only files that a merge opens.
+pub merge-asks-files : (words : MergeWords) (old new : List Asked) → AsksToMerge (opened_names words) words old new → AsksToMerge (opened_by words) words old new
+merge-asks-files words old new asks = merge-asks-more (opened_names words) (opened_by words) words old new (λ name others. (others-opened words name others).1) asks
 
 pub merge-asks-sidecars : (words : MergeWords) (old new : List Asked) → AsksToMerge (sidecars_of words) words old new → AsksToMerge (opened_by words) words old new
 merge-asks-sidecars words old new asks = merge-asks-more (sidecars_of words) (opened_by words) words old new (λ name others. (others-opened words name others).2) asks

@@ -57,6 +57,7 @@ chaptered-read webm (file.Read chapters) inputs = first-read (kept_one (not webm
 input-with : (f : LiveFiles) (chapters : Option Node) (i : Input) → IfSome chapters (IsRead CHAPTERS) → IsInput f i → IsInput f (with_tree chapters i)
 input-with f chapters i read is = record {
   live = is.live;
+  len = is.len;
   blocks = is.blocks;
   taken = is.taken;
   attachments = is.attachments;

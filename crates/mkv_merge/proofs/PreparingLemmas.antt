@@ -13,15 +13,18 @@ use Rattle.mkv_io.specs.LiveFiles.{LiveFiles}
 use Rattle.mkv_io.specs.Told.{IfVisible}
 use Rattle.input_files.specs.ChapterFile.{CanBeWritten}
 use Rattle.input_files.specs.Inputs as files
+use Rattle.input_files.specs.Inputs.{first_large}
 use Rattle.input_files.specs.declared.chapter_file.ChapterFile.{ChapterFile}
 use Rattle.merge_model.specs.FileLinks.{octets_in}
 use Rattle.input_files.specs.declared.text_files.TextFiles.{TextFiles}
+use Rattle.requests.specs.declared.merge.AttachedWords.{AttachedWords}
 use Rattle.requests.specs.declared.merge.FileWords.{FileWords}
 use Rattle.requests.specs.declared.merge.MergeWords.{MergeWords}
 use Rattle.merge_inputs.specs.Input.{InputRead, IsReadOf, input_of, read_in}
 use Rattle.merge_inputs.specs.Select.{unmoved}
 use Rattle.merge_inputs.specs.declared.input.Input.{Input}
 use Rattle.merge_plan.specs.Appending.{append_refusal}
+use Rattle.merge_plan.specs.Attached.{attached_read, attached_sources}
 use Rattle.merge_plan.specs.Front.{reads_of}
 use Rattle.merge_plan.specs.Places.{in_place}
 use Rattle.merge_plan.specs.Plan.{Source, append_offset}
@@ -36,10 +39,11 @@ use Rattle.merge_plan.proofs.FileLemmas.{reads-in}
 use Rattle.merge_plan.specs.Behind.{walked_for, walked_of}
 use Rattle.merge_plan.specs.Placed.{StandInPlace, walked_behind, walked_length}
 use Rattle.merge_plan.proofs.PlaceLemmas.{walked-within}
+use Rattle.mkv_merge.specs.Attached.{ChecksSizes, attached_reads}
 use Rattle.mkv_merge.specs.Bound.{files_size, files_walked, walked_before}
 use Rattle.mkv_merge.specs.Chapters.{chaptered, chapters_refusal, with_chapters, with_file, with_tree}
 use Rattle.mkv_merge.specs.Ends.{unplanned}
-use Rattle.mkv_merge.specs.Merge.{refusals_read, sources_in, sources_unless}
+use Rattle.mkv_merge.specs.Merge.{attached_refusal, refusals_read, sources_in, sources_placed, sources_unless}
 use Rattle.mkv_merge.specs.Prepared.{AreInputsOf, AreTold, AreUnmoved, Prepares, ReadsAs, ReadsEach, reads_in, sources_from}
 use Rattle.mkv_merge.specs.Read.{found_in, inputs_from, inputs_of, numbered, reads_with}
 use Rattle.mkv_merge.specs.Refused.{first_cause}
@@ -49,7 +53,7 @@ use Rattle.mkv_io.specs.Results.{and_then, unless}
 use Rattle.mkv_merge.specs.declared.refusal.MergeEnd.{MergeEnd}
 use Rattle.mkv_merge.specs.declared.refusal.MergeEnd.TheVariants.{Refused, Stopped}
 use Rattle.mkv_merge.specs.declared.refusal.Refusal.{Refusal}
-use Rattle.mkv_merge.specs.declared.refusal.Refusal.TheVariants.{Differs, Plan}
+use Rattle.mkv_merge.specs.declared.refusal.Refusal.TheVariants.{AttachedTooLarge, Differs, Plan}
 use Rattle.mkv_merge.proofs.ChaptersLemmas.{chaptered-read, stood, unrefused}
 use Rattle.mkv_merge.proofs.TextsLemmas.{inputs-timed, shifts-timed}
 
@@ -226,13 +230,57 @@ last-cause : (why : Option Refusal) → first_cause (why ∷ []) ≡ why
 last-cause None = refl
 last-cause (Some cause) = refl
 
-module _ (words : MergeWords) (texts : TextFiles) (contents : List (List ℕ)) where
-  -- the refusals after the appended inputs; below, after the timestamp files, the chapter file and the inputs
+-- ---- attached files
+
+-- Pairs of two lists in sequence.
+zip-append : {A B : Type 0} (xs : List A) (ys : List B) (us : List A) (vs : List B) → length xs ≡ length ys → zip (xs ++ us) (ys ++ vs) ≡ zip xs ys ++ zip us vs
+zip-append [] [] us vs many = refl
+zip-append [] (y ∷ ys) us vs many = absurd (omega arith)
+zip-append (x ∷ xs) [] us vs many = absurd (omega arith)
+zip-append (x ∷ xs) (y ∷ ys) us vs many = ap (λ rest. (x, y) ∷ rest) (zip-append xs ys us vs (omega arith))
+
+-- The sources of attached files are their contents, and what is read of them.
+zip-attached : (webm : Bool) (words : List AttachedWords) (data_of : List (List ℕ)) → zip data_of (attached_reads webm words (map length data_of)) ≡ attached_sources webm words data_of
+zip-attached webm [] [] = refl
+zip-attached webm [] (bytes ∷ rest) = refl
+zip-attached webm (w ∷ words) [] = refl
+zip-attached webm (w ∷ words) (bytes ∷ rest) = ap (λ (sources : List Source). (bytes, attached_read w webm (length bytes)) ∷ sources) (zip-attached webm words rest)
+
+-- One more file is attached.
+zip-push : {A B : Type 0} (xs : List A) (ys : List B) (x : A) (y : B) → length ys < length xs → x ≡ get_or xs (length ys) x → zip xs (ys ++ y ∷ []) ≡ zip xs ys ++ (x, y) ∷ []
+zip-push [] ys x y below is = absurd (omega arith)
+zip-push (first ∷ []) [] x y below is = ap (λ each. (each, y) ∷ []) (sym is)
+zip-push (first ∷ next ∷ xs) [] x y below is = ap (λ each. (each, y) ∷ []) (sym is)
+zip-push (first ∷ xs) (one ∷ ys) x y below is = ap (λ rest. (first, one) ∷ rest) (zip-push xs ys x y (omega arith) is)
+
+pub reads-more : (webm : Bool) (words : List AttachedWords) (sizes : List ℕ) (w : AttachedWords) (size : ℕ) → length sizes < length words → w ≡ get_or words (length sizes) w
+    → attached_reads webm words (sizes ++ size ∷ []) ≡ attached_reads webm words sizes ++ attached_read w webm size ∷ []
+reads-more webm words sizes w size below is =
+    let read : AttachedWords × ℕ → InputRead = λ pair. attached_read pair.0 webm pair.1 in
+    ap (map read) (zip-push words sizes w size below is) ∙ map-append read (zip words sizes) ((w, size) ∷ [])
+
+-- Files that are visible to the proof have the lengths of their contents.
+pub attached-lengths : (f : LiveFiles) → ((file : ℕ) → IfVisible (f.content file) (λ bytes. length bytes ≡ f.size file)) → (list : List FileId) (contents : List (List ℕ)) → AreTold f list contents → files.sizes_of f list ≡ map length contents
+attached-lengths f sized [] [] told = refl
+attached-lengths f sized [] (bytes ∷ rest) told = absurd (cc)
+attached-lengths f sized (id ∷ list) [] told = absurd (cc)
+attached-lengths f sized (id ∷ list) (bytes ∷ rest) told =
+    let here : f.content id.n ≡ Some bytes = cc in
+    let behind : AreTold f list rest = cc in
+    ap₂ (λ (n : ℕ) (ns : List ℕ). n ∷ ns) (sym (sized id.n bytes here)) (attached-lengths f sized list rest behind)
+
+-- ---- the sources of a merge, or its refusal
+
+module _ (words : MergeWords) (texts : TextFiles) (contents attached : List (List ℕ)) where
+  -- the refusals after the appended inputs; below, after the attached files, the timestamp files, the chapter file and the inputs
   abbrev behind_append : List (Option Refusal)
-  behind_append = option_map Plan (plan_refusal words (reads_of (sources_in words texts contents))) ∷ []
+  behind_append = option_map Plan (plan_refusal words (reads_of (sources_in words texts contents attached))) ∷ []
+
+  abbrev behind_attached : List (Option Refusal)
+  behind_attached = option_map Differs (append_refusal (reads_with words texts contents)) ∷ behind_append
 
   abbrev behind_times : List (Option Refusal)
-  behind_times = option_map Differs (append_refusal (reads_with words texts contents)) ∷ behind_append
+  behind_times = attached_refusal attached ∷ behind_attached
 
   abbrev behind_chapters : List (Option Refusal)
   behind_chapters = times_refusal texts.times ∷ behind_times
@@ -240,20 +288,20 @@ module _ (words : MergeWords) (texts : TextFiles) (contents : List (List ℕ)) w
   abbrev behind_inputs : List (Option Refusal)
   behind_inputs = chapters_refusal texts.chapters ∷ behind_chapters
 
-  refused-for : (cause : Refusal) → first_cause (refusals_read words texts contents) ≡ Some cause → sources_unless [] words texts contents ≡ Err cause
-  refused-for cause is = ap (λ (o : Option Refusal). unless o (sources_in words texts contents)) is
+  refused-for : (cause : Refusal) → first_cause (refusals_read words texts contents attached) ≡ Some cause → sources_unless [] words texts contents attached ≡ Err cause
+  refused-for cause is = ap (λ (o : Option Refusal). unless o (sources_in words texts contents attached)) is
 
   all-read : (read : List Input) → inputs_of words contents ≡ Ok (reads_in read) → result_err (inputs_of words contents) ≡ None
   all-read read is = ap (λ (r : Result (List InputRead) Refusal). result_err r) is
 
   -- An input wasn't read.
-  pub input-ended : (end : MergeEnd) → ReadsEach words contents (Err end) → Prepares words texts contents (Err end)
+  pub input-ended : (end : MergeEnd) → ReadsEach words contents (Err end) → Prepares words texts contents attached (Err end)
   input-ended (Refused why) is = refused-for why (stands (result_err (inputs_of words contents)) behind_inputs why (ap (λ (r : Result (List InputRead) Refusal). result_err r) is))
   input-ended (Stopped stop) is = tt
 
   -- The chapter file was refused.
   pub chapters-ended : (read : List Input) (end : MergeEnd) → inputs_of words contents ≡ Ok (reads_in read)
-      → ReadsAs {B = List Input} (λ (list : List Input). list) (with_file with_tree words.webm texts.chapters read) (Err end) → Prepares words texts contents (Err end)
+      → ReadsAs {B = List Input} (λ (list : List Input). list) (with_file with_tree words.webm texts.chapters read) (Err end) → Prepares words texts contents attached (Err end)
   chapters-ended read (Refused why) is made =
       refused-for why (past (result_err (inputs_of words contents)) behind_inputs (all-read read is)
       ∙ stands (chapters_refusal texts.chapters) behind_chapters why (stood (chapters_refusal texts.chapters) (chaptered with_tree words.webm texts.chapters read) why made))
@@ -264,11 +312,11 @@ module _ (words : MergeWords) (texts : TextFiles) (contents : List (List ℕ)) w
     headed-is : (chapters_refusal texts.chapters ≡ None) × (chaptered with_tree words.webm texts.chapters read ≡ headed)
     headed-is = unrefused (chapters_refusal texts.chapters) (chaptered with_tree words.webm texts.chapters read) headed made
 
-    past-chapters : first_cause (refusals_read words texts contents) ≡ first_cause behind_chapters
+    past-chapters : first_cause (refusals_read words texts contents attached) ≡ first_cause behind_chapters
     past-chapters = past (result_err (inputs_of words contents)) behind_inputs (all-read read is) ∙ past (chapters_refusal texts.chapters) behind_chapters headed-is.0
 
     -- A timestamp file was refused.
-    pub times-ended : (end : MergeEnd) → ReadsAs {B = List Input} reads_in (with_times texts.times (reads_in headed)) (Err end) → Prepares words texts contents (Err end)
+    pub times-ended : (end : MergeEnd) → ReadsAs {B = List Input} reads_in (with_times texts.times (reads_in headed)) (Err end) → Prepares words texts contents attached (Err end)
     times-ended (Refused why) given =
         refused-for why (past-chapters ∙ stands (times_refusal texts.times) behind_times why (stood (times_refusal texts.times) (timed_from texts.times 0 (reads_in headed)) why given))
     times-ended (Stopped stop) given = tt
@@ -284,44 +332,72 @@ module _ (words : MergeWords) (texts : TextFiles) (contents : List (List ℕ)) w
           ∙ ap (timed_from texts.times 0) (sym (chaptered-read words.webm texts.chapters read) ∙ ap reads_in headed-is.1)
           ∙ timed-is.1
 
-      past-times : first_cause (refusals_read words texts contents) ≡ first_cause behind_times
+      past-times : first_cause (refusals_read words texts contents attached) ≡ first_cause behind_times
       past-times = past-chapters ∙ past (times_refusal texts.times) behind_times timed-is.0
 
-      -- An appended input can't continue the output tracks.
-      pub differs-refused : (d : AppendDiffers) → append_refusal (reads_in timed) ≡ Some d → sources_unless [] words texts contents ≡ Err (Differs d)
-      differs-refused d differs =
-          refused-for (Differs d) (past-times
-          ∙ stands (option_map Differs (append_refusal (reads_with words texts contents))) behind_append (Differs d) (ap (option_map Differs) (ap append_refusal reads-are ∙ differs)))
+      -- An attached file is too large.
+      pub large-refused : (end : MergeEnd) → ChecksSizes {T = Unit {0}} (map length attached) (Err end) → Prepares words texts contents attached (Err end)
+      large-refused (Refused why) large = refused-for why (past-times ∙ stands (attached_refusal attached) behind_attached why large)
+      large-refused (Stopped stop) never = absurd never
 
-      -- The inputs have their append offsets.
-      module _ (f now : LiveFiles) (ids : List FileId) (placed : List Input) (standing : now ≡ f) (written : CanBeWritten texts.chapters) (are : AreInputsOf now ids read) (but : IsSameBut headed timed)
-          (same : map (λ (i : Input). i.file) placed ≡ map (λ (i : Input). i.file) timed) (told : AreTold f ids contents) (none : append_refusal (reads_in timed) ≡ None) (stand : StandInPlace now timed placed) where
-        of : map (λ (i : Input). i.file) timed ≡ ids
-        of = (inputs-timed now ids words.webm texts.chapters read headed timed written are made but).of
+      module _ (small : first_large (map length attached) ≡ None) where
+        past-attached : first_cause (refusals_read words texts contents attached) ≡ first_cause behind_attached
+        past-attached = past-times ∙ past (attached_refusal attached) behind_attached (ap (option_map AttachedTooLarge) small)
 
-        placed-told : map (source_in f) placed ≡ sources_from contents placed
-        placed-told = sources-told f placed contents (told-contents f ids contents placed (same ∙ of) told)
+        -- An appended input can't continue the output tracks.
+        pub differs-refused : (d : AppendDiffers) → append_refusal (reads_in timed) ≡ Some d → sources_unless [] words texts contents attached ≡ Err (Differs d)
+        differs-refused d differs =
+            refused-for (Differs d) (past-attached
+            ∙ stands (option_map Differs (append_refusal (reads_with words texts contents))) behind_append (Differs d) (ap (option_map Differs) (ap append_refusal reads-are ∙ differs)))
 
-        sources-are : sources_in words texts contents ≡ sources_from contents placed
-        sources-are =
-            let before = told-contents f ids contents timed of told in
-            ap (λ (reads : List InputRead). in_place (zip contents reads)) reads-are
-            ∙ ap in_place (sym (sources-told f timed contents before))
-            ∙ sym (subst (λ (each : LiveFiles). StandInPlace each timed placed) standing stand (each-told f timed contents before)) ∙ placed-told
+        -- The inputs have their append offsets, and the attached files follow them.
+        module _ (f now : LiveFiles) (ids other : List FileId) (placed inputs : List Input) (standing : now ≡ f) (written : CanBeWritten texts.chapters) (are : AreInputsOf now ids read) (but : IsSameBut headed timed)
+            (same : map (λ (i : Input). i.file) placed ≡ map (λ (i : Input). i.file) timed) (told : AreTold f ids contents) (none : append_refusal (reads_in timed) ≡ None) (stand : StandInPlace now timed placed)
+            (added : reads_in inputs ≡ reads_in placed ++ attached_reads words.webm words.attached (map length attached)) (of_both : map (λ (i : Input). i.file) inputs ≡ map (λ (i : Input). i.file) placed ++ other) (other_told : AreTold f other attached) where
+          of : map (λ (i : Input). i.file) timed ≡ ids
+          of = (inputs-timed now ids words.webm texts.chapters read headed timed written are made but).of
 
-        pub plan-found : (o : Option PlanRefusal) → plan_refusal words (reads_in placed) ≡ o → sources_unless [] words texts contents ≡ unless (option_map Plan o) (sources_from contents placed)
-        plan-found o planned =
-            let reads : reads_of (sources_from contents placed) ≡ reads_in placed = ap reads_of (sym placed-told) ∙ reads-in f placed in
-            let why : plan_refusal words (reads_of (sources_in words texts contents)) ≡ o = ap (λ (each : List Source). plan_refusal words (reads_of each)) sources-are ∙ ap (plan_refusal words) reads ∙ planned in
-            ap (λ (cause : Option Refusal). unless cause (sources_in words texts contents))
-            (past-times ∙ past (option_map Differs (append_refusal (reads_with words texts contents))) behind_append (ap (option_map Differs) (ap append_refusal reads-are ∙ none))
-            ∙ last-cause (option_map Plan (plan_refusal words (reads_of (sources_in words texts contents)))) ∙ ap (option_map Plan) why)
-            ∙ ap (unless (option_map Plan o)) sources-are
+          placed-told : map (source_in f) placed ≡ sources_from contents placed
+          placed-told = sources-told f placed contents (told-contents f ids contents placed (same ∙ of) told)
 
-        -- The inputs weren't planned.
-        pub plan-ended : (end : PlanEnd) → Plans words placed (Err end) → Prepares words texts contents (Err (unplanned end))
-        plan-ended (plan_end.Refused why) is = plan-found (Some why) is
-        plan-ended plan_end.Memory is = tt
+          placed-are : sources_placed words texts contents ≡ sources_from contents placed
+          placed-are =
+              let before = told-contents f ids contents timed of told in
+              ap (λ (reads : List InputRead). in_place (zip contents reads)) reads-are
+              ∙ ap in_place (sym (sources-told f timed contents before))
+              ∙ sym (subst (λ (each : LiveFiles). StandInPlace each timed placed) standing stand (each-told f timed contents before)) ∙ placed-told
+
+          both-told : map (source_in f) inputs ≡ sources_from (contents ++ attached) inputs
+          both-told =
+              sources-told f inputs (contents ++ attached)
+              (told-contents f (ids ++ other) (contents ++ attached) inputs (of_both ∙ ap (λ (l : List FileId). l ++ other) (same ∙ of))
+              (map-append (λ (file : FileId). f.content file.n) ids other ∙ ap₂ (λ (us vs : List (Option (List ℕ))). us ++ vs) told other_told ∙ sym (map-append some contents attached)))
+            where
+              some : List ℕ → Option (List ℕ)
+              some bytes = Some bytes
+
+          sources-are : sources_in words texts contents attached ≡ sources_from (contents ++ attached) inputs
+          sources-are =
+              let count : length contents ≡ length (reads_in placed) =
+              told-count f.content ids contents told ∙ ap length (sym (same ∙ of)) ∙ length-map placed (λ (i : Input). i.file) ∙ sym (length-map placed read_in) in
+              ap (λ (sources : List Source). sources ++ attached_sources words.webm words.attached attached) placed-are
+              ∙ ap (λ (rest : List Source). sources_from contents placed ++ rest) (sym (zip-attached words.webm words.attached attached))
+              ∙ sym (zip-append contents (reads_in placed) attached (attached_reads words.webm words.attached (map length attached)) count)
+              ∙ ap (zip (contents ++ attached)) (sym added)
+
+          pub plan-found : (o : Option PlanRefusal) → plan_refusal words (reads_in inputs) ≡ o → sources_unless [] words texts contents attached ≡ unless (option_map Plan o) (sources_from (contents ++ attached) inputs)
+          plan-found o planned =
+              let reads : reads_of (sources_from (contents ++ attached) inputs) ≡ reads_in inputs = ap reads_of (sym both-told) ∙ reads-in f inputs in
+              let why : plan_refusal words (reads_of (sources_in words texts contents attached)) ≡ o = ap (λ (each : List Source). plan_refusal words (reads_of each)) sources-are ∙ ap (plan_refusal words) reads ∙ planned in
+              ap (λ (cause : Option Refusal). unless cause (sources_in words texts contents attached))
+              (past-attached ∙ past (option_map Differs (append_refusal (reads_with words texts contents))) behind_append (ap (option_map Differs) (ap append_refusal reads-are ∙ none))
+              ∙ last-cause (option_map Plan (plan_refusal words (reads_of (sources_in words texts contents attached)))) ∙ ap (option_map Plan) why)
+              ∙ ap (unless (option_map Plan o)) sources-are
+
+          -- The inputs weren't planned.
+          pub plan-ended : (end : PlanEnd) → Plans words inputs (Err end) → Prepares words texts contents attached (Err (unplanned end))
+          plan-ended (plan_end.Refused why) is = plan-found (Some why) is
+          plan-ended plan_end.Memory is = tt
 
 -- ---- bytes read before the blocks
 

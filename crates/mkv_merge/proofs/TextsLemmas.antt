@@ -31,6 +31,7 @@ use Rattle.mkv_merge.proofs.ChaptersLemmas.{chaptered-inputs, chaptered-shifts, 
 own-times : (f : LiveFiles) (i : Input) → IsInput f i → IsInput f (untimed i)
 own-times f i is = record {
   live = is.live;
+  len = is.len;
   blocks = is.blocks;
   taken = is.taken;
   attachments = is.attachments;
@@ -41,6 +42,7 @@ own-times f i is = record {
 any-times : (f : LiveFiles) (i : Input) → IsInput f (untimed i) → IsInput f i
 any-times f i is = record {
   live = is.live;
+  len = is.len;
   blocks = is.blocks;
   taken = is.taken;
   attachments = is.attachments;

@@ -1,9 +1,10 @@
 -- A prepared merge can be written, and its plan is made from its sources.
 use Rattle.std.proofs.Common.{◌≡◌, ◌≢◌, ℕ, ◌+◌, ◌*◌, ◌<◌, ◌≤◌, Bool, true, false, ◌||◌, List, [], ◌∷◌, length, map, get_or, Option, Some, None, Result, Ok, Err, IfOk, IfSome, refl, sym, ◌∙◌, ap, ap₂, subst, arith}
-use Rattle.std.specs.List.{All, sum_by, zip}
+use Rattle.std.specs.List.{All, enumerate_from, sum_by, zip}
 use Rattle.std.proofs.Math.ListN.{get_or-map}
-use Rattle.std.proofs.lemmas.List.{length-map}
+use Rattle.std.proofs.lemmas.List.{length-append, length-map}
 use Rattle.std.proofs.lemmas.List.Elements.{All-map}
+use Rattle.std.proofs.lemmas.List.FromFn.{length-enumerate_from}
 use Rattle.std.proofs.lemmas.List.Sums.{sum_by-le}
 use Rattle.mkv_io.specs.declared.outside.FileId.{FileId}
 use Rattle.mkv_io.specs.LiveFiles.{LiveFiles}
@@ -35,10 +36,8 @@ use Rattle.remux_plan.specs.declared.plan.PlannedLane.{PlannedLane}
 use Rattle.remuxer.specs.Plan.{IsPlan, IsToldPlan, data_length, inputs_length}
 use Rattle.requests.specs.declared.merge.FileWords.{FileWords}
 use Rattle.requests.specs.declared.merge.MergeWords.{MergeWords}
-use Rattle.input_files.specs.Inputs.{AreInputs, file_names}
-use Rattle.merge_inputs.specs.Input.{CanBeGiven, InputRead, IsInput, read_in, total_in}
-use Rattle.merge_inputs.specs.declared.input.Blocks.{Blocks}
-use Rattle.merge_inputs.specs.declared.input.Blocks.TheVariants as held_by
+use Rattle.input_files.specs.Inputs.{AreInputs}
+use Rattle.merge_inputs.specs.Input.{InputRead, IsInput, read_in}
 use Rattle.merge_inputs.specs.declared.input.Input.{Input}
 use Rattle.merge_inputs.specs.declared.taken.TakenTrack.{TakenTrack}
 use Rattle.merge_plan.specs.Plan.{Source, inputs_given, inputs_taken, lanes_given, lanes_ordered, lanes_taken, numbers_of}
@@ -46,14 +45,17 @@ use Rattle.merge_plan.specs.Planned.{CanBeWritten, StandsInInput, IsSparedLink, 
 use Rattle.merge_plan.specs.Front.{attached_length, attachments_of, reads_of}
 use Rattle.merge_plan.specs.Identifiers.{Have64Bits, identifiers_of}
 use Rattle.merge_plan.specs.Records.{chapters_of, is_appended, tags_of}
-use Rattle.merge_plan.proofs.ChainLemmas.{numbers-below}
+use Rattle.merge_plan.proofs.AttachedLemmas.{attached-bare, taken-bare}
+use Rattle.merge_plan.proofs.ChainLemmas.{lanes-few, numbers-below}
 use Rattle.merge_plan.proofs.FileLemmas.{reads-in}
 use Rattle.merge_plan.proofs.OrderedLemmas.{lanes-ordered-count, ordered-all}
 use Rattle.mkv_lines.specs.declared.status.Status.{Status}
 use Rattle.mkv_lines.specs.declared.status.CommandEnd.{CommandEnd}
 use Rattle.mkv_merge.specs.Bound.{files_size}
 use Rattle.mkv_merge.specs.Merge.{blocks_of}
-use Rattle.mkv_merge.specs.Prepared.{AreTold, IsPrepared, reads_in}
+use Rattle.mkv_merge.specs.Attached.{attached_reads}
+use Rattle.mkv_merge.specs.Opened.{opened_names}
+use Rattle.mkv_merge.specs.Prepared.{AreOwnAndAttached, AreTold, IsPrepared, reads_in}
 use Rattle.mkv_merge.specs.Records.{AreShort, EndsReadable, HaveRecords, IsFilled}
 use Rattle.mkv_merge.specs.declared.preparing.Prepared.{Prepared}
 use Rattle.mkv_merge.specs.declared.refusal.Refusal.{Refusal}
@@ -83,14 +85,13 @@ use Rattle.mkv_merge.proofs.NamesLemmas.{unwritten-held}
 All-unmap : {A B : Type 0} (P : B → Type 0) (f : A → B) (xs : List A) → All P (map f xs) → All (λ (x : A). P (f x)) xs
 All-unmap P f xs all = λ k d below. subst P (get_or-map f xs k d) (all k (f d) (omega (arith, length-map xs f)))
 
--- Inputs and files on the command line have the same count.
-pub many-inputs : {S : Type 0} (r : Ghosts S) (f : writing.Ghosts S) (files : S) (words : MergeWords) (ids : List FileId) (inputs : List Input) → AreInputs r f (file_names words.files) files ids → map (λ (i : Input). i.file) inputs ≡ ids → length inputs ≡ length words.files
-many-inputs r f files words ids inputs opened of =
-    sym (length-map inputs (λ (i : Input). i.file)) ∙ ap length of
-    ∙ sym (length-map ids (λ (file : FileId). f.holder files file.n)) ∙ ap length opened.under
-    ∙ length-map words.files (λ (w : FileWords). w.name)
+-- There is an input for each file on the command line, at least.
+pub many-inputs : (words : MergeWords) (inputs : List Input) → AreOwnAndAttached words inputs → length words.files ≤ length inputs
+many-inputs words inputs both =
+    let attached : List InputRead = attached_reads words.webm words.attached both.sizes in
+    omega (arith, both.many, sym (length-map inputs read_in), ap length both.are, length-append {A = InputRead} both.own attached)
 
--- The numbers of the inputs are small.
+-- The numbers of the inputs of each output track are small and few: attached files are in none.
 begun-small : (reads : List InputRead) → length reads ≤ MAX_INPUTS → All (All (λ (i : ℕ). i < MAX_INPUTS)) (inputs_given 0 reads)
 begun-small reads few =
     numbers-below (λ (each : ℕ × InputRead). is_appended each.1) numbers_of (λ each. All-map (λ m. m ≡ each.0) (λ (t : TakenTrack). each.0) each.1.taken (λ k d below. refl)) 0 MAX_INPUTS reads (omega arith)
@@ -98,15 +99,22 @@ begun-small reads few =
 numbers-small : (order : List (ℕ × ℕ)) (reads : List InputRead) → length reads ≤ MAX_INPUTS → All (All (λ (i : ℕ). i < MAX_INPUTS)) (inputs_taken order reads)
 numbers-small order reads few = ordered-all (All (λ (i : ℕ). i < MAX_INPUTS)) order reads (inputs_given 0 reads) (begun-small reads few)
 
+begun-few : (reads : List InputRead) → All (λ (lane : List ℕ). length lane ≤ length reads) (inputs_given 0 reads)
+begun-few reads =
+    subst (λ (n : ℕ). All (λ (lane : List ℕ). length lane ≤ n) (inputs_given 0 reads)) (length-enumerate_from 0 reads)
+    (lanes-few (λ (each : ℕ × InputRead). is_appended each.1) numbers_of (enumerate_from 0 reads))
+
+numbers-few : (order : List (ℕ × ℕ)) (reads : List InputRead) → All (λ (lane : List ℕ). length lane ≤ length reads) (inputs_taken order reads)
+numbers-few order reads = ordered-all (λ (lane : List ℕ). length lane ≤ length reads) order reads (inputs_given 0 reads) (begun-few reads)
+
+numbers-own : (words : MergeWords) (inputs : List Input) (both : AreOwnAndAttached words inputs) → inputs_taken words.order (reads_in inputs) ≡ inputs_taken words.order both.own
+numbers-own words inputs both =
+    ap (inputs_taken words.order) both.are ∙ taken-bare words.order both.own (attached_reads words.webm words.attached both.sizes) (attached-bare words.webm (zip words.attached both.sizes))
+
 -- A record has its ID, if it is present.
 pub record-id : (own : ℕ) (n : Option Node) → IfSome n (IsRecord own) → IfSome n (λ (m : Node). id_of m ≡ own)
 record-id own None is = tt
 record-id own (Some m) is = is.id
-
--- A place within the bytes that an outline counts is within its file.
-inside-file : (size end : ℕ) (blocks : Blocks) → CanBeGiven size blocks → end ≤ total_in blocks → end ≤ size
-inside-file size end (held_by.Clusters outline scale) can within = let same : size ≡ outline.value.total = can.size in omega arith
-inside-file size end (held_by.Entries entries) can within = omega arith
 
 -- An attached file is in the live file of an input, which wasn't opened under the name of the first output.
 file-good : {S : Type 0} (r : Ghosts S) (f : writing.Ghosts S) (files : S) (split : Bool) (output : List ℕ) (inputs : List Input) (a : Attachment) → All (IsInput (live_files r files)) inputs → All (λ (i : Input). may_be_written split output (f.holder files i.file.n) ≡ false) inputs
@@ -115,7 +123,7 @@ file-good r f files split output inputs a good others entry is =
     let now = live_files r files in
     let input : IsInput now is.input = subst (IsInput now) (sym is.is) (good is.number is.input is.inside) in
     let other : may_be_written split output (f.holder files is.input.file.n) ≡ false = subst (λ (i : Input). may_be_written split output (f.holder files i.file.n) ≡ false) (sym is.is) (others is.number is.input is.inside) in
-    let within : a.at + a.len ≤ now.size is.input.file.n = inside-file (now.size is.input.file.n) (a.at + a.len) is.input.blocks input.blocks is.within in
+    let within : a.at + a.len ≤ now.size is.input.file.n = subst (λ (n : ℕ). a.at + a.len ≤ n) input.len is.within in
     let first : may_be_written split output (name_of split output 1) ≡ true = named-so split output 1 (omega arith) in
     record {
       id = entry.is.id;
@@ -155,7 +163,7 @@ limit-of (Some (split_words.Chapters numbers)) starts sound = tt
 limit-of (Some (split_words.Size limit)) starts sound = record { fits = omega (arith, sound.most); whole = refl }
 
 -- No input was opened under such a name.
-inputs-unwritten : (holder : ℕ → List ℕ) (words : MergeWords) (ids : List FileId) (p : Prepared) → holders_of holder ids ≡ file_names words.files → first_written words ≡ None → map (λ (i : Input). i.file) p.inputs ≡ ids → IsPlanOf words p.inputs p.plan
+inputs-unwritten : (holder : ℕ → List ℕ) (words : MergeWords) (ids : List FileId) (p : Prepared) → holders_of holder ids ≡ opened_names words → first_written words ≡ None → map (λ (i : Input). i.file) p.inputs ≡ ids → IsPlanOf words p.inputs p.plan
     → All (λ (i : Input). may_be_written (planned_split p.plan) p.plan.output (holder i.file.n) ≡ false) p.inputs
 inputs-unwritten holder words ids p under apart of plan =
     let P : Bool → List ℕ → FileId → Type 0 = λ split output file. may_be_written split output (holder file.n) ≡ false in
@@ -165,14 +173,17 @@ inputs-unwritten holder words ids p under apart of plan =
     All-unmap (P (planned_split p.plan) p.plan.output) (λ (i : Input). i.file) p.inputs (subst (All (P (planned_split p.plan) p.plan.output)) (sym of) named)
 
 -- A prepared merge can be written.
-pub plan-good : {S : Type 0} (r : Ghosts S) (f : writing.Ghosts S) (files : S) (words : MergeWords) (ids : List FileId) (p : Prepared) → IsApartMerge words → AreInputs r f (file_names words.files) files ids → IsPrepared (live_files r files) words ids p → IsPlan r f files p.plan
+pub plan-good : {S : Type 0} (r : Ghosts S) (f : writing.Ghosts S) (files : S) (words : MergeWords) (ids : List FileId) (p : Prepared) → IsApartMerge words → AreInputs r f (opened_names words) files ids → IsPrepared (live_files r files) words ids p → IsPlan r f files p.plan
 plan-good {S = S} r f files words ids p is opened prepared =
     let sound = is.sound in
     let plan = prepared.plan in
     let written = prepared.written in
     let lanes : List PlannedLane = p.plan.lanes in
     let split : Bool = planned_split p.plan in
-    let many : length p.inputs ≡ length words.files = many-inputs r f files words ids p.inputs opened prepared.inputs.of in
+    let own : List InputRead = prepared.both.own in
+    let numbers : map (λ (l : PlannedLane). l.inputs) lanes ≡ inputs_taken words.order own = plan.numbers ∙ numbers-own words p.inputs prepared.both in
+    let few : All (λ (l : PlannedLane). length l.inputs ≤ length own) lanes =
+    All-unmap (λ (numbers : List ℕ). length numbers ≤ length own) (λ (l : PlannedLane). l.inputs) lanes (subst (All (λ (lane : List ℕ). length lane ≤ length own)) (sym numbers) (numbers-few words.order own)) in
     let test : ℕ → Bool = λ file. may_be_written split p.plan.output (f.holder files file) in
     let others : All (λ (i : Input). test i.file.n ≡ false) p.inputs = inputs-unwritten (f.holder files) words ids p opened.under is.apart prepared.inputs.of plan in
     record {
@@ -180,13 +191,13 @@ plan-good {S = S} r f files words ids p is opened prepared =
       scale_most = subst (λ (l : ClusterLimits). l.scale ≤ MAX_SCALE) (sym plan.limits) (omega (arith, sound.scale.most));
       few = written.few;
       lanes = λ k d below. record {
-        few = omega (arith, (written.linked k d below).few, many, sound.files.most);
+        few = omega (arith, (written.linked k d below).numbered, few k d below, prepared.both.many, sound.files.most);
         small = All-unmap (All IsSmallLink) (λ (l : PlannedLane). l.spec.links) lanes written.small k d below;
         live = All-unmap (All (IsOpenLink (live_files r files))) (λ (l : PlannedLane). l.spec.links) lanes (written.is_open (live_files r files) prepared.inputs.good) k d below;
         apart = λ j e inside. unwritten (f.holder files) split p.plan.output (get_or (get_or lanes k d).spec.links j e)
             (All-unmap (All (IsSparedLink test)) (λ (l : PlannedLane). l.spec.links) lanes (written.apart test others) k d below j e inside);
         numbered = (written.linked k d below).numbered;
-        inputs = All-unmap (All (λ (i : ℕ). i < MAX_INPUTS)) (λ (l : PlannedLane). l.inputs) lanes (subst (All (All (λ (i : ℕ). i < MAX_INPUTS))) (sym plan.numbers) (numbers-small words.order (map read_in p.inputs) (omega (arith, length-map p.inputs read_in, many, sound.files.most)))) k d below;
+        inputs = All-unmap (All (λ (i : ℕ). i < MAX_INPUTS)) (λ (l : PlannedLane). l.inputs) lanes (subst (All (All (λ (i : ℕ). i < MAX_INPUTS))) (sym numbers) (numbers-small words.order own (omega (arith, prepared.both.many, sound.files.most)))) k d below;
       };
       records = record {
         info = written.info.id;
@@ -216,15 +227,13 @@ pub record IsMergeOf (f : LiveFiles) (words : MergeWords) (inputs : List Input) 
   pub plan : IsPlanOf words inputs p
   pub split : planned_split p ≡ is_split words
   pub from : map (source_in f) inputs ≡ sources
-  pub many : length words.files ≡ length inputs
   pub told : All (IsToldInput f) inputs
 
-pub merge-is : (f : LiveFiles) (words : MergeWords) (ids : List FileId) (contents : List (List ℕ)) (p : Prepared) → IsPrepared f words ids p → AreTold f ids contents → length p.inputs ≡ length words.files → IsMergeOf f words p.inputs p.plan (zip contents (reads_in p.inputs))
-merge-is f words ids contents p prepared told many = record {
+pub merge-is : (f : LiveFiles) (words : MergeWords) (ids : List FileId) (contents : List (List ℕ)) (p : Prepared) → IsPrepared f words ids p → AreTold f ids contents → IsMergeOf f words p.inputs p.plan (zip contents (reads_in p.inputs))
+merge-is f words ids contents p prepared told = record {
   plan = prepared.plan;
   split = plan-split words p.inputs p.plan prepared.plan;
   from = sources-told f p.inputs contents (told-contents f ids contents p.inputs prepared.inputs.of told);
-  many = sym many;
   told = each-told f p.inputs contents (told-contents f ids contents p.inputs prepared.inputs.of told);
 }
 

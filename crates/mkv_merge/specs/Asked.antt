@@ -9,6 +9,7 @@ use Rattle.remux_plan.specs.Parts.{may_be_written}
 use Rattle.requests.specs.declared.merge.MergeWords.{MergeWords}
 use Rattle.input_files.specs.Inputs.{file_names}
 use Rattle.input_files.specs.TextFiles.{text_names}
+use Rattle.mkv_merge.specs.Opened.{opened_names}
 use Rattle.mkv_merge.specs.Read.{is_split}
 
 -- ---- opened files
@@ -18,10 +19,10 @@ use Rattle.mkv_merge.specs.Read.{is_split}
 abbrev pub sidecars_of : MergeWords → List (List ℕ)
 sidecars_of words = map sidecar_of (file_names words.files) ++ (if is_split words then [] else sidecar_of words.output ∷ [])
 
--- the names of the files that the merge `words` opens: its chapter file, timestamp files, inputs and journals. The contract of `merge_of` bounds by
+-- the names of the files that the merge `words` opens: its chapter file, timestamp files, inputs, attached files and journals. The contract of `merge_of` bounds by
 -- it what `merge` opens.
 abbrev pub opened_by : MergeWords → List (List ℕ)
-opened_by words = text_names words.chapters words.files ++ (file_names words.files ++ sidecars_of words)
+opened_by words = text_names words.chapters words.files ++ (opened_names words ++ sidecars_of words)
 
 -- ---- calls for files
 

@@ -9,6 +9,7 @@ use Rattle.sidecar_edit.specs.declared.place.TheConstants.{HEAD}
 use Rattle.input_files.specs.TextFiles.{text_octets}
 use Rattle.remux_plan.specs.declared.plan.MergePlan.{MergePlan}
 use Rattle.remuxer.specs.Plan.{data_length}
+use Rattle.requests.specs.declared.merge.AttachedWords.{AttachedWords}
 use Rattle.requests.specs.declared.merge.FileWords.{FileWords}
 use Rattle.requests.specs.declared.merge.MergeWords.{MergeWords}
 use Rattle.merge_plan.specs.Front.{attached_length, reads_of}
@@ -60,6 +61,16 @@ contents_length world files = sum_by (λ (w : FileWords). length (unwrap_or (wor
 abbrev pub contents_walked : (List ℕ → Option (List ℕ)) → List FileWords → ℕ
 contents_walked world files = walked_size files (map (λ (w : FileWords). length (unwrap_or (world w.name) [])) files)
 
+-- the sum of the lengths in bytes of the files that `attached` attaches, by their contents in `world`. A file counts as often as the command line
+-- attaches it. For the bound `most_read`.
+abbrev pub attached_octets : (List ℕ → Option (List ℕ)) → List AttachedWords → ℕ
+attached_octets world attached = sum_by (λ (w : AttachedWords). length (unwrap_or (world w.file) [])) attached
+
+-- the sum of the lengths in bytes of all files that the merge `words` keeps open: its inputs and the files that it attaches. `world` has the contents.
+-- For the bound `most_read`.
+abbrev pub opened_length : (List ℕ → Option (List ℕ)) → MergeWords → ℕ
+opened_length world words = contents_length world words.files + attached_octets world words.attached
+
 -- the number of output tracks of the merge with the given sources, or 0 if it is refused. For the bound `most_of`.
 abbrev pub lane_count : Result (List Source) Refusal → ℕ
 lane_count (Ok sources) = length (lanes_given sources)
@@ -70,9 +81,9 @@ abbrev pub data_count : Result (List Source) Refusal → ℕ
 data_count (Ok sources) = attached_length (reads_of sources)
 data_count (Err why) = 0
 
--- the number of bytes that a merge may read of inputs with `octets` bytes in all. All inputs are read 25 times before the blocks, and twice for each
--- output track. Those that another one is appended to have `walked` bytes, and are read twice to find their ends. The data of attached files is
--- added. `sources` are its sources, or its refusal. For the bound `most_read`.
+-- the number of bytes that a merge may read of inputs and attached files with `octets` bytes in all. All inputs are read 25 times before the blocks,
+-- and twice for each output track. Those that another one is appended to have `walked` bytes, and are read twice to find their ends. The data of
+-- attached files is added. `sources` are its sources, or its refusal. For the bound `most_read`.
 abbrev pub most_of : Result (List Source) Refusal → ℕ → ℕ → ℕ
 most_of sources octets walked = 25 * octets + 2 * walked + (2 * (lane_count sources * octets) + data_count sources)
 
@@ -90,4 +101,4 @@ most_looked words = HEAD * looked_into words
 abbrev pub most_read : (List ℕ → Option (List ℕ)) → MergeWords → ℕ
 most_read world words =
     text_octets world words.chapters words.files
-    + (most_of (sources_of world words) (contents_length world words.files) (contents_walked world words.files) + most_looked words)
+    + (most_of (sources_of world words) (opened_length world words) (contents_walked world words.files) + most_looked words)

@@ -1,7 +1,5 @@
 -- Reasons why a merge ends before all its outputs are complete, and the failures that have then been counted.
 use Rattle.std.specs.Prelude.{◌≡◌, ⊤, ℕ, Result, Ok, Err}
-use Rattle.input_files.specs.declared.inputs_end.InputsEnd.{InputsEnd}
-use Rattle.input_files.specs.declared.inputs_end.InputsEnd.TheVariants as inputs_end
 use Rattle.mkv_io.specs.declared.remux_end.RemuxEnd.{RemuxEnd}
 use Rattle.remux_plan.specs.declared.summary.Summary.{Summary}
 use Rattle.mkv_lines.specs.Code.{stop_of}
@@ -13,7 +11,7 @@ use Rattle.merge_plan.specs.declared.refusal.PlanEnd.{PlanEnd}
 use Rattle.merge_plan.specs.declared.refusal.PlanEnd.TheVariants as plan_end
 use Rattle.mkv_merge.specs.declared.refusal.MergeEnd.{MergeEnd}
 use Rattle.mkv_merge.specs.declared.refusal.MergeEnd.TheVariants.{Refused, Stopped}
-use Rattle.mkv_merge.specs.declared.refusal.Refusal.TheVariants.{Missing, Plan}
+use Rattle.mkv_merge.specs.declared.refusal.Refusal.TheVariants.{Plan}
 use Rattle.mkv_merge.specs.declared.refusal.Refusal.{Refusal}
 
 -- A call that only reads ended with this result, and the count of failed reads was `before` and is `now`. The count rises exactly if a failed read
@@ -34,12 +32,6 @@ IsQuiet (Stopped stop.Memory) = ⊤
 IsQuiet (Stopped stop.Files) = ⊥
 IsQuiet (Stopped stop.Disk) = ⊥
 IsQuiet (Stopped stop.Report) = ⊥
-
--- the end of a merge whose inputs can't be opened, by the reason. The conversion from `InputsEnd` states it.
-abbrev pub unopened : InputsEnd → MergeEnd
-unopened (inputs_end.Missing input) = Refused (Missing input)
-unopened inputs_end.Failed = Stopped stop.Files
-unopened inputs_end.Memory = Stopped stop.Memory
 
 -- the end of a merge that can't be planned, by the reason. The conversion from `PlanEnd` states it.
 abbrev pub unplanned : PlanEnd → MergeEnd

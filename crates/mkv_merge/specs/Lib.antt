@@ -12,3 +12,5 @@ pub mod Timed
 pub mod Records
 pub mod Stages
 pub mod Told
+pub mod Attached
+pub mod Opened

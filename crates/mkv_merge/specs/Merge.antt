@@ -24,12 +24,13 @@ use Rattle.remux_plan.specs.Parts.{PlannedOutput, drives_by, name_of, stretch_of
 use Rattle.remux_plan.specs.Parts.{chapters_of as chapters_within}
 use Rattle.remux_plan.specs.Uuids.{uuids_at, with_uuids}
 use Rattle.remuxer.specs.Output.{drafts_of}
-use Rattle.input_files.specs.Inputs.{file_names, first_missing}
+use Rattle.input_files.specs.Inputs.{attached_names, file_names, first_large, first_missing}
 use Rattle.input_files.specs.declared.text_files.TextFiles.{TextFiles}
 use Rattle.requests.specs.declared.merge.FileWords.{FileWords}
 use Rattle.requests.specs.declared.merge.MergeWords.{MergeWords}
 use Rattle.merge_inputs.specs.Input.{InputRead}
 use Rattle.merge_plan.specs.Appending.{append_refusal}
+use Rattle.merge_plan.specs.Attached.{attached_sources}
 use Rattle.merge_plan.specs.Plan.{Source, drives_given, inputs_taken, lanes_taken, limits_of, rules_given, split_given}
 use Rattle.merge_plan.specs.Front.{front_of, reads_of}
 use Rattle.merge_plan.specs.Places.{in_place}
@@ -42,50 +43,63 @@ use Rattle.mkv_lines.specs.Verdict.{Verdict, in_turn, refused}
 use Rattle.mkv_lines.specs.declared.status.Status.{Status}
 use Rattle.mkv_lines.specs.declared.status.Status.TheVariants.{Done, Warned}
 use Rattle.mkv_merge.specs.Chapters.{chapters_refusal}
-use Rattle.mkv_merge.specs.Read.{contents_held, first_written, inputs_of, is_split, pending_of, reads_with, texts_held}
+use Rattle.mkv_merge.specs.Read.{attached_held, contents_held, first_written, inputs_of, is_split, pending_of, reads_with, texts_held}
 use Rattle.mkv_merge.specs.Refused.{first_cause, line_of}
 use Rattle.mkv_merge.specs.Texts.{missing_text, times_refusal}
 use Rattle.mkv_io.specs.Results.{unless}
 use Rattle.mkv_merge.specs.declared.refusal.Refusal.{Refusal}
-use Rattle.mkv_merge.specs.declared.refusal.Refusal.TheVariants.{Differs, Missing, OutputIsInput, Plan}
+use Rattle.mkv_merge.specs.declared.refusal.Refusal.TheVariants.{AttachedTooLarge, Differs, Missing, MissingAttached, OutputIsInput, Plan}
 
 -- ---- sources
 
--- the sources of the merge `words` whose inputs have the contents `contents`: the result of reading each input, with the text files `texts` applied.
--- Each appended input has its append offset. Used by `sources_unless`.
-abbrev pub sources_in : MergeWords → TextFiles → List (List ℕ) → List Source
-sources_in words texts contents = in_place (zip contents (reads_with words texts contents))
+-- the inputs of the merge `words` as sources: the result of reading each, with the text files `texts` applied. They have the contents `contents`. Each
+-- appended input has its append offset. Used by `sources_in`.
+abbrev pub sources_placed : MergeWords → TextFiles → List (List ℕ) → List Source
+sources_placed words texts contents = in_place (zip contents (reads_with words texts contents))
+
+-- the sources of the merge `words`: its inputs, which have the contents `contents`, with the text files `texts` applied, and after them the files that
+-- it attaches, which have the contents `attached`. Used by `sources_unless`.
+abbrev pub sources_in : MergeWords → TextFiles → List (List ℕ) → List (List ℕ) → List Source
+sources_in words texts contents attached = sources_placed words texts contents ++ attached_sources words.webm words.attached attached
+
+-- the refusal of a merge because of the first of the files that it attaches that is too large, if any. `attached` has their contents. For
+-- `refusals_read`.
+abbrev pub attached_refusal : List (List ℕ) → Option Refusal
+attached_refusal attached = option_map AttachedTooLarge (first_large (map length attached))
 
 -- the refusals of the merge `words` after its files are opened, in the order of the checks. They concern an input, the chapter file, a timestamp
--- file, an appended input whose tracks can't continue the output tracks, and the plan. `contents` has the contents of the inputs. Used by
--- `sources_unless`.
-abbrev pub refusals_read : MergeWords → TextFiles → List (List ℕ) → List (Option Refusal)
-refusals_read words texts contents =
+-- file, an attached file, an appended input whose tracks can't continue the output tracks, and the plan. `contents` has the contents of the inputs,
+-- `attached` those of the attached files, and `texts` the text files. Used by `sources_unless`.
+abbrev pub refusals_read : MergeWords → TextFiles → List (List ℕ) → List (List ℕ) → List (Option Refusal)
+refusals_read words texts contents attached =
     result_err (inputs_of words contents)
     ∷ chapters_refusal texts.chapters
     ∷ times_refusal texts.times
+    ∷ attached_refusal attached
     ∷ option_map Differs (append_refusal (reads_with words texts contents))
-    ∷ option_map Plan (plan_refusal words (reads_of (sources_in words texts contents)))
+    ∷ option_map Plan (plan_refusal words (reads_of (sources_in words texts contents attached)))
     ∷ []
 
--- the sources of the merge `words` whose inputs have the contents `contents`, or its first refusal. `causes` are the refusals that are checked before
--- the inputs are read. `texts` has the text files. The contracts of `merge` and `generate` name by it what is merged.
-abbrev pub sources_unless : List (Option Refusal) → MergeWords → TextFiles → List (List ℕ) → Result (List Source) Refusal
-sources_unless causes words texts contents = unless (first_cause (causes ++ refusals_read words texts contents)) (sources_in words texts contents)
+-- the sources of the merge `words`, or its first refusal. Its inputs have the contents `contents`, and its attached files `attached`. `causes` are the
+-- refusals that are checked before the inputs are read. `texts` has the text files. The contracts of `merge` and `generate` name by it what is merged.
+abbrev pub sources_unless : List (Option Refusal) → MergeWords → TextFiles → List (List ℕ) → List (List ℕ) → Result (List Source) Refusal
+sources_unless causes words texts contents attached =
+    unless (first_cause (causes ++ refusals_read words texts contents attached)) (sources_in words texts contents attached)
 
 -- the refusals of the merge `words` before its inputs are read, in the order of the checks. The files are `world`. They are an output with the name
--- of a file that is read, a missing input, a missing text file, and a pending edit. Used by `sources_of`.
+-- of a file that is read, a missing input, text file or attached file, and a pending edit. Used by `sources_of`.
 abbrev pub refusals : (List ℕ → Option (List ℕ)) → MergeWords → List (Option Refusal)
 refusals world words =
     option_map OutputIsInput (first_written words)
     ∷ option_map Missing (first_missing world (file_names words.files))
     ∷ missing_text (texts_held world words)
+    ∷ option_map MissingAttached (first_missing world (attached_names words.attached))
     ∷ pending_of world words
     ∷ []
 
 -- the sources of the merge `words` if the files are `world`, or its first refusal. It defines what `merge` writes, prints and reads.
 abbrev pub sources_of : (List ℕ → Option (List ℕ)) → MergeWords → Result (List Source) Refusal
-sources_of world words = sources_unless (refusals world words) words (texts_held world words) (contents_held world words)
+sources_of world words = sources_unless (refusals world words) words (texts_held world words) (contents_held world words) (attached_held world words)
 
 -- ---- outputs
 

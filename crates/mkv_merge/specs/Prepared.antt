@@ -1,5 +1,5 @@
 -- Facts about a merge whose inputs were read and planned.
-use Rattle.std.specs.Prelude.{◌≡◌, ⊤, ℕ, ◌+◌, ◌*◌, Bool, List, [], length, map, Some, Result, Ok, Err}
+use Rattle.std.specs.Prelude.{◌≡◌, ⊤, ℕ, ◌+◌, ◌*◌, Bool, List, [], ◌++◌, length, map, Some, Result, Ok, Err}
 use Rattle.std.specs.List.{All, zip}
 use Rattle.mkv_io.specs.declared.outside.FileId.{FileId}
 use Rattle.mkv_io.specs.Bounds.{ReadsUpTo}
@@ -18,6 +18,7 @@ use Rattle.merge_inputs.specs.declared.input.Input.{Input}
 use Rattle.merge_plan.specs.Plan.{Source}
 use Rattle.merge_plan.specs.Planned.{CanBeWritten, IsPlanOf}
 use Rattle.merge_plan.specs.TakenTracks.{HasPlace}
+use Rattle.mkv_merge.specs.Attached.{attached_reads}
 use Rattle.mkv_merge.specs.Bound.{live_size, live_walked}
 use Rattle.mkv_merge.specs.Ends.{HasReadCause}
 use Rattle.mkv_merge.specs.Merge.{sources_unless}
@@ -36,6 +37,11 @@ AreTold f list contents = files.contents_of f.content list ≡ map Some contents
 -- the contracts of the stages of `merge`.
 abbrev pub IfAllTold : {S : Type 0} → Ghosts S → S → List FileId → (List (List ℕ) → Type 0) → Type 0
 IfAllTold r s list P = (contents : List (List ℕ)) → AreTold (live_files r s) list contents → P contents
+
+-- `P` holds for the contents of the live files `list` and of the live files `attached` in the state `s`, if all of them are visible to the proof. `r`
+-- shows them to the proof. Used by the contracts of the stages of `merge` with attached files.
+abbrev pub IfBothTold : {S : Type 0} → Ghosts S → S → List FileId → List FileId → (List (List ℕ) → List (List ℕ) → Type 0) → Type 0
+IfBothTold r s list attached P = IfAllTold r s list (λ contents. IfAllTold r s attached (P contents))
 
 -- The inputs of the merge `words` can be read and planned. The command line keeps its limits, and `list` has a live file for each input. The
 -- condition of `prepare`.
@@ -92,14 +98,24 @@ AreUnmoved files inputs = map (λ (i : Input). i.shift) inputs ≡ map unmoved f
 abbrev pub ReadsToPrepare : {S : Type 0} → Ghosts S → S → S → MergeWords → List FileId → Type 0
 ReadsToPrepare r old new words list = ReadsUpTo r old new (25 * live_size r old list + 2 * live_walked r old words.files list)
 
+-- The inputs `inputs` are those of the merge `words`, as they were read, and after them its attached files, which have the lengths `sizes`. Used by
+-- `IsPrepared`.
+pub record AreOwnAndAttached (words : MergeWords) (inputs : List Input) : Type 0 where
+  pub own : List InputRead
+  pub sizes : List ℕ
+  pub are : reads_in inputs ≡ own ++ attached_reads words.webm words.attached sizes
+  pub many : length own ≡ length words.files
+
 -- The inputs in `p` were read from the files `list` among `f`, and its plan was made from them for the merge `words`. `prepare` returns it, and
 -- `write` requires it.
 pub record IsPrepared (f : LiveFiles) (words : MergeWords) (list : List FileId) (p : Prepared) : Type 0 where
   pub inputs : AreInputsOf f list p.inputs
+  pub both : AreOwnAndAttached words p.inputs
   pub plan : IsPlanOf words p.inputs p.plan
   pub written : CanBeWritten words.order p.inputs p.plan
 
--- The result of `prepare` for inputs with the contents `contents` and the text files `texts`. Its inputs give the expected sources of the merge
--- `words`, or it has the expected refusal, or it was stopped. Its contract states it.
-abbrev pub Prepares : MergeWords → TextFiles → List (List ℕ) → Result Prepared MergeEnd → Type 0
-Prepares words texts contents result = ReadsAs (λ (p : Prepared). sources_from contents p.inputs) (sources_unless [] words texts contents) result
+-- `result` is the one of `prepare` for inputs with the contents `contents`, attached files with the contents `attached`, and the text files `texts`.
+-- Its inputs give the expected sources of the merge `words`, or it has the expected refusal, or it was stopped. Its contract states it.
+abbrev pub Prepares : MergeWords → TextFiles → List (List ℕ) → List (List ℕ) → Result Prepared MergeEnd → Type 0
+Prepares words texts contents attached result =
+    ReadsAs (λ (p : Prepared). sources_from (contents ++ attached) p.inputs) (sources_unless [] words texts contents attached) result

@@ -13,7 +13,7 @@ use Rattle.splitter.specs.Names.{is_part_name}
 use Rattle.requests.specs.declared.merge.FileWords.{FileWords}
 use Rattle.requests.specs.declared.merge.MergeWords.{MergeWords}
 use Rattle.requests.specs.Sound.{IsSoundMerge}
-use Rattle.input_files.specs.Inputs.{file_names, first_pending}
+use Rattle.input_files.specs.Inputs.{attached_names, file_names, first_pending}
 use Rattle.merge_inputs.specs.Input.{InputRead, input_of}
 use Rattle.merge_inputs.specs.declared.input.InputRefusal.{InputRefusal}
 use Rattle.mkv_merge.specs.Chapters.{chaptered, with_chapters}
@@ -24,12 +24,12 @@ use Rattle.mkv_merge.specs.declared.refusal.Refusal.TheVariants.{PendingInput, P
 
 -- ---- names
 
--- the names that no output of the merge `words` may have, in the order of the check. They are inputs, chapter file, timestamp files, and the journals
--- of inputs and timestamp files. For `first_written`.
+-- the names that no output of the merge `words` may have, in the order of the check. They are inputs, chapter file, timestamp files, attached files,
+-- and the journals of inputs and timestamp files. For `first_written`.
 abbrev pub read_names : MergeWords → List (List ℕ)
 read_names words =
     file_names words.files ++ (option_to_list words.chapters ++ (times_names (times_named words.files)
-    ++ (map sidecar_of (file_names words.files) ++ map sidecar_of (times_names (times_named words.files)))))
+    ++ (attached_names words.attached ++ (map sidecar_of (file_names words.files) ++ map sidecar_of (times_names (times_named words.files))))))
 
 -- The output of the merge `words` is split into parts. The outputs then have names made from the command line's. Used for the names and the Chapters
 -- of outputs.
@@ -60,6 +60,10 @@ pub record IsApartMerge (words : MergeWords) : Type 0 where
 -- the contents of the inputs of `words` in `world`, in the order of the command line; an absent file counts as empty. `merge` reads them.
 abbrev pub contents_held : (List ℕ → Option (List ℕ)) → MergeWords → List (List ℕ)
 contents_held world words = map (λ name. unwrap_or (world name) []) (file_names words.files)
+
+-- the contents of the files that `words` attaches in `world`, in the order of the command line; an absent file counts as empty. `merge` copies them.
+abbrev pub attached_held : (List ℕ → Option (List ℕ)) → MergeWords → List (List ℕ)
+attached_held world words = map (λ name. unwrap_or (world name) []) (attached_names words.attached)
 
 -- the contents of the chapter file and of the timestamp files of `words` in `world`. `merge` reads them.
 abbrev pub texts_held : (List ℕ → Option (List ℕ)) → MergeWords → TextFiles

@@ -19,10 +19,11 @@ use Rattle.mkv_lines.specs.Verdict.{IsStopped, Reaches}
 use Rattle.mkv_lines.specs.declared.status.Status.{Status}
 use Rattle.mkv_lines.specs.declared.status.Status.TheVariants as status
 use Rattle.mkv_lines.specs.declared.status.CommandEnd.{CommandEnd}
+use Rattle.mkv_merge.specs.Attached.{attached_ids, own_ids}
 use Rattle.mkv_merge.specs.Bound.{live_size, live_walked, most_looked, most_of, most_planned, most_read}
 use Rattle.mkv_merge.specs.Ends.{end_as}
 use Rattle.mkv_merge.specs.Merge.{merged_verdict, sources_of, sources_unless, verdict_of}
-use Rattle.mkv_merge.specs.Prepared.{IfAllTold, sources_from}
+use Rattle.mkv_merge.specs.Prepared.{IfAllTold, IfBothTold, sources_from}
 use Rattle.mkv_merge.specs.Read.{pending_of}
 use Rattle.mkv_merge.specs.Records.{AreShort, EndsReadable}
 use Rattle.mkv_merge.specs.Texts.{missing_text}
@@ -83,9 +84,11 @@ pub record MergesTo {F P : Type 0} (r : Ghosts F) (f : writing.Ghosts F) (p : Re
 -- The merge `words` of the live files `list` with the text files `texts` ended as the definitions expect, or was stopped on the way. Its outputs can
 -- be read again, and it reads no more bytes than `most_of` and `most_looked` give. The contract of `merge_opened` states it.
 abbrev pub MergesThere : {F P : Type 0} → Ghosts F → writing.Ghosts F → ReportGhosts P → F → F → P → P → MergeWords → TextFiles → List FileId → Result Status MergeEnd → Type 0
-MergesThere r f p files files' report report' words texts list result = IfVisible (f.names files) (λ world. IfAllTold r files list (λ contents.
-    let found = sources_unless (refusals_begun world words texts) words texts contents in
-    MergesTo r f p files files' report report' words found (most_of found (live_size r files list) (live_walked r files words.files list) + most_looked words) result))
+MergesThere r f p files files' report report' words texts list result = IfVisible (f.names files) (λ world.
+    IfBothTold r files (own_ids words list) (attached_ids words list) (λ contents attached.
+    let found = sources_unless (refusals_begun world words texts) words texts contents attached in
+    let most = most_of found (live_size r files list) (live_walked r files words.files (own_ids words list)) + most_looked words in
+    MergesTo r f p files files' report report' words found most result))
 
 -- The merge of the files that `words` names ended with its result or its refusal, or was stopped on the way. Its outputs can be read again, and it
 -- reads no more bytes than `most_read` gives. The contract of `merge_named` states it.

@@ -6,6 +6,7 @@ mod chapters;
 mod joining;
 mod merging;
 mod names;
+mod opening;
 mod pending;
 mod preparing;
 mod refusal;

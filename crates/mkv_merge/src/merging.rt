@@ -3,31 +3,33 @@
 ghost use Rattle.mkv_io.specs.Told.{IfVisible};
 ghost use Rattle.input_files.specs.ChapterFile.{CanBeWritten};
 ghost use Rattle.requests.specs.Sound.{IsSoundMerge};
-ghost use Rattle.input_files.specs.Inputs.{AreInputs, file_names};
+ghost use Rattle.input_files.specs.Inputs.{AreInputs};
 ghost use Rattle.mkv_lines.specs.Command.{HasEnded};
 ghost use Rattle.mkv_io.specs.Bounds.{ReadsUpTo};
 ghost use Rattle.mkv_merge.specs.Asked.{AsksToMerge, opened_by, sidecars_of};
 ghost use Rattle.mkv_merge.specs.Bound.{most_read};
 ghost use Rattle.mkv_merge.specs.Merge.{ComesToMerge, sources_of};
+ghost use Rattle.mkv_merge.specs.Opened.{opened_names};
 ghost use Rattle.mkv_merge.specs.Read.{IsApartMerge};
 ghost use Rattle.mkv_merge.specs.Records.{EndsReadable};
 ghost use Rattle.mkv_merge.specs.Stages.{MergesNamed, MergesThere, as_command};
 
 use crate::names::first_written;
+use crate::opening::open_files;
 use crate::pending::begun_refusal;
 use crate::preparing::prepare;
 use crate::refusal::{MergeEnd, Refusal, written};
 use crate::telling::refuse;
 use crate::writing::write;
-use input_files::{TextFiles, close_all, open_all, read_text_files};
+use input_files::{TextFiles, close_all, read_text_files};
 use mkv_io::{FileId, Files, Report};
 use mkv_lines::{CommandEnd, Status};
 use requests::MergeWords;
 use std::alloc::Global;
 
-/// Merges the open files `ids`, the inputs of `words`, with the chapter file and timestamp files that `texts` has.
-/// Refuses the merge for a missing text file, for a pending edit of an input or of an unsplit output, or as `prepare`
-/// does. Prints messages to `report`. For `merge_named`.
+/// Merges the open files `ids`: the inputs of `words`, and after them the files that it attaches. `texts` has the chapter
+/// file and the timestamp files. Refuses the merge for a missing text file, for a pending edit of an input or of an
+/// unsplit output, or as `prepare` does. Prints messages to `report`. For `merge_named`.
 fn merge_opened<F: Files, P: Report>(
     alloc: Global,
     words: &MergeWords,
@@ -37,7 +39,7 @@ fn merge_opened<F: Files, P: Report>(
     report: &mut P,
 ) -> Result<Status, MergeEnd>
     requires words { IsApartMerge words.now }
-    requires inputs { AreInputs F.Reads F.Files.own (file_names words.now.files) files.old ids.now }
+    requires inputs { AreInputs F.Reads F.Files.own (opened_names words.now) files.old ids.now }
     requires chapters { CanBeWritten texts.chapters }
     ensures merges { MergesThere F.Reads F.Files.own P.Report files.old files.new report.old report.new words.now texts ids.now result }
     ensures ended { HasEnded F.Reads F.Files.own P.Report files.old files.new report.old report.new (as_command result) }
@@ -46,12 +48,14 @@ fn merge_opened<F: Files, P: Report>(
     if let Some(why) = begun_refusal(alloc, words, &texts, files)? {
         return Err(MergeEnd::Refused(why));
     }
-    let prepared = prepare(alloc, words, texts, files, ids)?;
+    let (own, attached) = ids.split_at(words.files.len());
+    let prepared = prepare(alloc, words, texts, files, own, attached)?;
     written(write(alloc, words, prepared, ids, files, report))
 }
 
-/// Reads the text files and opens the inputs that `words` names, merges them, and closes the inputs again. Refuses the
-/// merge first if an output could have the name of a file that is read. Doesn't print the refusal. For `merge_of`.
+/// Reads the text files and opens the inputs and attached files that `words` names, merges them, and closes them again.
+/// Refuses the merge first if an output could have the name of a file that is read. Doesn't print the refusal. For
+/// `merge_of`.
 fn merge_named<F: Files, P: Report>(
     alloc: Global,
     words: &MergeWords,
@@ -67,7 +71,7 @@ fn merge_named<F: Files, P: Report>(
         return Err(MergeEnd::Refused(Refusal::OutputIsInput { name }));
     }
     let texts = read_text_files(alloc, &words.chapters, words.files.as_slice(), files)?;
-    let ids = open_all(alloc, words.files.as_slice(), files)?;
+    let ids = open_files(alloc, words, &texts, files)?;
     let ended = merge_opened(alloc, words, texts, ids.as_slice(), files, report);
     close_all(files, ids.as_slice());
     ended

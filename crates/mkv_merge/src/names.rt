@@ -7,23 +7,13 @@ ghost use Rattle.input_files.specs.Inputs.{file_names};
 ghost use Rattle.input_files.specs.TimesFile.{times_names};
 ghost use Rattle.mkv_merge.specs.Read.{first_written, is_output, is_part, read_names};
 
+use crate::opening::{add_attached, add_names};
 use input_files::{TimesName, times_named};
 use mkv_io::{List, Text};
 use requests::{FileWords, MergeWords};
 use sidecar_edit::sidecar_name;
 use splitter::is_part_name;
 use std::alloc::{AllocError, Global};
-
-/// Appends the names of the inputs `files` to `names`, for the list of names that no output may have. A step of
-/// `read_names`.
-fn add_names(files: &[FileWords], names: &mut List<Text>) -> Result<(), AllocError>
-    ensures { OnOk result (names.new ≡ names.old ++ file_names files.now) }
-{
-    for file in files {
-        names.push(file.name.clone()?)?;
-    }
-    Ok(())
-}
 
 /// Appends the name of the chapter file to `names`, if the command line gives one, for the list of names that no output
 /// may have. A step of `read_names`.
@@ -77,8 +67,8 @@ fn add_times_sidecars(
     Ok(())
 }
 
-/// Returns the names that no output of the merge `words` may have. They are the names of inputs, chapter file and
-/// timestamp files, then the journals of inputs and of timestamp files. For `first_written`.
+/// Returns the names that no output of the merge `words` may have. They are the names of inputs, chapter file, timestamp
+/// files and attached files, then the journals of inputs and of timestamp files. For `first_written`.
 fn read_names(alloc: Global, words: &MergeWords) -> Result<List<Text>, AllocError>
     ensures { IfOk result (λ names. names ≡ read_names words.now) }
 {
@@ -88,6 +78,7 @@ fn read_names(alloc: Global, words: &MergeWords) -> Result<List<Text>, AllocErro
     add_names(files, &mut names)?;
     add_chapters(&words.chapters, &mut names)?;
     add_times(times.as_slice(), &mut names)?;
+    add_attached(words.attached.as_slice(), &mut names)?;
     add_sidecars(alloc, files, &mut names)?;
     add_times_sidecars(alloc, times.as_slice(), &mut names)?;
     Ok(names)

@@ -3,10 +3,10 @@
 ghost use Rattle.std.specs.Prelude.{◌≡◌};
 ghost use Rattle.mkv_lines.specs.Code.{read_stop};
 ghost use Rattle.mkv_lines.specs.declared.status.CommandEnd.TheVariants as stop;
-ghost use Rattle.mkv_merge.specs.Ends.{as_remuxed, as_written, unopened, unplanned};
+ghost use Rattle.mkv_merge.specs.Ends.{as_remuxed, as_written, unplanned};
 ghost use Rattle.mkv_merge.specs.declared.refusal.MergeEnd.TheVariants as merge_end;
 
-use input_files::{InputsEnd, TextRefusal};
+use input_files::TextRefusal;
 use merge_inputs::InputRefusal;
 use merge_plan::{AppendDiffers, PlanEnd, PlanRefusal};
 use mkv_io::{ReadEnd, RemuxEnd, Text};
@@ -18,7 +18,7 @@ use std::alloc::AllocError;
 #[derive(Debug, Drop)]
 pub enum Refusal {
     /// An output has or could have `name`, which is the name of a file that is read. That file is an input, the
-    /// chapter file, a timestamp file, or the journal of an input or a timestamp file.
+    /// chapter file, a timestamp file, an attached file, or the journal of an input or a timestamp file.
     OutputIsInput { name: Text },
     /// The input doesn't exist.
     Missing { input: usize },
@@ -26,6 +26,8 @@ pub enum Refusal {
     MissingChapters,
     /// The timestamp file `name` doesn't exist.
     MissingTimes { name: Text },
+    /// The file that is attached with the number `attached`, counted from 0, doesn't exist.
+    MissingAttached { attached: usize },
     /// An edit of the input is pending.
     PendingInput { input: usize },
     /// An edit of the file with the output's name is pending.
@@ -36,6 +38,8 @@ pub enum Refusal {
     Chapters(TextRefusal),
     /// The timestamp file `name` is refused.
     Times { name: Text, why: TextRefusal },
+    /// The file that is attached with the number `attached`, counted from 0, is too large.
+    AttachedTooLarge { attached: usize },
     /// The tracks of an appended input can't continue the output tracks of the input to which it is appended.
     Differs(AppendDiffers),
     /// The inputs make no output.
@@ -87,20 +91,6 @@ impl From<ReadEnd> for MergeEnd {
     // Converts the failure `why` of a read to the end of a merge, for `?` in the steps of `merge`.
     fn from(why: ReadEnd) -> MergeEnd {
         MergeEnd::Stopped(CommandEnd::from(why))
-    }
-}
-
-impl From<InputsEnd> for MergeEnd {
-    ghost from_gives = { λ why end. end ≡ unopened why };
-
-    // Converts the failure `why` to open inputs to the end of a merge, for `?` after `open_all`. A missing input is a
-    // refusal.
-    fn from(why: InputsEnd) -> MergeEnd {
-        match why {
-            InputsEnd::Missing { input } => MergeEnd::Refused(Refusal::Missing { input }),
-            InputsEnd::Failed => MergeEnd::Stopped(CommandEnd::Files),
-            InputsEnd::Memory => MergeEnd::Stopped(CommandEnd::Memory),
-        }
     }
 }
 

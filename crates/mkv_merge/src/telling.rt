@@ -1,6 +1,6 @@
 //! Messages of a merge.
 
-ghost use Rattle.std.specs.Prelude.{◌≡◌, ◌||◌, length, IfOk};
+ghost use Rattle.std.specs.Prelude.{◌≡◌, ◌≤◌, ◌||◌, length, IfOk};
 ghost use Rattle.mkv_lines.specs.Line.{text_of};
 ghost use Rattle.mkv_lines.specs.Ordinary.{IsOrdinary};
 ghost use Rattle.mkv_lines.specs.Said.{HasSayCause, Says};
@@ -8,7 +8,7 @@ ghost use Rattle.mkv_lines.specs.Verdict.{SaysVerdict, refused};
 ghost use Rattle.mkv_io.specs.Lists.{is_some_of};
 ghost use Rattle.mkv_merge.specs.Merge.{absent_in, absent_of, has_absent, has_other_count, is_absent_in, lines_absent_in, lines_absent_of, lines_before, uuid_lines};
 ghost use Rattle.mkv_merge.specs.Prepared.{reads_in};
-ghost use Rattle.mkv_merge.specs.Refused.{chapters_name, input_line, line_of, name_of, plan_line, text_line};
+ghost use Rattle.mkv_merge.specs.Refused.{attached_name, chapters_name, input_line, line_of, name_of, plan_line, text_line};
 ghost use Rattle.mkv_merge.specs.Told.{damage_warnings, more_warnings, warnings_from};
 
 use crate::refusal::Refusal;
@@ -28,6 +28,17 @@ fn name_of(words: &MergeWords, input: usize) -> &str
 {
     match words.files.get(input) {
         Some(file) => file.name.as_str(),
+        None => "",
+    }
+}
+
+/// Returns the name of the attached file number `attached` of the command line `words`, counted from 0, or an empty text
+/// if there is none. For the message of a refusal.
+fn attached_name(words: &MergeWords, attached: usize) -> &str
+    ensures { result.now ≡ attached_name words.now attached }
+{
+    match words.attached.get(attached) {
+        Some(each) => each.file.as_str(),
         None => "",
     }
 }
@@ -101,6 +112,9 @@ fn line_of<'a>(words: &'a MergeWords, why: &'a Refusal) -> Line<'a>
         Refusal::MissingTimes { name } => Line::Missing {
             name: name.as_str(),
         },
+        Refusal::MissingAttached { attached } => Line::Missing {
+            name: attached_name(words, *attached),
+        },
         Refusal::PendingInput { input } => Line::PendingEdit {
             name: name_of(words, *input),
         },
@@ -108,6 +122,9 @@ fn line_of<'a>(words: &'a MergeWords, why: &'a Refusal) -> Line<'a>
         Refusal::Input { input, why } => input_line(name_of(words, *input), why),
         Refusal::Chapters(why) => text_line(chapters_name(words), why),
         Refusal::Times { name, why } => text_line(name.as_str(), why),
+        Refusal::AttachedTooLarge { attached } => Line::FileTooLarge {
+            name: attached_name(words, *attached),
+        },
         Refusal::Differs(differs) => Line::AppendDiffers {
             name: name_of(words, differs.input),
             id: differs.id,
@@ -188,14 +205,14 @@ fn say_absent_in<P: Report>(
 }
 
 /// Warns of the tracks that options name and that inputs don't have, in the order of `words`. `inputs` are the inputs
-/// as they were read. `merge` calls it before it writes an output.
+/// as they were read; attached files may follow them. `merge` calls it before it writes an output.
 pub fn say_absent<P: Report>(
     alloc: Global,
     words: &MergeWords,
     inputs: &[Input],
     report: &mut P,
 ) -> Result<(), CommandEnd>
-    requires { length inputs.now ≡ length words.now.files }
+    requires { length words.now.files ≤ length inputs.now }
     ensures said { Says (P.lines report.old) (P.lines report.new) (lines_before words.now (reads_in inputs.now)) result }
     ensures cause { HasSayCause (P.faults report.old) (P.faults report.new) result }
 {
@@ -242,9 +259,10 @@ fn lacks_track(order: &[(u64, u64)], input: usize, file: &FileWords, count: usiz
 }
 
 /// Checks whether an option of `words` names a track number, counted from 0, that its input doesn't have. `inputs` are
-/// the inputs as they were read. Such a merge ends with the status of warnings. For `write`.
+/// the inputs as they were read; attached files may follow them. Such a merge ends with the status of warnings. For
+/// `write`.
 pub fn has_absent(words: &MergeWords, inputs: &[Input]) -> bool
-    requires { length inputs.now ≡ length words.now.files }
+    requires { length words.now.files ≤ length inputs.now }
     ensures { result ≡ has_absent words.now (reads_in inputs.now) }
 {
     let order = words.order.as_slice();

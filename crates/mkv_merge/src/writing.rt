@@ -2,11 +2,12 @@
 
 ghost use Rattle.std.specs.Prelude.{◌≡◌, [], IfOk};
 ghost use Rattle.mkv_io.specs.Sources.{live_files};
-ghost use Rattle.input_files.specs.Inputs.{AreInputs, file_names};
+ghost use Rattle.input_files.specs.Inputs.{AreInputs};
 ghost use Rattle.mkv_lines.specs.Command.{HasEnded};
 ghost use Rattle.mkv_lines.specs.Ordinary.{IsOrdinary};
 ghost use Rattle.mkv_lines.specs.Said.{HasSayCause, Says};
 ghost use Rattle.mkv_merge.specs.Asked.{AsksToMerge};
+ghost use Rattle.mkv_merge.specs.Opened.{opened_names};
 ghost use Rattle.mkv_merge.specs.Prepared.{IsPrepared};
 ghost use Rattle.mkv_merge.specs.Read.{IsApartMerge};
 ghost use Rattle.mkv_merge.specs.Stages.{EndsShort, ReachesPlanned, ReadsPlanned};
@@ -80,7 +81,8 @@ fn tell<P: Report>(
 }
 
 /// Warns of absent tracks, writes the outputs that `prepared` plans, and prints the messages about them. `ids` are the
-/// open inputs of `words`. `merge` calls it after `prepare`; an error stops it with some outputs written.
+/// open inputs of `words`, and then its open attached files. `merge` calls it after `prepare`; an error stops it with
+/// some outputs written.
 pub fn write<F: Files, P: Report>(
     alloc: Global,
     words: &MergeWords,
@@ -90,7 +92,7 @@ pub fn write<F: Files, P: Report>(
     report: &mut P,
 ) -> Result<Status, CommandEnd>
     requires words { IsApartMerge words.now }
-    requires inputs { AreInputs F.Reads F.Files.own (file_names words.now.files) files.old ids.now }
+    requires inputs { AreInputs F.Reads F.Files.own (opened_names words.now) files.old ids.now }
     requires prepared { IsPrepared (live_files F.Reads files.old) words.now ids.now prepared }
     ensures verdict { ReachesPlanned F.Reads F.Files.own P.Report files.old files.new report.old report.new words.now ids.now prepared.inputs result }
     ensures ended { HasEnded F.Reads F.Files.own P.Report files.old files.new report.old report.new result }
