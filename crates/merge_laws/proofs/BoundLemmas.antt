@@ -1,8 +1,9 @@
 -- The bytes that a merge may read, by the lengths of its files.
-use Rattle.std.proofs.Common.{◌≡◌, ◌≤◌, ℕ, suc, ◌+◌, ◌*◌, Bool, true, false, not, if◌then◌else◌, List, [], ◌∷◌, length, map, Option, Some, None, is_none, Result, Ok, Err, refl, sym, ap, subst, ◌∙◌, arith, unwrap_or}
+use Rattle.std.proofs.Common.{◌≡◌, ◌≤◌, ℕ, suc, ◌+◌, ◌*◌, Bool, true, false, not, if◌then◌else◌, List, [], ◌∷◌, ◌++◌, length, map, Option, Some, None, is_none, Result, Ok, Err, refl, sym, ap, subst, ◌∙◌, arith, unwrap_or}
 use Rattle.std.specs.List.{All, sum, sum_by, zip}
 use Rattle.std.proofs.lemmas.List.Elements.{All-head, All-tail}
-use Rattle.std.proofs.lemmas.List.Sums.{sum-map, sum_by-cons}
+use Rattle.std.proofs.lemmas.List.{map-append}
+use Rattle.std.proofs.lemmas.List.Sums.{sum-map, sum_by-append, sum_by-cons}
 use Rattle.std.proofs.Math.Nat.{add-mul, mul_assoc}
 use Rattle.mkv_io.specs.Faults.{counted}
 use Rattle.mkv_io.specs.Results.{and_then}
@@ -19,19 +20,22 @@ use Rattle.input_files.specs.TextFiles.{text_octets}
 use Rattle.input_files.specs.declared.chapter_file.ChapterFile.{ChapterFile}
 use Rattle.input_files.specs.declared.chapter_file.ChapterFile.TheVariants as file
 use Rattle.input_files.specs.declared.times_file.TimesFile.{TimesFile}
+use Rattle.input_files.specs.Inputs.{attached_names}
+use Rattle.requests.specs.declared.merge.AttachedWords.{AttachedWords}
 use Rattle.requests.specs.declared.merge.FileWords.{FileWords}
 use Rattle.requests.specs.declared.merge.MergeWords.{MergeWords}
 use Rattle.requests.specs.Sound.{IsSoundMerge}
 use Rattle.merge_inputs.specs.Input.{InputRead, file_read, input_of, input_with, refusal_of, text_read, text_with}
 use Rattle.merge_inputs.specs.Select.{keeps_attachments, kept_list, kept_one}
 use Rattle.merge_inputs.specs.Taken.{taken_from}
+use Rattle.merge_plan.specs.Attached.{attached_read, attached_sources, whole_file}
 use Rattle.merge_plan.specs.Front.{attached_length, reads_of}
-use Rattle.merge_plan.specs.Places.{begun_at, end_of, in_place_from}
+use Rattle.merge_plan.specs.Places.{begun_at, end_of, in_place, in_place_from}
 use Rattle.merge_plan.specs.Plan.{Source}
-use Rattle.mkv_merge.specs.Bound.{contents_length, contents_walked, data_count, lane_count, looked_into, most_looked, walked_before}
+use Rattle.mkv_merge.specs.Bound.{attached_octets, contents_length, contents_walked, data_count, lane_count, looked_into, most_looked, opened_length, walked_before}
 use Rattle.mkv_merge.specs.Chapters.{chaptered, first_with, with_chapters}
 use Rattle.mkv_merge.specs.Merge.{sources_of}
-use Rattle.mkv_merge.specs.Read.{contents_held, inputs_from, numbered}
+use Rattle.mkv_merge.specs.Read.{attached_held, contents_held, inputs_from, numbered}
 use Rattle.mkv_merge.specs.Texts.{listings_at, timed_from, with_listings}
 use Rattle.mkv_merge.specs.declared.refusal.Refusal.{Refusal}
 use Rattle.merge_laws.specs.Bound.{OnlyAppendingWalks, ReadsAreBounded}
@@ -149,8 +153,27 @@ held-length world (w ∷ ws) =
     ∙ ap (λ n. length (unwrap_or (world w.name) []) + n) (held-length world ws)
     ∙ sym (sum_by-cons (λ (v : FileWords). length (unwrap_or (world v.name) [])) w ws)
 
--- The data of all attached files are within the contents of the inputs.
-data-within : (world : List ℕ → Option (List ℕ)) (words : MergeWords) (sources : List Source) → sources_of world words ≡ Ok sources → attached_length (reads_of sources) ≤ contents_length world words.files
+-- A file that a merge attaches has at most its own bytes as data; for a WebM output it has none.
+whole-most : (words : AttachedWords) (webm : Bool) (len : ℕ) → data_sum (whole_file words webm len) ≤ len
+whole-most words true len = omega arith
+whole-most words false len = omega arith
+
+attached-most : (world : List ℕ → Option (List ℕ)) (webm : Bool) (attached : List AttachedWords)
+    → attached_length (reads_of (attached_sources webm attached (map (λ (name : List ℕ). unwrap_or (world name) []) (attached_names attached)))) ≤ attached_octets world attached
+attached-most world webm [] = omega arith
+attached-most world webm (w ∷ ws) =
+    let size : AttachedWords → ℕ = λ (v : AttachedWords). length (unwrap_or (world v.file) []) in
+    let one = whole-most w webm (size w) in
+    let rest = attached-most world webm ws in
+    rw (sum_by-cons input_sum (attached_read w webm (size w)) (reads_of (attached_sources webm ws (map (λ (name : List ℕ). unwrap_or (world name) []) (attached_names ws)))))
+    (rw (sum_by-cons size w ws) (omega arith))
+
+both-length : (own attached : List Source) → attached_length (reads_of (own ++ attached)) ≡ attached_length (reads_of own) + attached_length (reads_of attached)
+both-length own attached =
+    ap attached_length (map-append (λ (s : Source). s.1) own attached) ∙ sum_by-append input_sum (reads_of own) (reads_of attached)
+
+-- The data of all attached files are within the contents of the inputs and of the files that the merge attaches.
+data-within : (world : List ℕ → Option (List ℕ)) (words : MergeWords) (sources : List Source) → sources_of world words ≡ Ok sources → attached_length (reads_of sources) ≤ opened_length world words
 data-within world words sources is =
     let were = were-read world words sources is in
     let found : List InputRead = were.found in
@@ -162,13 +185,16 @@ data-within world words sources is =
     let paired = paired-most contents timed in
     let same = timed-same were.given.times 0 headed ∙ chaptered-same words.webm were.given.chapters found in
     let total = held-length world words.files in
-    subst (λ (ss : List Source). attached_length (reads_of ss) ≤ contents_length world words.files) were.placed (omega arith)
+    let attached : List Source = attached_sources words.webm words.attached (attached_held world words) in
+    let most = attached-most world words.webm words.attached in
+    subst (λ (ss : List Source). attached_length (reads_of ss) ≤ opened_length world words) were.placed
+    (rw (both-length (in_place (zip contents timed)) attached) (omega arith))
 
 -- A refused merge has no data to read.
-count-within : (world : List ℕ → Option (List ℕ)) (words : MergeWords) → data_count (sources_of world words) ≤ contents_length world words.files
+count-within : (world : List ℕ → Option (List ℕ)) (words : MergeWords) → data_count (sources_of world words) ≤ opened_length world words
 count-within world words = of (sources_of world words) refl
   where
-    of : (found : Result (List Source) Refusal) → sources_of world words ≡ found → data_count found ≤ contents_length world words.files
+    of : (found : Result (List Source) Refusal) → sources_of world words ≡ found → data_count found ≤ opened_length world words
     of (Ok sources) is = data-within world words sources is
     of (Err why) is = omega arith
 
@@ -220,8 +246,8 @@ walked-none (w ∷ ws) (size ∷ sizes) none =
 
 pub reads-bounded : ReadsAreBounded
 reads-bounded world words sound =
-    of (text_octets world words.chapters words.files) (lane_count (sources_of world words)) (contents_length world words.files) (contents_walked world words.files) (data_count (sources_of world words)) (most_looked words)
-    (contents-within world words.files) (count-within world words) (looked-most words sound)
+    of (text_octets world words.chapters words.files) (lane_count (sources_of world words)) (opened_length world words) (contents_walked world words.files) (data_count (sources_of world words)) (most_looked words)
+    (omega (arith, contents-within world words.files)) (count-within world words) (looked-most words sound)
   where
     of : (texts tracks octets walked attached looked : ℕ) → walked ≤ octets → attached ≤ octets → looked ≤ 1048576
         → texts + ((25 * octets + 2 * walked + (2 * (tracks * octets) + attached)) + looked) ≤ 16 * (tracks + 3) * octets + 1048576 + texts
@@ -229,7 +255,7 @@ reads-bounded world words sound =
 
 pub appending-walks : OnlyAppendingWalks
 appending-walks world words none =
-    of (text_octets world words.chapters words.files) (lane_count (sources_of world words)) (contents_length world words.files) (contents_walked world words.files) (data_count (sources_of world words)) (most_looked words)
+    of (text_octets world words.chapters words.files) (lane_count (sources_of world words)) (opened_length world words) (contents_walked world words.files) (data_count (sources_of world words)) (most_looked words)
     (walked-none words.files (0 ∷ map (λ (w : FileWords). length (unwrap_or (world w.name) [])) words.files) none)
   where
     of : (texts tracks octets walked attached looked : ℕ) → walked ≡ 0

@@ -59,7 +59,10 @@ use Rattle.merge_model.specs.declared.limits.TheConstants.{MAX_SHIFT}
 use Rattle.requests.specs.declared.merge.FileWords.{FileWords}
 use Rattle.requests.specs.declared.merge.MergeWords.{MergeWords}
 use Rattle.requests.specs.Sound.{IsSoundFile, IsSoundMerge}
-use Rattle.input_files.specs.Inputs.{file_names}
+use Rattle.input_files.specs.Inputs.{attached_names, file_names}
+use Rattle.text_formats.specs.Reading.{IsEntryWithin}
+use Rattle.input_files.specs.declared.limits.TheConstants.{MAX_SRT_LEN}
+use Rattle.requests.specs.declared.merge.AttachedWords.{AttachedWords}
 use Rattle.merge_inputs.specs.Input.{InputRead, file_read, found_then, input_of, input_with, refusal_of, text_read, text_then, text_with, input_or_refusal}
 use Rattle.merge_inputs.specs.Select.{is_taken, kept_one, takes, unmoved}
 use Rattle.merge_inputs.specs.Taken.{first_unusable, taken_from, taken_one, taken_track, value_for}
@@ -69,6 +72,7 @@ use Rattle.mkv_schema.specs.declared.track_type.TheConstants.{AUDIO_TRACK, SUBTI
 use Rattle.merge_inputs.specs.declared.input.InputRefusal.{InputRefusal}
 use Rattle.merge_inputs.specs.declared.input.InputRefusal.TheVariants.{Damaged}
 use Rattle.merge_inputs.proofs.TakenLemmas.{AreTaken-read, taken-tracks}
+use Rattle.merge_plan.specs.Attached.{attached_source, attached_sources}
 use Rattle.merge_plan.specs.Front.{reads_of}
 use Rattle.merge_plan.specs.Places.{in_place}
 use Rattle.merge_plan.specs.Plan.{Source}
@@ -77,7 +81,7 @@ use Rattle.merge_plan.specs.declared.refusal.PlanRefusal.{PlanRefusal}
 use Rattle.mkv_merge.specs.Merge.{refusals, refusals_read, sources_in, sources_of}
 use Rattle.mkv_merge.specs.Chapters.{chaptered, first_with, with_chapters}
 use Rattle.mkv_merge.specs.Texts.{listings_at, timed_from, with_listings}
-use Rattle.mkv_merge.specs.Read.{contents_held, found_in, inputs_from, inputs_of, numbered, texts_held}
+use Rattle.mkv_merge.specs.Read.{attached_held, contents_held, found_in, inputs_from, inputs_of, numbered, texts_held}
 use Rattle.mkv_merge.specs.Refused.{first_cause}
 use Rattle.mkv_merge.specs.declared.refusal.Refusal.{Refusal}
 use Rattle.mkv_merge.specs.declared.refusal.Refusal.TheVariants.{Plan}
@@ -438,29 +442,48 @@ all-found (Ok reads) is = refl
 all-found (Err why) is = absurd (cc)
 
 -- The sources of a merge were read: each from the content of its file. Then they got the Chapters and timestamps of text files, and their append
--- offsets.
+-- offsets. The files that the merge attaches come after them.
 pub record WereRead (world : List ℕ → Option (List ℕ)) (words : MergeWords) (sources : List Source) : Type 0 where
   pub given : TextFiles
   pub found : List InputRead
   pub read : inputs_of words (contents_held world words) ≡ Ok found
-  pub placed : in_place (zip (contents_held world words) (timed_from given.times 0 (chaptered with_chapters words.webm given.chapters found))) ≡ sources
+  pub placed : in_place (zip (contents_held world words) (timed_from given.times 0 (chaptered with_chapters words.webm given.chapters found)))
+      ++ attached_sources words.webm words.attached (attached_held world words) ≡ sources
   pub unrefused : plan_refusal words (reads_of sources) ≡ None
 
 -- The sources of a merge were read in this way.
 pub were-read : (world : List ℕ → Option (List ℕ)) (words : MergeWords) (sources : List Source) → sources_of world words ≡ Ok sources → WereRead world words sources
 were-read world words sources is =
     let contents = contents_held world words in
-    let all = sources_in words (texts_held world words) contents in
-    let causes = refusals world words ++ refusals_read words (texts_held world words) contents in
+    let attached = attached_held world words in
+    let all = sources_in words (texts_held world words) contents attached in
+    let causes = refusals world words ++ refusals_read words (texts_held world words) contents attached in
     let good = no-refusal (first_cause causes) all sources is in
-    let read = (none-stands causes good.0).1.1.1.1 in
+    let read = (none-stands causes good.0).1.1.1.1.1 in
     record {
       given = texts_held world words;
       found = found_in (inputs_of words contents);
       read = all-found (inputs_of words contents) read.0;
       placed = good.1;
-      unrefused = ap (λ (each : List Source). plan_refusal words (reads_of each)) (sym good.1) ∙ unplanned (plan_refusal words (reads_of all)) read.1.1.1.1.0;
+      unrefused = ap (λ (each : List Source). plan_refusal words (reads_of each)) (sym good.1) ∙ unplanned (plan_refusal words (reads_of all)) read.1.1.1.1.1.0;
     }
+
+-- A file that the merge attaches can be written.
+attached-source : (webm : Bool) (words : AttachedWords) (bytes : List ℕ) → AreOctets bytes → IsReadSource (attached_source webm (words, bytes))
+attached-source webm words bytes octets = record {
+  octets = octets;
+  entries = All-nil (IsEntryWithin MAX_SRT_LEN);
+  title = IsUtf8-nil;
+  whole = refl;
+  tracks = All-nil IsReadTrack;
+  place = omega arith;
+}
+
+attached-read : (webm : Bool) (attached : List AttachedWords) (contents : List (List ℕ)) → All AreOctets contents → All IsReadSource (attached_sources webm attached contents)
+attached-read webm [] contents octets = All-nil IsReadSource
+attached-read webm (w ∷ ws) [] octets = All-nil IsReadSource
+attached-read webm (w ∷ ws) (c ∷ cs) octets =
+    All-cons IsReadSource (attached_source webm (w, c)) (attached_sources webm ws cs) (attached-source webm w c (All-head AreOctets c cs octets)) (attached-read webm ws cs (All-tail AreOctets c cs octets))
 
 -- The sources of a merge can be written.
 pub sources-read : (words : MergeWords) (sources : List Source) → IsSoundMerge words → AreTexts words → (world : List ℕ → Option (List ℕ)) → HoldsOctets world → sources_of world words ≡ Ok sources → AreSources words sources
@@ -474,7 +497,9 @@ sources-read words sources sound texts world holds is =
     let timed = timed-read given.times 0 contents headed (chaptered-read words.webm given.chapters contents found own) in
     record {
       each = subst (All IsReadSource) were.placed
-          (placed-read (zip contents (timed_from given.times 0 headed)) (omega (arith, length-zip contents (timed_from given.times 0 headed), many, sound.files.most)) timed);
+          (All-append IsReadSource (in_place (zip contents (timed_from given.times 0 headed))) (attached_sources words.webm words.attached (attached_held world words))
+          (placed-read (zip contents (timed_from given.times 0 headed)) (omega (arith, length-zip contents (timed_from given.times 0 headed), many, sound.files.most)) timed)
+          (attached-read words.webm words.attached (attached_held world words) (contents-octets world (attached_names words.attached) holds)));
       unrefused = were.unrefused;
     }
   where

@@ -1,7 +1,7 @@
 -- The sources of a merge are plain.
 use Rattle.std.proofs.Common.{◌≡◌, ℕ, suc, Bool, true, false, not, ◌&&◌, ◌||◌, ◌==◌, if◌then◌else◌, List, [], ◌∷◌, map, All, Option, Some, None, Ok, refl, ap, subst}
 use Rattle.std.specs.List.{list_all, list_any, zip}
-use Rattle.std.proofs.lemmas.List.Elements.{All-cons, All-head, All-map, All-nil, All-tail, All-weaker}
+use Rattle.std.proofs.lemmas.List.Elements.{All-append, All-cons, All-head, All-map, All-nil, All-tail, All-weaker}
 use Rattle.std.proofs.lemmas.Option.{IfSome_then}
 use Rattle.mkv_io.specs.Faults.{counted}
 use Rattle.tree_format.specs.Node.{Node}
@@ -11,6 +11,7 @@ use Rattle.input_files.specs.declared.chapter_file.ChapterFile.TheVariants as fi
 use Rattle.input_files.specs.declared.times_file.TimesFile.{TimesFile}
 use Rattle.word_values.specs.Values.{text}
 use Rattle.requests.specs.declared.track.CueWord.{CueWord}
+use Rattle.requests.specs.declared.merge.AttachedWords.{AttachedWords}
 use Rattle.requests.specs.declared.merge.FileWords.{FileWords}
 use Rattle.requests.specs.declared.merge.MergeWords.{MergeWords}
 use Rattle.mkv_args.specs.declared.command.Command.TheVariants.{Merge}
@@ -20,13 +21,14 @@ use Rattle.word_laws.specs.Laws.{TitlesAreTexts}
 use Rattle.merge_inputs.specs.Input.{InputRead, input_of}
 use Rattle.merge_inputs.specs.Select.{kept_one}
 use Rattle.merge_inputs.specs.Taken.{value_for}
+use Rattle.merge_plan.specs.Attached.{attached_source, attached_sources}
 use Rattle.merge_plan.specs.Front.{reads_of}
-use Rattle.merge_plan.specs.Places.{begun_at, end_of, in_place_from}
+use Rattle.merge_plan.specs.Places.{begun_at, end_of, in_place, in_place_from}
 use Rattle.merge_plan.specs.Plan.{Source}
 use Rattle.merge_plan.specs.Records.{tracks_taken}
 use Rattle.mkv_merge.specs.Chapters.{chaptered, first_with, with_chapters}
 use Rattle.mkv_merge.specs.Merge.{sources_of}
-use Rattle.mkv_merge.specs.Read.{contents_held, inputs_from, numbered}
+use Rattle.mkv_merge.specs.Read.{attached_held, contents_held, inputs_from, numbered}
 use Rattle.mkv_merge.specs.Texts.{listings_at, timed_from, with_listings}
 use Rattle.merge_laws.specs.Laws.{SourcesAreRead}
 use Rattle.merge_laws.specs.Sources.{IsReadSource}
@@ -122,6 +124,12 @@ placed-usual time (s ∷ ss) each =
     All-cons HasUsualTracks (begun_at time s) (in_place_from (end_of (begun_at time s)) ss) (All-head HasUsualTracks s ss each)
     (placed-usual (end_of (begun_at time s)) ss (All-tail HasUsualTracks s ss each))
 
+-- Files that the merge attaches have no tracks.
+attached-usual : (webm : Bool) (attached : List AttachedWords) (contents : List (List ℕ)) → All HasUsualTracks (attached_sources webm attached contents)
+attached-usual webm [] contents = All-nil HasUsualTracks
+attached-usual webm (w ∷ ws) [] = All-nil HasUsualTracks
+attached-usual webm (w ∷ ws) (c ∷ cs) = All-cons HasUsualTracks (attached_source webm (w, c)) (attached_sources webm ws cs) (All-nil IsUsual) (attached-usual webm ws cs)
+
 cues-usual : (world : List ℕ → Option (List ℕ)) (words : MergeWords) (sources : List Source) → IsDefault words → sources_of world words ≡ Ok sources → All IsUsual (tracks_taken (reads_of sources))
 cues-usual world words sources usual is =
     let were = were-read world words sources is in
@@ -130,7 +138,9 @@ cues-usual world words sources usual is =
     let timed = timed_from were.given.times 0 headed in
     let found = inputs-usual words.webm 0 0 words.files contents were.found (λ k d below. (usual.cues k d below, usual.undone k d below)) were.read in
     let each = timed-usual were.given.times 0 headed (chaptered-usual words.webm were.given.chapters were.found found) in
-    tracks-are IsUsual sources (subst (All HasUsualTracks) were.placed (placed-usual 0 (zip contents timed) (zipped-usual contents timed each)))
+    tracks-are IsUsual sources (subst (All HasUsualTracks) were.placed
+    (All-append HasUsualTracks (in_place (zip contents timed)) (attached_sources words.webm words.attached (attached_held world words))
+    (placed-usual 0 (zip contents timed) (zipped-usual contents timed each)) (attached-usual words.webm words.attached (attached_held world words))))
 
 -- ---- together
 

@@ -27,9 +27,9 @@ use Rattle.remerge_laws.specs.AsRead.{EndsAfterStart, as_read}
 use Rattle.remerge_laws.specs.Plain.{merge_again}
 use Rattle.remerge_laws.specs.Whole.{whole_document}
 
--- The command line `words` asks for no WebM, cue points, parts or identifiers, takes no track as it is stored, and has the default ticks
--- (1,000,000 ns) and Cluster limits (65,535 blocks, 5 s). A condition on the first merge in the law that an output, merged by itself, is written as it
--- was.
+-- The command line `words` asks for no WebM, cue points, parts or identifiers, takes no track as it is stored, and has the default ticks (1,000,000
+-- ns) and Cluster limits (65,535 blocks, 5 s). It may order tracks and attach files. A condition on the first merge in the law that an output, merged
+-- by itself, is written as it was.
 pub record IsDefault (words : MergeWords) : Type 0 where
   pub webm : words.webm ≡ false
   pub scale : words.scale ≡ 1000000
