@@ -10,7 +10,7 @@ use Rattle.remux_plan.specs.Parts.{PlannedOutput}
 use Rattle.remux_plan.specs.declared.summary.Summary.{Summary}
 use Rattle.remuxer.specs.Output.{WritesAll, laid_out}
 use Rattle.remuxer.proofs.OutputsLemmas.{world_with}
-use Rattle.mkv_merge.specs.Bound.{contents_length, contents_walked, most_of, walked_size}
+use Rattle.mkv_merge.specs.Bound.{contents_length, contents_walked, most_of, opened_length, walked_size}
 use Rattle.mkv_merge.specs.Joined.{Merges, sources_alone, sources_apart}
 use Rattle.mkv_merge.specs.Merge.{outputs_of as merge_outputs}
 use Rattle.mkv_io.specs.Results.{and_then}
@@ -45,22 +45,24 @@ two-lengths world a b x y first second =
 -- ---- the merge of the two files
 
 module _ (mid : Names) (names : own.Names) (words : MergeWords) (same : words ≡ both_words names) (old now : ℕ)
-    (reads : (world : List ℕ → Option (List ℕ)) → mid ≡ Some world → now ≤ old + most_of (sources_alone world words) (contents_length world words.files) (contents_walked world words.files)) where
+    (reads : (world : List ℕ → Option (List ℕ)) → mid ≡ Some world → now ≤ old + most_of (sources_alone world words) (opened_length world words) (contents_walked world words.files)) where
   both-most : (n : ℕ) (before : Names) (world : List ℕ → Option (List ℕ)) → before ≡ Some world → names.pictures ≢ names.sounds → WritesAll before mid (two_files n names) → now ≤ old + most_merged (both_words names) (layouts (two_files n names))
   both-most n before world told apart writes =
       let files = two_files n names in
       let all = map laid_out files in
       let world' = world_with world all in
-      let P : MergeWords → Type 0 = λ w. now ≤ old + most_of (sources_alone world' w) (contents_length world' w.files) (contents_walked world' w.files) in
+      let P : MergeWords → Type 0 = λ w. now ≤ old + most_of (sources_alone world' w) (opened_length world' w) (contents_walked world' w.files) in
       let long = two-lengths world' names.pictures names.sounds (layout (file_of Pictures n)) (layout (file_of Sounds n))
       (first-told world (laid_out (made_file Pictures n names.pictures)) (laid_out (made_file Sounds n names.sounds)) apart)
       (last-told world (laid_out (made_file Pictures n names.pictures) ∷ []) (laid_out (made_file Sounds n names.sounds))) in
       let Q : Result (List Source) Refusal → ℕ → ℕ → Type 0 = λ found size walked. now ≤ old + most_of found size walked in
       let found = sources_apart (both_words names) (layouts files) in
+      let none : opened_length world' (both_words names) ≡ contents_length world' (both_words names).files = omega arith in
       subst (Q found (sum_by (λ (bytes : List ℕ). length bytes) (layouts files))) long.1
       (subst (λ (size : ℕ). Q found size (contents_walked world' (both_words names).files)) long.0
       (subst (λ (r : Result (List Source) Refusal). Q r (contents_length world' (both_words names).files) (contents_walked world' (both_words names).files)) (both-found world n names apart)
-      (subst P same (reads world' (told-then before mid world files told writes)))))
+      (subst (λ (size : ℕ). Q (sources_alone world' (both_words names)) size (contents_walked world' (both_words names).files)) none
+      (subst P same (reads world' (told-then before mid world files told writes))))))
 
   -- The merge is refused or stopped.
   pub both-alone : ReadsBoth mid names old now
@@ -86,17 +88,19 @@ module _ (mid : Names) (names : own.Names) (words : MergeWords) (same : words �
 -- ---- the split of the merged file
 
 pub parts-alone : (mid : Names) (names : own.Names) (words : MergeWords) (old now : ℕ) → words ≡ parts_words names
-    → ((world : List ℕ → Option (List ℕ)) → mid ≡ Some world → now ≤ old + most_of (sources_alone world words) (contents_length world words.files) (contents_walked world words.files)) → ReadsMerged mid names old now
+    → ((world : List ℕ → Option (List ℕ)) → mid ≡ Some world → now ≤ old + most_of (sources_alone world words) (opened_length world words) (contents_walked world words.files)) → ReadsMerged mid names old now
 parts-alone mid names words old now same reads = λ n before world made told is one writes.
     let files = two_files n names in
     let world' = world_with world (map laid_out (files ++ made.outputs)) in
-    let P : MergeWords → Type 0 = λ w. now ≤ old + most_of (sources_alone world' w) (contents_length world' w.files) (contents_walked world' w.files) in
+    let P : MergeWords → Type 0 = λ w. now ≤ old + most_of (sources_alone world' w) (opened_length world' w) (contents_walked world' w.files) in
     let L : List PlannedOutput → Type 0 = λ os. HaveLengths (world_with world (map laid_out (files ++ os))) (plain_file names.both ∷ []) (layouts os) in
     let alone : L (one.file ∷ []) = one-length (world_with world (map laid_out (files ++ one.file ∷ []))) names.both (layout one.file.document) (both-there world n names one.file one.named) in
     let long : L made.outputs = subst L (sym one.alone) alone in
     let Q : Result (List Source) Refusal → ℕ → ℕ → Type 0 = λ found size walked. now ≤ old + most_of found size walked in
     let found = sources_apart (parts_words names) (layouts made.outputs) in
+    let none : opened_length world' (parts_words names) ≡ contents_length world' (parts_words names).files = omega arith in
     subst (Q found (sum_by (λ (bytes : List ℕ). length bytes) (layouts made.outputs))) long.1
     (subst (λ (size : ℕ). Q found size (contents_walked world' (parts_words names).files)) long.0
     (subst (λ (r : Result (List Source) Refusal). Q r (contents_length world' (parts_words names).files) (contents_walked world' (parts_words names).files)) (parts-found world n names made.outputs one.file one.alone one.named)
-    (subst P same (reads world' (told-then before mid world (files ++ made.outputs) told writes)))))
+    (subst (λ (size : ℕ). Q (sources_alone world' (parts_words names)) size (contents_walked world' (parts_words names).files)) none
+    (subst P same (reads world' (told-then before mid world (files ++ made.outputs) told writes))))))

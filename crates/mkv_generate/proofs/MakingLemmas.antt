@@ -8,7 +8,8 @@ use Rattle.mkv_outputs.specs.Drafts.{AreWrittenInOrder}
 use Rattle.mkv_outputs.specs.Outputs.{with_outputs}
 use Rattle.mkv_outputs.proofs.DraftsLemmas.{AreWrittenInOrder-none}
 use Rattle.output_model.specs.Document.{layout}
-use Rattle.input_files.specs.Inputs.{file_names, first_missing}
+use Rattle.input_files.specs.Inputs.{attached_names, file_names, first_missing}
+use Rattle.requests.specs.declared.merge.AttachedWords.{AttachedWords}
 use Rattle.requests.specs.declared.merge.MergeWords.{MergeWords}
 use Rattle.merge_plan.specs.Plan.{Source}
 use Rattle.remux_plan.specs.Parts.{PlannedOutput}
@@ -28,7 +29,7 @@ use Rattle.mkv_merge.specs.Read.{contents_held, first_written as name_written}
 use Rattle.mkv_merge.specs.Refused.{first_cause}
 use Rattle.mkv_io.specs.Results.{and_then, unless}
 use Rattle.mkv_merge.specs.declared.refusal.Refusal.{Refusal}
-use Rattle.mkv_merge.specs.declared.refusal.Refusal.TheVariants.{Missing, OutputIsInput}
+use Rattle.mkv_merge.specs.declared.refusal.Refusal.TheVariants.{Missing, MissingAttached, OutputIsInput}
 use Rattle.mkv_generate.specs.declared.making.Done.{Done}
 use Rattle.mkv_generate.specs.declared.making.Outcome.{Outcome}
 use Rattle.mkv_generate.specs.declared.making.Outcome.TheVariants.{Made, Refused}
@@ -42,14 +43,19 @@ use Rattle.mkv_generate.proofs.TurnLemmas.{drafts-append, first-told, in_turn-mo
 
 -- ---- the contents of the inputs
 
--- If the files have the inputs, the merge is the merge of their contents.
-pub alone-is : (world : List ℕ → Option (List ℕ)) (words : MergeWords) (contents : List (List ℕ)) → (first_missing world (file_names words.files) ≡ None) × (contents_held world words ≡ contents) → sources_alone world words ≡ sources_apart words contents
-alone-is world words contents is = ap₂ (found (name_written words)) is.0 is.1 ∙ by_name (name_written words)
+-- If the files have the inputs, a merge that attaches no file is the merge of their contents.
+pub alone-is : (world : List ℕ → Option (List ℕ)) (words : MergeWords) (contents : List (List ℕ)) → words.attached ≡ [] → (first_missing world (file_names words.files) ≡ None) × (contents_held world words ≡ contents) → sources_alone world words ≡ sources_apart words contents
+alone-is world words contents none is =
+    ap (found (name_written words) (first_missing world (file_names words.files)) (contents_held world words)) none
+    ∙ ap₂ (λ (missing : Option ℕ) (all : List (List ℕ)). found (name_written words) missing all []) is.0 is.1 ∙ by_name (name_written words)
   where
-    found : Option (List ℕ) → Option ℕ → List (List ℕ) → Result (List Source) Refusal
-    found written missing all = unless (first_cause (option_map OutputIsInput written ∷ option_map Missing missing ∷ refusals_read words no_texts all)) (sources_in words no_texts all)
+    found : Option (List ℕ) → Option ℕ → List (List ℕ) → List AttachedWords → Result (List Source) Refusal
+    found written missing all attached =
+        let held : List (List ℕ) = map (λ (name : List ℕ). unwrap_or (world name) []) (attached_names attached) in
+        let before : List (Option Refusal) = option_map OutputIsInput written ∷ option_map Missing missing ∷ option_map MissingAttached (first_missing world (attached_names attached)) ∷ [] in
+        unless (first_cause (before ++ refusals_read words no_texts all held)) (sources_in words no_texts all held)
 
-    by_name : (written : Option (List ℕ)) → found written None contents ≡ unless (first_cause (option_map OutputIsInput written ∷ refusals_read words no_texts contents)) (sources_in words no_texts contents)
+    by_name : (written : Option (List ℕ)) → found written None contents [] ≡ unless (first_cause (option_map OutputIsInput written ∷ refusals_read words no_texts contents [])) (sources_in words no_texts contents [])
     by_name None = refl
     by_name (Some name) = refl
 
@@ -71,7 +77,7 @@ pub both-found : (world : List ℕ → Option (List ℕ)) (n : ℕ) (names : own
     → sources_alone (world_with world (map laid_out (two_files n names))) (both_words names) ≡ sources_apart (both_words names) (map (λ (o : PlannedOutput). layout o.document) (two_files n names))
 both-found world n names apart =
     let all = map laid_out (two_files n names) in
-    alone-is (world_with world all) (both_words names) (map (λ (o : PlannedOutput). layout o.document) (two_files n names))
+    alone-is (world_with world all) (both_words names) (map (λ (o : PlannedOutput). layout o.document) (two_files n names)) refl
     (two-held (world_with world all) names.pictures names.sounds (layout (file_of Pictures n)) (layout (file_of Sounds n))
     (first-told world (laid_out (made_file Pictures n names.pictures)) (laid_out (made_file Sounds n names.sounds)) apart)
     (last-told world (laid_out (made_file Pictures n names.pictures) ∷ []) (laid_out (made_file Sounds n names.sounds))))
@@ -109,7 +115,7 @@ parts-found world n names outputs file alone named = subst P (sym alone) base
     P os = sources_alone (world_with world (map laid_out (two_files n names ++ os))) (parts_words names) ≡ sources_apart (parts_words names) (map (λ (o : PlannedOutput). layout o.document) os)
 
     base : P (file ∷ [])
-    base = alone-is (world_with world (map laid_out (two_files n names ++ file ∷ []))) (parts_words names) (layout file.document ∷ []) (one-held (world_with world (map laid_out (two_files n names ++ file ∷ []))) names.both (layout file.document) (both-there world n names file named))
+    base = alone-is (world_with world (map laid_out (two_files n names ++ file ∷ []))) (parts_words names) (layout file.document ∷ []) refl (one-held (world_with world (map laid_out (two_files n names ++ file ∷ []))) names.both (layout file.document) (both-there world n names file named))
 
 -- ---- files on the way
 
