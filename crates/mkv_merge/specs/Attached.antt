@@ -1,5 +1,5 @@
 -- The files that a merge attaches, while it prepares its outputs.
-use Rattle.std.specs.Prelude.{◌≡◌, ⊥, ℕ, Bool, List, ◌++◌, length, map, take, drop, Some, None, option_map, Result, Ok, Err}
+use Rattle.std.specs.Prelude.{◌≡◌, ℕ, Bool, List, ◌++◌, length, map, take, drop, Some, None, option_map, Result, Ok, Err}
 use Rattle.std.specs.List.{All, zip}
 use Rattle.mkv_io.specs.declared.outside.FileId.{FileId}
 use Rattle.mkv_io.specs.LiveFiles.{LiveFiles}
