@@ -1,4 +1,4 @@
-use Rattle.std.proofs.Common.{◌≡◌, List, [], None, Result, Err, refl, sym, ◌∙◌, subst, arith}
+use Rattle.std.proofs.Common.{ap, ◌≡◌, List, [], None, Result, Err, refl, sym, ◌∙◌, subst, arith}
 use Rattle.std.proofs.lemmas.Result.{err_from_is_err_and}
 use Rattle.mkv_io.specs.Names.{Names}
 use Rattle.mkv_io.specs.Sources.{live_files}
@@ -65,8 +65,8 @@ returns-clause-merges g c = λ world told.
     (c.join_opened-ended.ensures.merges contents both.0 attached both.1)))
 
 -- No text file is named.
-pub join_opened-requires-clause-texts : goal.join_opened-requires-clause-texts
-join_opened-requires-clause-texts g c = ap (λ (times : List TimesFile). let texts : TextFiles = record { chapters = Absent; times = times } in texts) c.new.ensures
+pub join_opened-ended-requires-clause-texts : goal.join_opened-ended-requires-clause-texts
+join_opened-ended-requires-clause-texts g c = ap (λ (times : List TimesFile). let texts : TextFiles = record { chapters = Absent; times = times } in texts) c.new.ensures
 
 -- ---- end of the merge
 

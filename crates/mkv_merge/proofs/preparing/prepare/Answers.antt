@@ -1,5 +1,5 @@
 -- The inputs were read, got their append offsets, and were planned.
-use Rattle.std.proofs.Common.{◌≡◌, ℕ, Unit, None, List, ◌++◌, Err, length, map, sym, ◌∙◌, ap, subst, arith}
+use Rattle.std.proofs.Common.{◌≡◌, ℕ, None, List, ◌++◌, Err, length, map, sym, ◌∙◌, ap, subst, arith}
 use Rattle.std.specs.List.{All}
 use Rattle.std.proofs.lemmas.List.{length-map}
 use Rattle.std.proofs.lemmas.Result.{err_from_is_err_and}

@@ -11,8 +11,8 @@ use Rattle.mkv_merge.proofs.preparing.with_attached.Given as goal
 
 abbrev pub invariant-loop-k : goal.invariant-loop-k
 invariant-loop-k g l = record {
-  exact : map read_in l.list ≡ map read_in l.inputs ++ attached_reads l.words.webm l.words.attached (sizes_of (live_files g.R.Reads l.src) (take l.k l.attached));
-  of : map (λ (i : Input). i.file) l.list ≡ map (λ (i : Input). i.file) l.inputs ++ take l.k l.attached;
-  good : All (IsInput (live_files g.R.Reads l.src)) l.inputs → All (IsInput (live_files g.R.Reads l.src)) l.list;
-  places : All HasPlace l.inputs → All HasPlace l.list;
+  exact : map read_in l.list ≡ map read_in l.fn.inputs ++ attached_reads l.words.webm l.words.attached (sizes_of (live_files g.R.Reads l.src) (take l.k l.attached));
+  of : map (λ (i : Input). i.file) l.list ≡ map (λ (i : Input). i.file) l.fn.inputs ++ take l.k l.attached;
+  good : All (IsInput (live_files g.R.Reads l.src)) l.fn.inputs → All (IsInput (live_files g.R.Reads l.src)) l.list;
+  places : All HasPlace l.fn.inputs → All HasPlace l.list;
 }

@@ -33,8 +33,8 @@ say_absent-requires g c =
     subst (λ (inputs : List Input). length c.args.words.now.files ≤ length inputs) (sym c.as_slice.ensures)
     (many-inputs c.args.words.now c.args.prepared.inputs c.requires.prepared.both)
 
-pub has_absent-requires : goal.has_absent-requires
-has_absent-requires g c =
+pub has_absent-absent-requires : goal.has_absent-absent-requires
+has_absent-absent-requires g c =
     subst (λ (inputs : List Input). length c.args.words.now.files ≤ length inputs) (sym c.as_slice-2.ensures)
     (many-inputs c.args.words.now c.args.prepared.inputs c.requires.prepared.both)
 
