@@ -9,5 +9,5 @@ pub returns-in-Err-Missing-clause-found : goal.returns-in-Err-Missing-clause-fou
 returns-in-Err-Missing-clause-found g c = λ world shown.
     let names : c.as_slice.result.now ≡ opened_names c.args.words.now = c.as_slice.ensures ∙ c.in_ok-names.ensures in
     missing-found world c.args.words.now c.args.texts.now c.in-Err-Missing.input
-    (ap (first_missing world) (sym names) ∙ c.in-Err-Missing.ensures.missing world shown)
+    (ap (first_missing world) (sym names) ∙ rw c.in-Err-Missing.field-0-is at (c.in-Err-Missing.ensures.missing world shown))
     ∙ ap Some (sym c.in_ok-why-in-Err-Missing.ensures)
