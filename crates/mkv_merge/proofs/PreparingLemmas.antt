@@ -4,7 +4,7 @@ use Rattle.std.specs.List.{All, AllByRecursion, sum_by, zip}
 use Rattle.std.specs.Option.{option_map, unwrap_or}
 use Rattle.std.specs.Result.{result_err}
 use Rattle.std.proofs.Math.Seq.{take-suc}
-use Rattle.std.proofs.lemmas.List.{append-nil, length-map, map-append}
+use Rattle.std.proofs.lemmas.List.{append-nil, length-map, length-take-le, map-append}
 use Rattle.std.proofs.lemmas.List.Elements.{All-from_recursion}
 use Rattle.std.proofs.lemmas.List.Sums.{sum_by-cons, sum_by-take-le, sum_by_more}
 use Rattle.mkv_io.specs.declared.outside.FileId.{FileId}
@@ -137,16 +137,20 @@ pub read-end : (words : MergeWords) (contents : List (List ℕ)) (k held : ℕ) 
 read-end words contents k held done most goes =
     goes ∙ ap (read_behind words.webm k held done) (zip-end words.files contents k most) ∙ ap Ok (append-nil done)
 
+-- One more file of a list is taken.
+pub taken-more : (list : List FileId) (k : ℕ) (file : FileId) → k < length list → take (k + 1) list ≡ take k list ++ get_or list k file ∷ []
+taken-more list k file below = ap (λ (n : ℕ). take n list) (one_more k) ∙ take-suc list k file below
+  where
+    one_more : (n : ℕ) → n + 1 ≡ suc n
+    one_more n = omega arith
+
 -- The inputs read up to now belong to the first files.
 pub files-more : (inputs : List Input) (input : Input) (list : List FileId) (k : ℕ) (file : FileId) → k < length list → input.file ≡ get_or list k file → map (λ (i : Input). i.file) inputs ≡ take k list → map (λ (i : Input). i.file) (inputs ++ input ∷ []) ≡ take (k + 1) list
 files-more inputs input list k file below is of =
     map-append (λ (i : Input). i.file) inputs (input ∷ [])
     ∙ ap (λ (before : List FileId). before ++ input.file ∷ []) of
     ∙ ap (λ (last : FileId). take k list ++ last ∷ []) is
-    ∙ sym (ap (λ (n : ℕ). take n list) (one_more k) ∙ take-suc list k file below)
-  where
-    one_more : (n : ℕ) → n + 1 ≡ suc n
-    one_more n = omega arith
+    ∙ sym (taken-more list k file below)
 
 -- The inputs read up to now have the append offsets of the first files.
 pub shifts-more : (inputs : List Input) (input : Input) (files : List FileWords) (k : ℕ) (w : FileWords) → k < length files → w ≡ get_or files k w → input.shift ≡ unmoved w → AreUnmoved (take k files) inputs → AreUnmoved (take (k + 1) files) (inputs ++ input ∷ [])
@@ -253,11 +257,26 @@ zip-push (first ∷ []) [] x y below is = ap (λ each. (each, y) ∷ []) (sym is
 zip-push (first ∷ next ∷ xs) [] x y below is = ap (λ each. (each, y) ∷ []) (sym is)
 zip-push (first ∷ xs) (one ∷ ys) x y below is = ap (λ rest. (first, one) ∷ rest) (zip-push xs ys x y (omega arith) is)
 
-pub reads-more : (webm : Bool) (words : List AttachedWords) (sizes : List ℕ) (w : AttachedWords) (size : ℕ) → length sizes < length words → w ≡ get_or words (length sizes) w
+reads-more : (webm : Bool) (words : List AttachedWords) (sizes : List ℕ) (w : AttachedWords) (size : ℕ) → length sizes < length words → w ≡ get_or words (length sizes) w
     → attached_reads webm words (sizes ++ size ∷ []) ≡ attached_reads webm words sizes ++ attached_read w webm size ∷ []
 reads-more webm words sizes w size below is =
     let read : AttachedWords × ℕ → InputRead = λ pair. attached_read pair.0 webm pair.1 in
     ap (map read) (zip-push words sizes w size below is) ∙ map-append read (zip words sizes) ((w, size) ∷ [])
+
+-- No file is attached yet.
+pub attached-none : (webm : Bool) (words : List AttachedWords) → attached_reads webm words [] ≡ []
+attached-none webm [] = refl
+attached-none webm (w ∷ words) = refl
+
+-- One more of the files `list` among `f` is attached.
+pub attached-more : (f : LiveFiles) (webm : Bool) (words : List AttachedWords) (list : List FileId) (k : ℕ) (w : AttachedWords) (file : FileId) → length list ≡ length words → k < length list → w ≡ get_or words k w
+    → attached_reads webm words (files.sizes_of f (take (k + 1) list)) ≡ attached_reads webm words (files.sizes_of f (take k list)) ++ attached_read w webm (f.size (get_or list k file).n) ∷ []
+attached-more f webm words list k w file each below is =
+    let size : FileId → ℕ = λ one. f.size one.n in
+    let count : length (map size (take k list)) ≡ k = length-map (take k list) size ∙ length-take-le k list (omega arith) in
+    ap (λ (l : List FileId). attached_reads webm words (map size l)) (taken-more list k file below)
+    ∙ ap (attached_reads webm words) (map-append size (take k list) (get_or list k file ∷ []))
+    ∙ reads-more webm words (map size (take k list)) w (size (get_or list k file)) (omega (arith, count)) (is ∙ ap (λ (n : ℕ). get_or words n w) (sym count))
 
 -- Files that are visible to the proof have the lengths of their contents.
 pub attached-lengths : (f : LiveFiles) → ((file : ℕ) → IfVisible (f.content file) (λ bytes. length bytes ≡ f.size file)) → (list : List FileId) (contents : List (List ℕ)) → AreTold f list contents → files.sizes_of f list ≡ map length contents
