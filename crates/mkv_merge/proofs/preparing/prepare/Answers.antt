@@ -1,5 +1,5 @@
 -- The inputs were read, got their append offsets, and were planned.
-use Rattle.std.proofs.Common.{◌≡◌, ℕ, None, List, ◌++◌, Err, length, map, sym, ◌∙◌, ap, subst, arith}
+use Rattle.std.proofs.Common.{◌≡◌, ℕ, None, List, ◌++◌, Err, get_or, length, map, sym, ◌∙◌, ap, subst, arith}
 use Rattle.std.specs.List.{All}
 use Rattle.std.proofs.lemmas.List.{length-map}
 use Rattle.std.proofs.lemmas.Result.{err_from_is_err_and}
@@ -13,6 +13,8 @@ use Rattle.merge_inputs.specs.declared.input.Input.{Input}
 use Rattle.merge_plan.specs.Appending.{append_refusal}
 use Rattle.merge_plan.specs.Planned.{CanBeWritten, IsPlanOf, Plans}
 use Rattle.merge_plan.specs.Refusal.{plan_refusal}
+use Rattle.merge_plan.specs.TakenTracks.{HasRecords, HasTaken}
+use Rattle.merge_plan.proofs.PlanLemmas.{input-taken}
 use Rattle.mkv_merge.specs.Attached.{ChecksSizes, attached_reads}
 use Rattle.mkv_merge.specs.Prepared.{AreTold, reads_in}
 use Rattle.mkv_merge.proofs.PreparingLemmas.{attached-lengths, chapters-ended, differs-refused, input-ended, large-refused, pays-both, plan-ended, plan-found, times-ended}
@@ -67,8 +69,10 @@ check_sizes-requires g c = subst (λ (f : LiveFiles). AreLive f.live c.args.atta
 
 pub with_attached-requires : goal.with_attached-requires
 with_attached-requires g c = record {
-  live = subst (λ (f : LiveFiles). AreLive f.live c.args.attached.now) (sym (ap g.R.Reads.files (c.in_ok-placed.ensures.standing ∙ c.in_ok-read.ensures.reading.standing))) c.requires.attached.live;
-  each = c.requires.attached.each;
+  live = record {
+    live = subst (λ (f : LiveFiles). AreLive f.live c.args.attached.now) (sym (ap g.R.Reads.files (c.in_ok-placed.ensures.standing ∙ c.in_ok-read.ensures.reading.standing))) c.requires.attached.live;
+    each = c.requires.attached.each;
+  };
 }
 
 -- The inputs that were read are inputs of the files.
@@ -84,6 +88,20 @@ assign_append_offsets-requires-clause-few g c =
     let are = inputs-timed (live_files g.R.Reads c.read_inputs.new.src) c.args.files.now c.args.words.now.webm c.args.texts.chapters c.in_ok-read.read c.in_ok-chaptered.chaptered inputs
     c.requires.chapters c.in_ok-read.ensures.inputs c.in_ok-chaptered.ensures.exact c.in_ok-timed.ensures.same in
     omega (arith, length-map inputs (λ (i : Input). i.file), ap (λ (l : List FileId). length l) are.of, c.requires.ready.each, c.requires.ready.sound.files.most)
+
+-- The inputs and the attached files can be planned.
+pub plan_of-requires-clause-tracks : goal.plan_of-requires-clause-tracks
+plan_of-requires-clause-tracks g c =
+    let f = live_files g.R.Reads c.assign_append_offsets.new.src in
+    let good : All (IsInput f) c.in_ok-inputs.inputs = c.in_ok-inputs.ensures.valid.good c.in_ok-placed.ensures.placed.good in
+    subst (All HasTaken) (sym c.as_slice-2.ensures) (λ k d below. input-taken f (get_or c.in_ok-inputs.inputs k d) (good k d below))
+
+pub plan_of-requires-clause-records : goal.plan_of-requires-clause-records
+plan_of-requires-clause-records g c =
+    let f = live_files g.R.Reads c.assign_append_offsets.new.src in
+    let good : All (IsInput f) c.in_ok-inputs.inputs = c.in_ok-inputs.ensures.valid.good c.in_ok-placed.ensures.placed.good in
+    subst (All HasRecords) (sym c.as_slice-2.ensures)
+    (λ k d below. record { attachments = (good k d below).attachments; chapters = (good k d below).chapters; tags = (good k d below).tags })
 
 -- The inputs aren't planned.
 pub returns-in_err-plan-clause-exact : goal.returns-in_err-plan-clause-exact
@@ -123,14 +141,13 @@ returns-clause-prepared g c =
     let timed : List Input = c.in_ok-timed.timed in
     let placed = c.in_ok-placed.ensures.placed in
     let now = live_files g.R.Reads c.read_inputs.new.src in
-    let later : live_files g.R.Reads c.assign_append_offsets.new.src ≡ now = ap g.R.Reads.files c.in_ok-placed.ensures.standing in
     let are = inputs-timed now ids c.args.words.now.webm c.args.texts.chapters c.in_ok-read.read c.in_ok-chaptered.chaptered timed
     c.requires.chapters c.in_ok-read.ensures.inputs c.in_ok-chaptered.ensures.exact c.in_ok-timed.ensures.same in
     let valid = c.in_ok-inputs.ensures.valid in
     let of : map (λ (i : Input). i.file) c.in_ok-placed.placed ≡ ids = placed.files ∙ are.of in
     record {
       inputs = record {
-        good = valid.good (subst (λ (f : LiveFiles). All (IsInput f) c.in_ok-placed.placed) (sym later) placed.good);
+        good = valid.good placed.good;
         of = valid.of ∙ ap (λ (l : List FileId). l ++ c.args.attached.now) of;
         places = valid.places placed.places;
       };
