@@ -34,7 +34,6 @@ use Rattle.remux_plan.specs.declared.TheConstants.{MAX_INPUTS, MAX_SCALE}
 use Rattle.remux_plan.specs.declared.plan.MergePlan.{MergePlan}
 use Rattle.remux_plan.specs.declared.plan.PlannedLane.{PlannedLane}
 use Rattle.remuxer.specs.Plan.{IsPlan, IsToldPlan, data_length, inputs_length}
-use Rattle.requests.specs.declared.merge.FileWords.{FileWords}
 use Rattle.requests.specs.declared.merge.MergeWords.{MergeWords}
 use Rattle.input_files.specs.Inputs.{AreInputs}
 use Rattle.merge_inputs.specs.Input.{InputRead, IsInput, read_in}

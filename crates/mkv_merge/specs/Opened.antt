@@ -1,5 +1,5 @@
 -- The files that a merge keeps open, and which of them is missing. The order of the checks is this project's.
-use Rattle.std.specs.Prelude.{◌≡◌, ⊤, ℕ, ◌-◌, nat_lt, if◌then◌else◌, List, [], ◌∷◌, ◌++◌, length, map, Option, Some, None, option_map, unwrap_or, Result, Ok, Err}
+use Rattle.std.specs.Prelude.{◌≡◌, ⊤, ℕ, ◌-◌, nat_lt, if◌then◌else◌, List, [], ◌∷◌, ◌++◌, length, Option, Some, None, option_map, unwrap_or, Result, Ok, Err}
 use Rattle.mkv_io.specs.declared.outside.FileId.{FileId}
 use Rattle.input_files.specs.Inputs.{attached_names, file_names, first_missing}
 use Rattle.input_files.specs.declared.text_files.TextFiles.{TextFiles}

@@ -1,5 +1,5 @@
 -- Reasons why nothing is merged, and the line that reports each. The lines and their order are this project's.
-use Rattle.std.specs.Prelude.{ℕ, List, [], ◌∷◌, Option, Some, None, unwrap_or, Result, Ok, Err}
+use Rattle.std.specs.Prelude.{ℕ, List, [], ◌∷◌, Option, Some, None, unwrap_or}
 use Rattle.std.specs.List.{slice_get}
 use Rattle.std.specs.Option.{option_map_or}
 use Rattle.input_files.specs.declared.refusal.TextRefusal.{TextRefusal}

@@ -1,4 +1,4 @@
-use Rattle.std.proofs.Common.{◌≡◌, ℕ, List, Some, sym, ◌∙◌, ap}
+use Rattle.std.proofs.Common.{◌≡◌, Some, sym, ◌∙◌, ap}
 use Rattle.mkv_merge.specs.Opened.{opened_names}
 use Rattle.input_files.specs.Inputs.{first_missing}
 use Rattle.mkv_merge.proofs.MergingLemmas.{missing-found}
