@@ -120,25 +120,25 @@ identified_as =
 abbrev pub info : List Node → Option Node
 info children = Some (master 0x1549A966 0 (nodes_of children))
 
--- a TrackEntry with a Video that has the children `pixels`, for the examples of `merge -J`
+-- a TrackEntry with a Video that has the children `pixels`, for the examples of `merge -J`. Used by `AreIdentified`.
 abbrev pub video : List Node → Node
 video pixels = master 0xAE 0 (nodes_of (master 0xE0 0 (nodes_of pixels) ∷ []))
 
--- an EditionEntry with one ChapterAtom that has another one inside, for the examples of `merge -J`
+-- an EditionEntry with one ChapterAtom that has another one inside, for the examples of `merge -J`. Used by `two_editions`.
 abbrev pub edition : Node
 edition = master 0x45B9 0 (nodes_of (master 0xB6 0 (nodes_of (master 0xB6 0 (nodes_of []) ∷ [])) ∷ []))
 
--- a Chapters with two EditionEntries, each with one top ChapterAtom, for the examples of `merge -J`
+-- a Chapters with two EditionEntries, each with one top ChapterAtom, for the examples of `merge -J`. Used by `AreIdentified`.
 abbrev pub two_editions : Option Node
 two_editions = Some (master 0x1043A770 0 (nodes_of (edition ∷ edition ∷ [])))
 
--- a Tag for the track with the TrackUID `uid`, with a SimpleTag that contains another one, for the examples of `merge -J`
+-- a Tag for the track with the TrackUID `uid`, with a SimpleTag that contains another one, for the examples of `merge -J`. Used by `tags`.
 abbrev pub tag : ℕ → Node
 tag uid =
     master 0x7373 0 (nodes_of (master 0x63C0 0 (nodes_of (leaf 0x63C5 0 (uid ∷ []) ∷ [])) ∷
     master 0x67C8 0 (nodes_of (master 0x67C8 0 (nodes_of []) ∷ [])) ∷ []))
 
--- a Tags with a Tag for each TrackUID in `uids`, for the examples of `merge -J`
+-- a Tags with a Tag for each TrackUID in `uids`, for the examples of `merge -J`. Used by `AreIdentified`.
 abbrev pub tags : List ℕ → Option Node
 tags uids = Some (master 0x1254C367 0 (nodes_of (map tag uids)))
 
@@ -147,7 +147,7 @@ abbrev pub entry : List Node → Node
 entry more =
     master 0xAE 0 (nodes_of (leaf 0xD7 0 (2 ∷ []) ∷ leaf 0x83 0 (17 ∷ []) ∷ leaf 0x86 0 (codes "S_VOBSUB") ∷ more))
 
--- children of a TrackEntry: two flags, two languages and a name, for the examples of `merge -J`
+-- children of a TrackEntry: two flags, two languages and a name, for the examples of `merge -J`. Used by `AreIdentified`.
 abbrev pub said_of_it : List Node
 said_of_it =
     leaf 0x88 0 (0 ∷ []) ∷ leaf 0x55AA 0 (2 ∷ []) ∷ leaf 0x22B59C 0 (codes "ger") ∷
@@ -160,7 +160,7 @@ told_as more properties =
     ≡ codes "{\"codec\":\"S_VOBSUB\",\"id\":1,\"properties\":{\"codec_id\":\"S_VOBSUB\"," ++ properties
     ++ codes "},\"type\":\"subtitles\"}"
 
--- Examples of small files and records, and of the JSON that `merge -J` prints for them.
+-- Examples of small files and records, and of the JSON that `merge -J` prints for them. The law `files_are_identified_so` has them.
 pub record AreIdentified : Type 0 where
   -- The result is one line of JSON, with keys in the order of their bytes.
   pub whole : identified_verdict (codes "s1.mkv") one_track ≡ done (identified_as ∷ [])

@@ -120,19 +120,20 @@ with_both n names files (Err why) = comes_to Refused files (line_of (both_words 
 abbrev pub verdict_of : ℕ → Names → Verdict
 verdict_of n names = with_both n names (two_files n names) (merge_of (both_words names) (two_files n names))
 
--- the outcome of `generate N PREFIX`, where `n` is N and `prefix` is PREFIX, with any other files present. The outcome of a run uses it.
+-- the outcome of `generate N PREFIX`, where `n` is N and `prefix` is PREFIX, with any other files present. The outcome of a run uses it. Used by
+-- `Generates`.
 abbrev pub generate_verdict : ℕ → List ℕ → Verdict
 generate_verdict n prefix = verdict_of n (names_of prefix)
 
 -- The call has the outcome of `generate` for `n` pictures and the names `names`, or failed on the way. `files` and `files'` are the states of the
 -- files before and after, `report` and `report'` of the report. It is promised if the contents are visible to the proof. The contract of the inner
--- `generate` has it.
+-- `generate` has it. `r`, `f` and `p` give the proof's view of the files and the report, and `result` is what the call returned.
 abbrev pub MakesNamed : {F P : Type 0} → ReadsGhosts F → FilesGhosts F → ReportGhosts P → F → F → P → P → Result Status CommandEnd → ℕ → Names → Type 0
 MakesNamed r f p files files' report report' result n names =
     IfVisible (f.names files) (λ world. Fulfils r f p files files' report report' result (verdict_of n names))
 
 -- The call has the outcome of `generate N PREFIX`, where `n` is N and `prefix` is PREFIX, or failed on the way. `files` and `files'` are the states
 -- of the files before and after, `report` and `report'` of the report. It is promised if the contents are visible to the proof. The contract of
--- `generate_of` has it.
+-- `generate_of` has it. `r`, `f` and `p` give the proof's view of the files and the report, and `result` is what the call returned.
 abbrev pub Generates : {F P : Type 0} → ReadsGhosts F → FilesGhosts F → ReportGhosts P → F → F → P → P → Result Status CommandEnd → ℕ → List ℕ → Type 0
 Generates r f p files files' report report' result n prefix = MakesNamed r f p files files' report report' result n (names_of prefix)

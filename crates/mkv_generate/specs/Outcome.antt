@@ -63,14 +63,14 @@ Makes old new n names (Ok outcome) = HasMade old new n outcome (verdict_of n nam
 Makes old new n names (Err why) = Leaves old new (verdict_of n names).outputs
 
 -- `Makes` holds of the files `names`, from the contents `old` of all names to `new`. It needs that the two files and the merged file, made by `both`,
--- are complete in `old`. The contract of `make_parts` has it.
+-- are complete in `old`. The contract of `make_parts` has it. `result` is what the call returned.
 abbrev pub MakesParts : Names → Names → own.Names → Done → Result Outcome CommandEnd → Type 0
 MakesParts old new names both result =
     (n : ℕ) (before : Names) (world : List ℕ → Option (List ℕ)) (made : MergeMade) → before ≡ Some world → merge_of (both_words names) (two_files n names) ≡ Ok made → IsDone made both → IsOneFile names.both made
     → WritesAll before old (two_files n names ++ made.outputs) → Makes before new n names result
 
 -- `Makes` holds of the files `names`, from the contents `old` of all names to `new`, if the two files are complete in `old`. The contract of
--- `make_both` has it.
+-- `make_both` has it. `result` is what the call returned.
 abbrev pub MakesBoth : Names → Names → own.Names → Result Outcome CommandEnd → Type 0
 MakesBoth old new names result =
     (n : ℕ) (before : Names) (world : List ℕ → Option (List ℕ)) → before ≡ Some world → names.pictures ≢ names.sounds → WritesAll before old (two_files n names) → Makes before new n names result

@@ -38,7 +38,7 @@ abbrev pub walked_size : List FileWords → List ℕ → ℕ
 walked_size files sizes = sum_by walked_before (zip files (0 ∷ sizes))
 
 -- the sum of the lengths in bytes of the live files in `list` that another one is appended to; `files` has the options of each. For `live_walked`, as
--- a bound on what `merge` reads.
+-- a bound on what `merge` reads. `f` gives the proof's view of the files.
 abbrev pub files_walked : LiveFiles → List FileWords → List FileId → ℕ
 files_walked f files list = walked_size files (map (λ (file : FileId). f.size file.n) list)
 

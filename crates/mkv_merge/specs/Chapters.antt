@@ -53,6 +53,6 @@ chaptered set webm (file.Refused why) inputs = inputs
 chaptered set webm (file.Read chapters) inputs = first_with set (kept_one (not webm) (Some chapters)) inputs
 
 -- the inputs with the Chapters of the chapter file `file` as in `chaptered`, or the refusal if its content is refused. `set` puts Chapters into an
--- input. The contract of the function of the same name states it.
+-- input. The contract of the function of the same name states it. With `webm` Chapters are left out of the `inputs`.
 abbrev pub with_file : {A : Type 0} → (Option Node → A → A) → Bool → ChapterFile → List A → Result (List A) Refusal
 with_file set webm file inputs = unless (chapters_refusal file) (chaptered set webm file inputs)

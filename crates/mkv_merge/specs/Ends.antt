@@ -33,7 +33,7 @@ IsQuiet (Stopped stop.Files) = ⊥
 IsQuiet (Stopped stop.Disk) = ⊥
 IsQuiet (Stopped stop.Report) = ⊥
 
--- the end of a merge that can't be planned, by the reason. The conversion from `PlanEnd` states it.
+-- the end of a merge that can't be planned, by the reason. The conversion from `PlanEnd` states it. Used by the contract of `from`.
 abbrev pub unplanned : PlanEnd → MergeEnd
 unplanned (plan_end.Refused why) = Refused (Plan why)
 unplanned plan_end.Memory = Stopped stop.Memory

@@ -81,7 +81,7 @@ outputs_found words (Err why) = []
 
 -- The result of a merge that prints nothing, with the files `old` before it and `new` after it. All outputs of the sources in `found` were written,
 -- or `found` has its refusal and no file changed. After a stop some first outputs are complete, and the next one is a draft. Used by the contracts of
--- `merge_files` and its steps.
+-- `merge_files` and its steps. `words` are the options of the merge.
 abbrev pub Merges : Names → Names → MergeWords → Result (List Source) Refusal → Result Merged CommandEnd → Type 0
 Merges old new words found (Ok (Written s)) = HasMerged old new words found s
 Merges old new words found (Ok (Refused why)) = (found ≡ Err why) × (new ≡ old)
@@ -93,13 +93,14 @@ abbrev pub as_merged : Result Summary MergeEnd → Result Merged CommandEnd
 as_merged result = end_as Written Refused result
 
 -- `Merges` holds for the live files `list`, the inputs and attached files, if names and contents are visible to the proof. The state is `old` before
--- the merge `words` and `new` after it. The contract of `join_opened` states it. `r` and `f` give the proof's view of the files.
+-- the merge `words` and `new` after it. The contract of `join_opened` states it. `r` and `f` give the proof's view of the files. `result` is what the
+-- call returned.
 abbrev pub MergesLive : {S : Type 0} → Ghosts S → writing.Ghosts S → S → S → MergeWords → List FileId → Result Merged CommandEnd → Type 0
 MergesLive r f old new words list result = IfBothTold r old (own_ids words list) (attached_ids words list) (λ contents attached.
     Merges (f.names old) (f.names new) words (sources_unless [] words no_texts contents attached) result)
 
 -- `Merges` holds for the files that `words` names, if their contents are visible to the proof. The state is `old` before the merge and `new` after
--- it. The contract of `merge_files` states it. `f` gives the proof's view of the files.
+-- it. The contract of `merge_files` states it. `f` gives the proof's view of the files. `result` is what the call returned.
 abbrev pub MergesAlone : {S : Type 0} → writing.Ghosts S → S → S → MergeWords → Result Merged CommandEnd → Type 0
 MergesAlone f old new words result = IfVisible (f.names old) (λ world. Merges (f.names old) (f.names new) words (sources_alone world words) result)
 

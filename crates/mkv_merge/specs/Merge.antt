@@ -107,7 +107,7 @@ sources_of world words = sources_unless (refusals world words) words (texts_held
 abbrev pub blocks_of : MergeWords → List Source → List OutputBlock
 blocks_of words sources = merged (map (lane_blocks words.scale) (lanes_taken words sources))
 
--- the rule for cutting the output of the merge `words` into parts, with times in ticks of the output. For `parts_of`.
+-- the rule for cutting the output of the merge `words` into parts, with times in ticks of the output. For `parts_of`. `sources` are its inputs.
 abbrev pub split_of : MergeWords → List Source → Split
 split_of words sources = record { spec = split_given words (reads_of sources); size = size_of words.split; scale = words.scale; drives = drives_by (drives_given words.order (reads_of sources)) }
 
@@ -116,7 +116,7 @@ abbrev pub parts_of : MergeWords → List Source → List Part
 parts_of words sources = parts (split_of words sources) (blocks_of words sources)
 
 -- the Elements before the first Cluster of the part `number`, counted from 1; `front` has them for an unsplit output. Each part has its own
--- identifiers; only the first part has the attached files. For `front_at`, in the outcome of `merge`.
+-- identifiers; only the first part has the attached files. For `front_at`, in the outcome of `merge`. `words` are the options of the merge.
 abbrev pub front_for : MergeWords → ℕ → Front → Front
 front_for words number front = record front {
   info = with_uuids (uuids_at words.uuids words.link number) front.info;
@@ -199,7 +199,7 @@ first_met k links = option_map_or (λ (link : ℕ × List Damage). link.1) (find
 
 -- the damage that is met in the source number `k`, counted from 0, while its blocks are merged. There is none if no track of the source is selected.
 -- Without the option `--append-damaged` there is also none if a file before it in its chain of appended files ended at damage. For the warnings and
--- the status of `merge`.
+-- the status of `merge`. `words` are the options of the merge of `sources`.
 abbrev pub damages_met : MergeWords → List Source → ℕ → List Damage
 damages_met words sources k = first_met k (links_met (inputs_taken words.order (reads_of sources)) (lanes_taken words sources))
 
@@ -209,19 +209,22 @@ abbrev pub damages_warned : List ℕ → List Damage → List (List ℕ)
 damages_warned name damages = let told = told_damages damages in damage_lines name told.first told.more
 
 -- the warnings about the damage of a source, which is given with its number, counted from 0, and its options. `merge` prints them after the outputs
--- are written.
+-- are written. `words` are the options of the merge of `sources`, and `each` is the number of one with its options.
 abbrev pub warnings : MergeWords → List Source → ℕ × FileWords → List (List ℕ)
 warnings words sources each = damages_warned each.1.name (damages_met words sources each.0)
 
 -- Some input lacks a track that the options for it name; `reads` are the inputs as they were read. `merge` then ends with the status of warnings.
+-- `words` are the options of the merge.
 abbrev pub has_absent : MergeWords → List InputRead → Bool
 has_absent words reads = list_any (lacks_track words) (enumerate_from 0 (zip words.files reads))
 
--- Some of `sources` has damage that is met while its blocks are merged. `merge` then ends with the status of warnings.
+-- Some of `sources` has damage that is met while its blocks are merged. `merge` then ends with the status of warnings. `words` are the options of the
+-- merge.
 abbrev pub has_damage : MergeWords → List Source → Bool
 has_damage words sources = list_any (λ k. is_some_of (damages_met words sources k)) (range_with_len 0 (length sources))
 
--- The command line gives segment identifiers, but not one for each of the `count` outputs. `merge` then ends with the status of warnings.
+-- The command line gives segment identifiers, but not one for each of the `count` outputs. `merge` then ends with the status of warnings. `words` are
+-- the options of the merge.
 abbrev pub has_other_count : MergeWords → ℕ → Bool
 has_other_count words count = not (length words.uuids == 0) && not (length words.uuids == count)
 
@@ -237,7 +240,8 @@ abbrev pub warned_if : Bool → Status
 warned_if true = Warned
 warned_if false = Done
 
--- the messages of `merge` before the outputs are written: a warning for each track that options name and that its input lacks
+-- the messages of `merge` before the outputs are written: a warning for each track that options name and that its input lacks. `words` are the
+-- options of the merge, and `reads` its inputs as they were read.
 abbrev pub lines_before : MergeWords → List InputRead → List (List ℕ)
 lines_before words reads = flat_map (lines_absent words) (enumerate_from 0 (zip words.files reads))
 
@@ -271,7 +275,7 @@ merge_verdict world words = verdict_of words (sources_of world words)
 
 -- The command `merge` ended with `result`, and has the outcome of the merge `words`, or was stopped on the way to it. A refusal is printed. Files and
 -- report were `files` and `report` before it, and are `files'` and `report'` after it. Promises nothing if contents aren't visible to the proof. The
--- contract of `merge_of` states it.
+-- contract of `merge_of` states it. `r`, `f` and `p` give the proof's view of the files and the report.
 abbrev pub ComesToMerge : {F P : Type 0} → Ghosts F → writing.Ghosts F → ReportGhosts P → F → F → P → P → Result Status CommandEnd → MergeWords → Type 0
 ComesToMerge r f p files files' report report' result words =
     IfVisible (f.names files) (λ world. Fulfils r f p files files' report report' result (merge_verdict world words))

@@ -29,7 +29,7 @@ use Rattle.mkv_merge.specs.declared.refusal.MergeEnd.TheVariants.{Refused, Stopp
 use Rattle.mkv_merge.specs.declared.refusal.Refusal.{Refusal}
 
 -- The live files with the IDs `list` have the contents `contents`, and these are visible to the proof. Used by `IfAllTold`, in the contracts of the
--- stages of `merge`.
+-- stages of `merge`. `f` gives the proof's view of the files.
 abbrev pub AreTold : LiveFiles → List FileId → List (List ℕ) → Type 0
 AreTold f list contents = files.contents_of f.content list ≡ map Some contents
 
@@ -68,12 +68,13 @@ abbrev pub reads_in : List Input → List InputRead
 reads_in inputs = map read_in inputs
 
 -- The input number `input`, counted from 0, with the content `bytes` was read as expected, or refused. `held` is the size in bytes of the records of
--- the inputs before it. `webm` is true for a WebM output. The contract of `read_one` states it.
+-- the inputs before it. `webm` is true for a WebM output. The contract of `read_one` states it. `words` are the options of the input, and `result` is
+-- what the call returned.
 abbrev pub ReadsOne : ℕ → FileWords → Bool → ℕ → List ℕ → Result Input MergeEnd → Type 0
 ReadsOne input words webm held bytes result = ReadsAs read_in (numbered input (input_of words webm held bytes)) result
 
 -- The inputs of `words` with the contents `contents` were read as expected, or the first refusal was found, or reading was stopped. The contract of
--- `read_inputs` states it.
+-- `read_inputs` states it. `result` is what the call returned.
 abbrev pub ReadsEach : MergeWords → List (List ℕ) → Result (List Input) MergeEnd → Type 0
 ReadsEach words contents result = ReadsAs reads_in (inputs_of words contents) result
 
@@ -82,14 +83,14 @@ abbrev pub sources_from : List (List ℕ) → List Input → List Source
 sources_from contents inputs = zip contents (reads_in inputs)
 
 -- The inputs are read from the live files `list`, one from each, and no append offset is greater than a link's may be. A part of `IsPrepared`, in the
--- contracts of the stages of `merge`.
+-- contracts of the stages of `merge`. `f` gives the proof's view of the files, and `inputs` are the inputs that were read.
 pub record AreInputsOf (f : LiveFiles) (list : List FileId) (inputs : List Input) : Type 0 where
   pub good : All (IsInput f) inputs
   pub of : map (λ (i : Input). i.file) inputs ≡ list
   pub places : All HasPlace inputs
 
 -- Each input has an append offset exactly if its file, the one of `files` at its index, is appended. It is 0: no end is known yet. The contract of
--- `read_inputs` states it.
+-- `read_inputs` states it. `inputs` are the inputs that were read.
 abbrev pub AreUnmoved : List FileWords → List Input → Type 0
 AreUnmoved files inputs = map (λ (i : Input). i.shift) inputs ≡ map unmoved files
 

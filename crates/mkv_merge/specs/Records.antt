@@ -35,7 +35,7 @@ pub record HaveRecords (words : MergeWords) (sources : List Source) : Type 0 whe
   pub numbers : Have64Bits (identifiers_of words.order (reads_of sources))
 
 -- None of the outputs of `sources` is longer than a file may be. A part of `CanBeReadAgain`, in the promise that the outputs of `merge` can be read
--- again.
+-- again. `words` are the options of the merge.
 abbrev pub AreShort : MergeWords → List Source → Type 0
 AreShort words sources = All (λ (o : PlannedOutput). IsShort o.document) (outputs_of words sources)
 
@@ -46,6 +46,6 @@ pub record CanBeReadAgain (words : MergeWords) (sources : List Source) : Type 0 
   pub short : AreShort words sources
 
 -- The outputs of the merge `words` can be read again, if it ended with a status and wasn't refused. `found` has its sources or its refusal. The
--- contract of `merge_of` states it.
+-- contract of `merge_of` states it. `result` is what the call returned.
 abbrev pub EndsReadable : MergeWords → Result (List Source) Refusal → Result Status CommandEnd → Type 0
 EndsReadable words found result = IfOk result (λ _. IfOk found (CanBeReadAgain words))

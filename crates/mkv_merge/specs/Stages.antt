@@ -34,7 +34,8 @@ use Rattle.mkv_merge.specs.declared.refusal.Refusal.{Refusal}
 -- ---- writing of a plan
 
 -- `write` ended with `result`, and has the outcome of the merge `words` of `inputs`, or was stopped on the way to it. The inputs were read from the
--- live files `list`. The states are `files` and `report` before it, `files'` and `report'` after it. The contract of `write` states it.
+-- live files `list`. The states are `files` and `report` before it, `files'` and `report'` after it. The contract of `write` states it. `r`, `f` and
+-- `p` give the proof's view of the files and the report.
 abbrev pub ReachesPlanned : {F P : Type 0} → Ghosts F → writing.Ghosts F → ReportGhosts P → F → F → P → P → MergeWords → List FileId → List Input → Result Status CommandEnd → Type 0
 ReachesPlanned r f p files files' report report' words list inputs result = IfAllTold r files list (λ contents.
     Fulfils r f p files files' report report' result (merged_verdict words (sources_from contents inputs)))
@@ -45,7 +46,8 @@ abbrev pub ReadsPlanned : {S : Type 0} → Ghosts S → S → S → List FileId 
 ReadsPlanned r old new list plan = ReadsUpTo r old new (most_planned plan (live_size r old list))
 
 -- If the merge `words` ended with a status, no output of `inputs` is longer than a file may be. They were read from the live files `list`. The
--- contract of `write` states it. `r` and `f` give the proof's view of the files.
+-- contract of `write` states it. `r` and `f` give the proof's view of the files. The states are `files` before the call and `files'` after it, and
+-- `result` is what it returned.
 abbrev pub EndsShort : {S : Type 0} → Ghosts S → writing.Ghosts S → S → MergeWords → List FileId → List Input → Result Status CommandEnd → Type 0
 EndsShort r f files words list inputs result = IfVisible (f.names files) (λ world. IfAllTold r files list (λ contents.
     IfOk result (λ _. AreShort words (sources_from contents inputs))))
@@ -53,12 +55,12 @@ EndsShort r f files words list inputs result = IfVisible (f.names files) (λ wor
 -- ---- a merge up to its result, before a refusal is printed
 
 -- the refusals of a merge before its inputs are read. The causes are a missing text file in `texts` and a pending edit in `world`; all inputs exist.
--- For `MergesThere`.
+-- For `MergesThere`. `words` are the options of the merge.
 abbrev pub refusals_begun : (List ℕ → Option (List ℕ)) → MergeWords → TextFiles → List (Option Refusal)
 refusals_begun world words texts = missing_text texts ∷ pending_of world words ∷ []
 
 -- the first refusal of a merge before its inputs are read. The causes are a missing text file in `texts` and a pending edit in `world`; all inputs
--- exist. The contract of the function of the same name states it.
+-- exist. The contract of the function of the same name states it. `words` are the options of the merge.
 abbrev pub begun_refusal : (List ℕ → Option (List ℕ)) → MergeWords → TextFiles → Option Refusal
 begun_refusal world words texts = option_or (missing_text texts) (pending_of world words)
 
@@ -68,7 +70,7 @@ abbrev pub as_command : Result Status MergeEnd → Result Status CommandEnd
 as_command result = end_as (λ s. s) (λ why. status.Refused) result
 
 -- A merge with the sources or the refusal `found` changed files and report from `old` to `new`. It has its outcome, or was stopped on the way. Or
--- `found` is its refusal, and nothing was printed or written. Used by `MergesTo`.
+-- `found` is its refusal, and nothing was printed or written. Used by `MergesTo`. `words` are the options of the merge.
 abbrev pub Leads : Seen → Seen → MergeWords → Result (List Source) Refusal → Result Status MergeEnd → Type 0
 Leads old new words found (Ok s) = Reaches old new (Ok s) (verdict_of words found)
 Leads old new words found (Err (Refused why)) = (found ≡ Err why) × (new.lines ≡ old.lines) × (new.names ≡ old.names)
@@ -82,7 +84,9 @@ pub record MergesTo {F P : Type 0} (r : Ghosts F) (f : writing.Ghosts F) (p : Re
   pub octets : ReadsUpTo r files files' most
 
 -- The merge `words` of the live files `list` with the text files `texts` ended as the definitions expect, or was stopped on the way. Its outputs can
--- be read again, and it reads no more bytes than `most_of` and `most_looked` give. The contract of `merge_opened` states it.
+-- be read again, and it reads no more bytes than `most_of` and `most_looked` give. The contract of `merge_opened` states it. `r`, `f` and `p` give
+-- the proof's view of the files and the report, which are `files` and `report` before the call and `files'` and `report'` after it. `result` is what
+-- it returned.
 abbrev pub MergesThere : {F P : Type 0} → Ghosts F → writing.Ghosts F → ReportGhosts P → F → F → P → P → MergeWords → TextFiles → List FileId → Result Status MergeEnd → Type 0
 MergesThere r f p files files' report report' words texts list result = IfVisible (f.names files) (λ world.
     IfBothTold r files (own_ids words list) (attached_ids words list) (λ contents attached.
@@ -91,7 +95,8 @@ MergesThere r f p files files' report report' words texts list result = IfVisibl
     MergesTo r f p files files' report report' words found most result))
 
 -- The merge of the files that `words` names ended with its result or its refusal, or was stopped on the way. Its outputs can be read again, and it
--- reads no more bytes than `most_read` gives. The contract of `merge_named` states it.
+-- reads no more bytes than `most_read` gives. The contract of `merge_named` states it. `r`, `f` and `p` give the proof's view of the files and the
+-- report, which are `files` and `report` before the call and `files'` and `report'` after it. `result` is what it returned.
 abbrev pub MergesNamed : {F P : Type 0} → Ghosts F → writing.Ghosts F → ReportGhosts P → F → F → P → P → MergeWords → Result Status MergeEnd → Type 0
 MergesNamed r f p files files' report report' words result = IfVisible (f.names files) (λ world.
     MergesTo r f p files files' report report' words (sources_of world words) (most_read world words) result)

@@ -83,6 +83,6 @@ timed_from files input [] = []
 timed_from files input (i ∷ is) = with_listings (listings_at input files) i ∷ timed_from files (suc input) is
 
 -- all inputs with the timestamps that `files` give them, or the refusal if one of the files is refused. The contract of the function of the same name
--- states it.
+-- states it. `reads` are the inputs as they were read.
 abbrev pub with_times : List TimesFile → List InputRead → Result (List InputRead) Refusal
 with_times files reads = unless (times_refusal files) (timed_from files 0 reads)

@@ -51,15 +51,16 @@ abbrev pub wrote_lines : List Written → List (List ℕ)
 wrote_lines outputs = map (λ (w : Written). wrote_blocks_line w.name w.blocks) outputs
 
 -- the messages about the outputs in the summary `s`, and then the warnings about damage of the inputs. The contract of `tell_outputs` states it.
+-- `words` are the options of the merge.
 abbrev pub told_outputs : MergeWords → Summary → List (List ℕ)
 told_outputs words s = wrote_lines s.outputs ++ warnings_from s 0 words.files
 
 -- the messages after the outputs in the summary `s` are written: the outputs, the damage of the inputs, and the number of segment identifiers. The
--- contract of `tell` states it.
+-- contract of `tell` states it. `words` are the options of the merge.
 abbrev pub told_summary : MergeWords → Summary → List (List ℕ)
 told_summary words s = told_outputs words s ++ uuid_lines words (length s.outputs)
 
 -- the status of a merge whose messages are all printed; `absent` holds if an option names a track that its input lacks. The contract of `tell` states
--- it.
+-- it. `words` are the options of the merge, and `s` is the summary of its outputs.
 abbrev pub told_status : MergeWords → Bool → Summary → Status
 told_status words absent s = warned_if (is_warned absent s || has_other_count words (length s.outputs))

@@ -19,7 +19,7 @@ use Rattle.mkv_generate.specs.Asked.{IsBesidesGenerate}
 use Rattle.mkv_generate.specs.Generate.{names_of}
 
 -- The command doesn't ask for `asked`, a call that opens or creates a name. An edit in place opens its file on the disk, and asks for nothing here.
--- Nor do help and the version. For the promise that a run opens and creates no other name.
+-- Nor do help and the version. For the promise that a run opens and creates no other name. Used by `IsBesidesAfter` and `AsksToObey`.
 abbrev pub IsNotRequested : Command → Asked → Type 0
 IsNotRequested (Info file) asked = IsNotAmong (with_sidecar file) [] asked
 IsNotRequested (Identify file) asked = IsNotAmong (with_sidecar file) [] asked

@@ -33,6 +33,7 @@ pub record RunSeen : Type 0 where
   pub disk : DiskFaults
 
 -- the state of `files`, `disk` and the report `said`, as plain values. The ghost arguments show them to the proof. For the contracts of a run.
+-- `files_reads`, `files_own`, `disk_reads` and `disk_own` are those of the files and the disk.
 abbrev pub run_seen : {F D R : Type 0} → ReadsGhosts F → FilesGhosts F → ReadsGhosts D → DiskGhosts D → ReportGhosts R → F → D → R → RunSeen
 run_seen files_reads files_own disk_reads disk_own report files disk said = record {
   seen = seen files_reads files_own.writing_faults files_own.names report files said;

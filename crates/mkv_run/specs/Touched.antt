@@ -36,7 +36,8 @@ reach_of (Extract file job) = files
 reach_of (Propedit file edits) = edited file edits
 reach_of (Merge words) = files
 
--- the objects that a command line works on, as parsed; a refused one works on nothing. For the promises of a run about changes and crashes.
+-- the objects that a command line works on, as parsed; a refused one works on nothing. For the promises of a run about changes and crashes. The
+-- contracts of a run by words use it.
 abbrev pub reach_in : Result Command Usage → Reach
 reach_in (Ok command) = reach_of command
 reach_in (Err usage) = nothing
@@ -66,7 +67,7 @@ abbrev pub Touched : {F D : Type 0} → reads.Ghosts D → disks.Ghosts D → Re
 Touched r d reach old new disk disk_now result = Touches r d reach old new disk disk_now (status_of result)
 
 -- A file was `M` with the journal `S`. A crash at any moment of a command with the status `e` may leave the contents `m` and `s` of the two. For the
--- promise of a run about a crash.
+-- promise of a run about a crash. Used by `CrashLeaves`.
 abbrev pub LeftOnTheWay : Reach → Status → List ℕ → List ℕ → List ℕ → List ℕ → Type 0
 LeftOnTheWay nothing e M S m s = (m ≡ M) × (s ≡ S)
 LeftOnTheWay files e M S m s = (m ≡ M) × (s ≡ S)

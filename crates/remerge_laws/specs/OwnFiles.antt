@@ -21,7 +21,7 @@ pub record IsNumbered (n : Node) : Type 0 where
   pub one : part FILE_UID (children n) ≡ uint_leaf FILE_UID uid ∷ []
 
 -- the AttachedFiles that a merge writes for attached files of the content `bytes`, each with its data; the second list has their FileUIDs and the
--- third the files. `OwnFilesStay` compares them with the ones of the first merge.
+-- third the files. `OwnFilesStay` compares them with the ones of the first merge. `files` are these files.
 abbrev pub written_files : List ℕ → List ℕ → List AttachedFile → List Node
 written_files bytes [] files = []
 written_files bytes (uid ∷ uids) [] = []

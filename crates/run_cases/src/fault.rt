@@ -29,7 +29,7 @@ impl Fault {
 }
 
 impl fmt::Display for Fault {
-    /// Writes the reason as a case's result prints it.
+    /// Writes the reason as a case's result prints it. Used by the test of the worked cases.
     fn fmt<W: fmt::Write>(&self, f: &mut fmt::Formatter<W>) -> fmt::Result {
         match self {
             Fault::Memory => write!(f, "no memory"),
@@ -44,7 +44,7 @@ impl From<AllocError> for Fault {
 
     ghost from_gives = { λ _ fault. fault ≡ Memory };
 
-    /// Returns the reason of a case that fails when memory ran out.
+    /// Returns the reason of a case that fails when memory ran out. Used by `?` in the test of the worked cases.
     fn from(_: AllocError) -> Fault {
         Fault::Memory
     }
@@ -55,7 +55,8 @@ impl<T: Drop> From<AllocFailed<T>> for Fault {
 
     ghost from_gives = { λ _ fault. fault ≡ Memory };
 
-    /// Returns the reason of a case that fails when memory ran out for a value.
+    /// Returns the reason of a case that fails when memory ran out for a value. Used by `?` in the test of the worked
+    /// cases.
     fn from(_: AllocFailed<T>) -> Fault {
         Fault::Memory
     }
