@@ -1,5 +1,5 @@
 -- The result of the command.
-use Rattle.std.proofs.Common.{◌≡◌, ℕ, List, [], ◌∷◌, ◌++◌, Option, Result, Ok, Err, IfOk, inl, refl, sym, ◌∙◌, ap, subst, arith}
+use Rattle.std.proofs.Common.{◌≡◌, ℕ, List, [], ◌++◌, Option, Result, Ok, Err, IfOk, inl, refl, sym, ◌∙◌, ap, subst, arith}
 use Rattle.mkv_io.specs.Faults.{HasIncreased}
 use Rattle.mkv_io.specs.Lines.{with_lines}
 use Rattle.mkv_io.specs.declared.reads.Reads.{Ghosts}
