@@ -1,8 +1,8 @@
 -- Results that don't depend on the timestamps that files list.
-use Rattle.std.proofs.Common.{◌≡◌, ℕ, ◌+◌, List, [], ◌∷◌, length, map, Option, refl, sym, ap, ap₂, ◌∙◌}
+use Rattle.std.proofs.Common.{◌≡◌, ℕ, ◌+◌, List, [], ◌∷◌, ◌++◌, length, map, Option, refl, sym, ap, ap₂, ◌∙◌}
 use Rattle.std.specs.List.{enumerate_from, zip}
 use Rattle.std.specs.Option.{option_map, option_or}
-use Rattle.std.proofs.lemmas.List.{length-map, map-id}
+use Rattle.std.proofs.lemmas.List.{length-map, map-append, map-id}
 use Rattle.std.proofs.lemmas.List.Folds.{flat_map-map}
 use Rattle.record_changes.specs.Identifiers.{renumbered}
 use Rattle.meta_records.specs.Attached.{AttachedFile}
@@ -14,8 +14,9 @@ use Rattle.merge_plan.specs.Appending.{difference_at, differs_at, differs_from, 
 use Rattle.merge_plan.specs.Chains.{lanes_by}
 use Rattle.merge_plan.specs.declared.appending.AppendDiffers.{AppendDiffers}
 use Rattle.merge_plan.specs.Front.{attached_from, attachments_of, file_uids, files_in, reads_of}
-use Rattle.merge_plan.specs.Plan.{Source, given_of, inputs_given, lanes_given, numbers_of}
-use Rattle.merge_plan.specs.Records.{first_title, is_appended, kept_anywhere, records_from, records_in, records_of, title_or, tracks_begun, tracks_taken, uids_at, uids_behind, uids_of}
+use Rattle.merge_plan.specs.Order.{in_order}
+use Rattle.merge_plan.specs.Plan.{Source, given_of, inputs_given, inputs_taken, lanes_given, lanes_ordered, numbers_of}
+use Rattle.merge_plan.specs.Records.{LaneUids, first_title, is_appended, kept_anywhere, key_of, keys_from, lane_uids, lanes_with, owner_at, records_from, records_in, records_of, title_or, track_uids_at, tracks_begun, tracks_ordered, tracks_taken, uids_at, uids_of}
 use Rattle.merge_plan.proofs.ChainLemmas.{enumerate-map, lanes-map}
 
 -- an input without the timestamps of files; `bare` is a source without them
@@ -42,25 +43,37 @@ pub titles-bare : (reads : List InputRead) → first_title (map untimed reads) �
 titles-bare [] = refl
 titles-bare (i ∷ is) = ap (title_or i.title) (titles-bare is)
 
-records-each : (before left : List ℕ) (reads : List InputRead) → records_from before left (map kept_anywhere (map untimed reads)) ≡ records_from before left (map kept_anywhere reads)
-records-each before left [] = refl
-records-each before left (i ∷ is) =
-    ap (λ (rest : List InputRecords). records_in (uids_at before left i) (kept_anywhere i) ∷ rest) (records-each (uids_at before left i) (uids_behind left i) is)
+keys-bare : (n : ℕ) (reads : List InputRead) → keys_from n (map untimed reads) ≡ keys_from n reads
+keys-bare n [] = refl
+keys-bare n (i ∷ is) = ap (λ (rest : List (ℕ × ℕ)). map (key_of n) (tracks_begun i) ++ rest) (keys-bare (n + 1) is)
 
-pub records-bare : (reads : List InputRead) → records_of (map untimed reads) ≡ records_of reads
-records-bare reads =
-    ap (λ (taken : List TakenTrack). records_from [] (uids_of taken) (map kept_anywhere (map untimed reads))) (tracks-bare reads)
-    ∙ records-each [] (uids_of (tracks_taken reads)) reads
+pub ordered-bare : (order : List (ℕ × ℕ)) (reads : List InputRead) → tracks_ordered order (map untimed reads) ≡ tracks_ordered order reads
+ordered-bare order reads = ap₂ (λ (keys : List (ℕ × ℕ)) (taken : List TakenTrack). in_order order keys taken) (keys-bare 0 reads) (tracks-bare reads)
+
+records-each : (lanes : LaneUids) (before number : ℕ) (reads : List InputRead)
+    → records_from lanes before number (map kept_anywhere (map untimed reads)) ≡ records_from lanes before number (map kept_anywhere reads)
+records-each lanes before number [] = refl
+records-each lanes before number (i ∷ is) =
+    let owner : ℕ = owner_at before number i in
+    ap (λ (rest : List InputRecords). records_in (track_uids_at lanes owner i) (uids_at lanes owner) (kept_anywhere i) ∷ rest) (records-each lanes owner (number + 1) is)
+
+pub records-bare : (order : List (ℕ × ℕ)) (reads : List InputRead) → records_of order (map untimed reads) ≡ records_of order reads
+records-bare order reads =
+    let lanes : lane_uids order (map untimed reads) ≡ lane_uids order reads = ap₂ (lanes_with order) (keys-bare 0 reads) (ap uids_of (ordered-bare order reads)) in
+    ap (λ (l : LaneUids). records_from l 0 0 (map kept_anywhere (map untimed reads))) lanes ∙ records-each (lane_uids order reads) 0 0 reads
 
 maps-id : {A : Type 0} (xs : List (List A)) → map (map (λ (x : A). x)) xs ≡ xs
 maps-id [] = refl
 maps-id {A = A} (x ∷ xs) = ap₂ (λ (y : List A) (ys : List (List A)). y ∷ ys) (map-id x) (maps-id xs)
 
-pub numbers-bare : (n : ℕ) (reads : List InputRead) → inputs_given n (map untimed reads) ≡ inputs_given n reads
-numbers-bare n reads =
+numbers-given : (n : ℕ) (reads : List InputRead) → inputs_given n (map untimed reads) ≡ inputs_given n reads
+numbers-given n reads =
     ap (lanes_by (λ (each : ℕ × InputRead). is_appended each.1) numbers_of) (enumerate-map untimed n reads)
     ∙ lanes-map (λ (each : ℕ × InputRead). is_appended each.1) numbers_of (λ (each : ℕ × InputRead). (each.0, untimed each.1)) numbers_of (λ (m : ℕ). m) (λ each. sym (map-id (numbers_of each))) (enumerate_from n reads)
     ∙ maps-id (inputs_given n reads)
+
+pub numbers-bare : (order : List (ℕ × ℕ)) (reads : List InputRead) → inputs_taken order (map untimed reads) ≡ inputs_taken order reads
+numbers-bare order reads = ap₂ (λ (keys : List (ℕ × ℕ)) (numbers : List (List ℕ)). in_order order keys numbers) (keys-bare 0 reads) (numbers-given 0 reads)
 
 -- ---- results of sources
 
@@ -87,8 +100,8 @@ lanes-seen sources =
     ∙ lanes-map (λ (p : Source × List Given). is_appended p.0.1) (λ (p : Source × List Given). p.1) (λ (s : Source). (bare s, given_of s)) given_of (λ (g : Given). g) (λ s. sym (map-id (given_of s))) sources
     ∙ maps-id (lanes_given sources)
 
-pub lanes-same : (new old : List Source) → AreAlike new old → lanes_given new ≡ lanes_given old
-lanes-same new old are =
+given-same : (new old : List Source) → AreAlike new old → lanes_given new ≡ lanes_given old
+given-same new old are =
     sym (lanes-seen new)
     ∙ ap₂ (λ (bares : List Source) (given : List (List Given)). lanes_by (λ (p : Source × List Given). is_appended p.0.1) (λ (p : Source × List Given). p.1) (zip bares given)) are.bare are.given
     ∙ lanes-seen old
@@ -106,3 +119,16 @@ length-same new old are = sym (length-map new bare) ∙ ap length are.bare ∙ l
 module _ {X : Type 0} (f : List InputRead → X) (whatever : (reads : List InputRead) → f (map untimed reads) ≡ f reads) where
   pub same-of : (new old : List InputRead) → map untimed new ≡ map untimed old → f new ≡ f old
   same-of new old are = sym (whatever new) ∙ ap f are ∙ whatever old
+
+-- The output tracks are the same, in the order of the output.
+pub lanes-same : (order : List (ℕ × ℕ)) (new old : List Source) → AreAlike new old → lanes_ordered order new ≡ lanes_ordered order old
+lanes-same order new old are =
+    ap₂ (λ (keys : List (ℕ × ℕ)) (lanes : List (List Given)). in_order order keys lanes)
+    (same-of (keys_from 0) (keys-bare 0) (reads_of new) (reads_of old) (reads-same new old are)) (given-same new old are)
+
+-- More sources after them change nothing of it.
+pub alike-append : (new old more : List Source) → AreAlike new old → AreAlike (new ++ more) (old ++ more)
+alike-append new old more are = record {
+  bare = map-append bare new more ∙ ap (λ (l : List Source). l ++ map bare more) are.bare ∙ sym (map-append bare old more);
+  given = map-append given_of new more ∙ ap (λ (l : List (List Given)). l ++ map given_of more) are.given ∙ sym (map-append given_of old more);
+}

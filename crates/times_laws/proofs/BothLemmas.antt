@@ -17,8 +17,8 @@ both-then P Q (Ok a) (Err why) f g both more = absurd both
 both-then P Q (Err why) (Ok b) f g both more = absurd both
 both-then P Q (Err why) (Err because) f g both more = both
 
-pub both-unless : {A : Type 0} (P : A → A → Type 0) (o p : Option Refusal) (x y : A) → o ≡ p → P x y → Both P (unless o x) (unless p y)
-both-unless P None None x y same is = is
+pub both-unless : {A : Type 0} (P : A → A → Type 0) (o p : Option Refusal) (x y : A) → o ≡ p → (p ≡ None → P x y) → Both P (unless o x) (unless p y)
+both-unless P None None x y same is = is refl
 both-unless P None (Some why) x y same is = absurd (cc)
 both-unless P (Some why) None x y same is = absurd (cc)
 both-unless P (Some why) (Some because) x y same is = cc
