@@ -1,5 +1,5 @@
 -- The Chapters of an output are merged again as they were.
-use Rattle.std.proofs.Common.{◌≡◌, ℕ, ◌+◌, ◌==◌, true, false, List, [], ◌∷◌, ◌++◌, length, map, filter, flat_map, All, Option, None, Some, IfSome, refl, sym, ap, subst, ◌∙◌, append-nil, arith, option_map}
+use Rattle.std.proofs.Common.{◌≡◌, ◌<◌, ◌^◌, ℕ, ◌+◌, ◌==◌, true, false, List, [], ◌∷◌, ◌++◌, length, map, filter, flat_map, All, Option, None, Some, IfSome, refl, sym, ap, subst, ◌∙◌, append-nil, arith, option_map}
 use Rattle.std.proofs.lemmas.Bool.{eqb-true}
 use Rattle.std.proofs.lemmas.List.{length-map}
 use Rattle.std.proofs.lemmas.List.Elements.{All-nil, All-cons, All-head, All-tail, All-weaker, filter_passes}
@@ -19,6 +19,7 @@ use Rattle.record_laws.specs.Chapters.{AreChapters, ChaptersStay, chapter_number
 use Rattle.output_records.specs.Chapters.{joined_chapters, later}
 use Rattle.output_records.specs.Inputs.{children_in, uids_in, unless_empty, with_some}
 use Rattle.merge_inputs.specs.Input.{InputRead}
+use Rattle.merge_plan.proofs.OrderedLemmas.{chapters-same as chapters-free, editions-same as editions-free}
 use Rattle.merge_plan.specs.Records.{chapters_of, records_of}
 use Rattle.remerge_laws.specs.AgainChapters.{ChaptersAreAlikeAgain, HasChaptersOf}
 use Rattle.remerge_laws.specs.Alike.{MayBeAlike}
@@ -50,9 +51,9 @@ all-editions ns =
 
 -- ---- the Chapters
 
-module _ (stay : ChaptersStay) (reads : List InputRead) (again : InputRead) (has : HasChaptersOf reads again) where
+module _ (stay : ChaptersStay) (order : List (ℕ × ℕ)) (reads : List InputRead) (again : InputRead) (has : HasChaptersOf order reads again) where
   abbrev joined : Node
-  joined = joined_chapters (records_of reads)
+  joined = joined_chapters (records_of [] reads)
 
   abbrev list : List Node
   list = numbered_editions (edition_numbers joined) (chapter_numbers joined) 0 0 (editions_of joined)
@@ -69,7 +70,12 @@ module _ (stay : ChaptersStay) (reads : List InputRead) (again : InputRead) (has
       of (n ∷ ns) is record_of = editions-masters (edition_numbers joined) (chapter_numbers joined) 0 0 (editions_of joined) (all-editions (children joined)) record_of.sound
 
   are : AreChapters joined
-  are = record { master = refl; editions = masters; edition_numbers = has.short.editions; chapter_numbers = has.short.chapters }
+  are = record {
+    master = refl;
+    editions = masters;
+    edition_numbers = subst (All (λ v. v < 2 ^ 64)) (editions-free order reads) has.short.editions;
+    chapter_numbers = subst (All (λ v. v < 2 ^ 64)) (chapters-free order reads) has.short.chapters;
+  }
 
   own : OwnChaptersStay
   own = own-chapters stay
@@ -141,7 +147,9 @@ module _ (stay : ChaptersStay) (reads : List InputRead) (again : InputRead) (has
 
 pub chapters-again : ChaptersStay → ChaptersAreAlikeAgain
 chapters-again stay = record {
-  editions = λ reads again has. editions-same stay reads again has (editions_of (joined_chapters (records_of reads))) refl again.chapters (stand-so stay reads again has);
-  chapters = λ reads again has. chapters-same stay reads again has (editions_of (joined_chapters (records_of reads))) refl again.chapters (stand-so stay reads again has);
-  alike = λ reads again has. chapters-alike stay reads again has;
+  editions = λ order reads again has.
+      editions-same stay order reads again has (editions_of (joined_chapters (records_of [] reads))) refl again.chapters (stand-so stay order reads again has) ∙ sym (editions-free order reads);
+  chapters = λ order reads again has.
+      chapters-same stay order reads again has (editions_of (joined_chapters (records_of [] reads))) refl again.chapters (stand-so stay order reads again has) ∙ sym (chapters-free order reads);
+  alike = λ order reads again has. chapters-alike stay order reads again has;
 }

@@ -23,8 +23,10 @@ use Rattle.ext_times.specs.Listing.{Listing}
 use Rattle.merge_inputs.specs.Input.{BlocksRead, Clusters, InputRead, events_by}
 use Rattle.merge_inputs.specs.declared.taken.TakenTrack.{TakenTrack}
 use Rattle.merge_plan.specs.Chains.{columns_from}
+use Rattle.merge_plan.specs.Records.{keys_from}
+use Rattle.merge_plan.proofs.OrderLemmas.{in_order-all, in_order-map}
 use Rattle.requests.specs.declared.merge.MergeWords.{MergeWords}
-use Rattle.merge_plan.specs.Plan.{Source, given_from, inputs_given, lanes_given, lanes_taken}
+use Rattle.merge_plan.specs.Plan.{Source, given_from, inputs_taken, lanes_given, lanes_taken}
 use Rattle.merge_plan.specs.Front.{reads_of}
 use Rattle.mkv_io.specs.Lists.{is_some_of}
 use Rattle.mkv_merge.specs.Merge.{has_damage, links_met}
@@ -152,15 +154,20 @@ module _ (d : Document) (again : InputRead) (is : IsReadOfOutput d again) where
 
   all-undamaged : (words : MergeWords) → All IsUndamaged (lanes_taken words ((layout d, again) ∷ []))
   all-undamaged words =
+      let keys : List (ℕ × ℕ) = keys_from 0 (again ∷ []) in
+      let lanes : List (List Given) = lanes_given ((layout d, again) ∷ []) in
+      let each : All IsUndamaged (map (map (going_on words.append_damaged)) lanes) =
       subst (λ (gss : List (List Given)). All IsUndamaged (map (map (going_on words.append_damaged)) gss)) (sym own-given)
-      (given-undamaged words.append_damaged (header_of_segment d) own_scale (layout d) again.taken (ap damages_of own-events ∙ no-damages (blocks_of_document d)))
+      (given-undamaged words.append_damaged (header_of_segment d) own_scale (layout d) again.taken (ap damages_of own-events ∙ no-damages (blocks_of_document d))) in
+      subst (All IsUndamaged) (sym (in_order-map (map (going_on words.append_damaged)) words.order keys lanes))
+      (in_order-all IsUndamaged words.order keys (map (map (going_on words.append_damaged)) lanes) each)
 
   none-damaged : (words : MergeWords) → has_damage words ((layout d, again) ∷ []) ≡ false
   none-damaged words =
       let sources : List Source = (layout d, again) ∷ [] in
       ap (λ (ds : List Damage). is_some_of ds || false)
-      (found-whole (λ (link : ℕ × List Damage). link.0 == 0) (links_met (inputs_given 0 (reads_of sources)) (lanes_taken words sources))
-      (links-whole (inputs_given 0 (reads_of sources)) (lanes_taken words sources) (all-undamaged words)))
+      (found-whole (λ (link : ℕ × List Damage). link.0 == 0) (links_met (inputs_taken words.order (reads_of sources)) (lanes_taken words sources))
+      (links-whole (inputs_taken words.order (reads_of sources)) (lanes_taken words sources) (all-undamaged words)))
 
 pub lanes-merged : LanesAreReadAgain → LanesAreMergedAgain
 lanes-merged stay = record {

@@ -52,12 +52,12 @@ use Rattle.merge_inputs.specs.Taken.{IsTaken, first_unusable, taken_from}
 use Rattle.merge_inputs.specs.declared.taken.TakenTrack.{TakenTrack}
 use Rattle.merge_inputs.proofs.TakenLemmas.{taken-tracks}
 use Rattle.merge_laws.proofs.SourceLemmas.{taken-all}
-use Rattle.merge_plan.specs.Records.{change_of, chapters_of, entries_from, entry_of, tags_of, tracks_of_output, tracks_taken, uids_of}
+use Rattle.merge_plan.specs.Records.{change_of, chapters_of, entries_from, entry_of, tags_of, tracks_of_output, tracks_ordered, tracks_taken, uids_of}
 use Rattle.merge_plan.specs.Records.{entries_of as entries_given}
-use Rattle.merge_plan.specs.Refusal.{lanes_refusal, no_lane, not_webm, plan_refusal, records_refusal, too_many_lanes, where_so}
+use Rattle.merge_plan.specs.Refusal.{count_refusal, lanes_refusal, no_lane, not_webm, plan_refusal, records_refusal, too_many_lanes, where_so}
 use Rattle.merge_plan.specs.declared.refusal.PlanRefusal.{PlanRefusal}
 use Rattle.merge_plan.specs.declared.refusal.PlanRefusal.TheVariants.{HeaderTooLarge, NoLane, TooManyLanes}
-use Rattle.merge_plan.proofs.RecordLemmas.{length-uids}
+use Rattle.merge_plan.proofs.RecordLemmas.{length-uids, ordered-count}
 use Rattle.merge_laws.proofs.EntryLemmas.{CanBeSet, first-kept, written-whole}
 use Rattle.merge_laws.proofs.TracksLemmas.{all-low, all-stand}
 use Rattle.remerge_laws.specs.Again.{HasIdentifiersOf}
@@ -213,40 +213,40 @@ tracks-tree name tracks read is plain_tracks are few small =
 
 -- ---- number of output tracks
 
-lanes-again : (webm : Bool) (taken again : List TakenTrack) → length again ≡ length taken → lanes_refusal webm taken ≡ None → lanes_refusal false again ≡ None
-lanes-again webm taken again many good =
-    let behind : Option PlanRefusal = option_or (too_many_lanes taken) (not_webm webm taken) in
-    let some : no_lane taken ≡ None = first-none (no_lane taken) behind good in
-    let few : too_many_lanes taken ≡ None = first-none (too_many_lanes taken) (not_webm webm taken) (second-none (no_lane taken) behind good) in
-    ap₂ (λ (a b : Option PlanRefusal). option_or a (option_or b None))
+lanes-again : (webm : Bool) (taken sorted again again_sorted : List TakenTrack) → length again ≡ length taken → lanes_refusal webm taken sorted ≡ None → lanes_refusal false again again_sorted ≡ None
+lanes-again webm taken sorted again again_sorted many good =
+    let counted : count_refusal taken ≡ None = first-none (count_refusal taken) (not_webm webm sorted) good in
+    let some : no_lane taken ≡ None = first-none (no_lane taken) (too_many_lanes taken) counted in
+    let few : too_many_lanes taken ≡ None = second-none (no_lane taken) (too_many_lanes taken) counted in
+    ap₂ (λ (a b : Option PlanRefusal). option_or (option_or a b) None)
     (ap (λ (n : ℕ). where_so (n == 0) NoLane) many ∙ some) (ap (λ (n : ℕ). where_so (nat_lt MAX_LANES n) TooManyLanes) many ∙ few)
 
--- The input `again` has records like the records of a merge of `reads`.
-pub record AreAgain (reads : List InputRead) (again : InputRead) : Type 0 where
-  pub tracks : IsRecord TRACKS (tracks_of_output reads)
+-- The input `again` has records like the records of a merge of `reads` with its output tracks in the order `order`.
+pub record AreAgain (order : List (ℕ × ℕ)) (reads : List InputRead) (again : InputRead) : Type 0 where
+  pub tracks : IsRecord TRACKS (tracks_of_output order reads)
   pub chapters : IfSome (chapters_of reads) (IsRecord CHAPTERS)
-  pub tags : IfSome (tags_of reads) (IsRecord TAGS)
-  pub tree : IsTree TRACKS (tracks_of_output (again ∷ []))
+  pub tags : IfSome (tags_of order reads) (IsRecord TAGS)
+  pub tree : IsTree TRACKS (tracks_of_output [] (again ∷ []))
   pub chapters_stand : MayStandAs (chapters_of reads) again.chapters
-  pub tags_stand : MayStandAs (tags_of reads) again.tags
-  pub tracks_alike : AreAlike (tracks_of_output reads) (tracks_of_output (again ∷ []))
+  pub tags_stand : MayStandAs (tags_of order reads) again.tags
+  pub tracks_alike : AreAlike (tracks_of_output order reads) (tracks_of_output [] (again ∷ []))
   pub chapters_alike : MayBeAlike (chapters_of reads) (chapters_of (again ∷ []))
-  pub tags_alike : MayBeAlike (tags_of reads) (tags_of (again ∷ []))
+  pub tags_alike : MayBeAlike (tags_of order reads) (tags_of [] (again ∷ []))
 
 -- ---- an input with the identifiers of a merge
 
-module _ (reads : List InputRead) (again : InputRead) (short : Have64Bits (identifiers_of reads)) (has : HasIdentifiersOf reads again) where
+module _ (words : MergeWords) (reads : List InputRead) (again : InputRead) (short : Have64Bits (identifiers_of words.order reads)) (has : HasIdentifiersOf words.order reads again) where
   abbrev alone : InputRecords
-  alone = one reads again has
+  alone = one words.order reads again has
 
   -- It has equally many tracks, and they keep their identifiers.
   again-many : length again.taken ≡ length (tracks_taken reads)
-  again-many = sym (length-map again.taken (λ (t : TakenTrack). t.track.uid)) ∙ ap length has.tracks ∙ length-uids (tracks_taken reads)
+  again-many = sym (length-map again.taken (λ (t : TakenTrack). t.track.uid)) ∙ ap length has.tracks ∙ length-uids (tracks_ordered words.order reads) ∙ ordered-count words.order reads
 
   pub again-small : All Small (uids_of again.taken)
   again-small =
-      let ids : List ℕ = map (λ (t : TakenTrack). t.track.uid) (tracks_taken reads) in
-      subst (All Small) (sym (ap renumbered has.tracks ∙ numbers-settle.stays (uids_of (tracks_taken reads)) (numbers-settle.settled ids))) short.tracks
+      let ids : List ℕ = map (λ (t : TakenTrack). t.track.uid) (tracks_ordered words.order reads) in
+      subst (All Small) (sym (ap renumbered has.tracks ∙ numbers-settle.stays (uids_of (tracks_ordered words.order reads)) (numbers-settle.settled ids))) short.tracks
 
   -- ---- its Chapters
 
@@ -262,49 +262,49 @@ module _ (reads : List InputRead) (again : InputRead) (short : Have64Bits (ident
       let tree : IsTree CHAPTERS joined = joined-tree again.chapters is in
       let low = tree.low in
       let still = chapters-stand editions chapters joined refl refl tree.read.sound
-      (subst (All Small) (sym (own-editions reads again has)) short.editions) (subst (All Small) (sym (own-chapters reads again has)) short.chapters) in
+      (subst (All Small) (sym (own-editions words.order reads again has)) short.editions) (subst (All Small) (sym (own-chapters words.order reads again has)) short.chapters) in
       let shallow = still.shallow in
-      subst (λ (rs : List InputRecords). IfSome (merged_chapters rs) (IsTree CHAPTERS)) (sym (given-one reads again has))
+      subst (λ (rs : List InputRecords). IfSome (merged_chapters rs) (IsTree CHAPTERS)) (sym (given-one words.order reads again has))
       (some-holds (IsTree CHAPTERS) (with_identifiers editions chapters joined)
       (record { read = record { id = still.id; master = still.master; sound = still.sound }; low = omega arith }))
 
   -- ---- its Tags
 
-  written-tree : (t : Option Node) → IfSome t (IsTree TAGS) → IsTree TAGS (master TAGS 0 (nodes_of (written_again reads again has t)))
+  written-tree : (t : Option Node) → IfSome t (IsTree TAGS) → IsTree TAGS (master TAGS 0 (nodes_of (written_again words.order reads again has t)))
   written-tree None is = tree-empty TAGS
   written-tree (Some n) is =
-      let numbers : ℕ → ℕ → Option ℕ = again_numbers reads again has in
+      let numbers : ℕ → ℕ → Option ℕ = again_numbers words.order reads again has in
       let low = is.low in
-      let still = tags-stand keep_all numbers n is.read.master is.read.id is.read.sound (own-small (identifiers_of reads) alone short refl) in
+      let still = tags-stand keep_all numbers n is.read.master is.read.id is.read.sound (own-small (identifiers_of words.order reads) alone short refl) in
       let shallow = still.shallow in
       tree-anew TAGS (written_tags keep_all numbers n) (record { read = record { id = still.id ∙ is.read.id; master = still.master; sound = still.sound }; low = omega arith })
 
-  tags-tree : IfSome again.tags (IsTree TAGS) → IfSome (tags_of (again ∷ [])) (IsTree TAGS)
+  tags-tree : IfSome again.tags (IsTree TAGS) → IfSome (tags_of [] (again ∷ [])) (IsTree TAGS)
   tags-tree is =
-      subst (λ (o : Option Node). IfSome o (IsTree TAGS)) (sym (tags-made reads again has))
-      (some-holds (IsTree TAGS) (master TAGS 0 (nodes_of (written_again reads again has again.tags))) (written-tree again.tags is))
+      subst (λ (o : Option Node). IfSome o (IsTree TAGS)) (sym (tags-made words.order reads again has))
+      (some-holds (IsTree TAGS) (master TAGS 0 (nodes_of (written_again words.order reads again has again.tags))) (written-tree again.tags is))
 
   -- ---- its plan
 
   taken-alone : tracks_taken (again ∷ []) ≡ again.taken
   taken-alone = ap (λ (o : Option ℕ). (if is_some o then [] else again.taken) ++ []) has.alone ∙ append-nil again.taken
 
-  pub plan-again : (words : MergeWords) (out name : List ℕ) → AreAgain reads again → plan_refusal words reads ≡ None → plan_refusal (plain_merge out name) (again ∷ []) ≡ None
-  plan-again words out name are unrefused =
-      let first : Option PlanRefusal = lanes_refusal words.webm (tracks_taken reads) in
-      let lanes : lanes_refusal false (tracks_taken (again ∷ [])) ≡ None =
-      lanes-again words.webm (tracks_taken reads) (tracks_taken (again ∷ [])) (ap length taken-alone ∙ again-many) (first-none first (records_refusal reads) unrefused) in
+  pub plan-again : (out name : List ℕ) → AreAgain words.order reads again → plan_refusal words reads ≡ None → plan_refusal (plain_merge out name) (again ∷ []) ≡ None
+  plan-again out name are unrefused =
+      let first : Option PlanRefusal = lanes_refusal words.webm (tracks_taken reads) (tracks_ordered words.order reads) in
+      let lanes : lanes_refusal false (tracks_taken (again ∷ [])) (tracks_ordered [] (again ∷ [])) ≡ None =
+      lanes-again words.webm (tracks_taken reads) (tracks_ordered words.order reads) (tracks_taken (again ∷ [])) (tracks_ordered [] (again ∷ [])) (ap length taken-alone ∙ again-many) (first-none first (records_refusal words.order reads) unrefused) in
       let chapters : too_large CHAPTERS (chapters_of (again ∷ [])) ≡ too_large CHAPTERS (chapters_of reads) =
       may-large CHAPTERS (chapters_of reads) (chapters_of (again ∷ [])) are.chapters
       (chapters-tree (tree-read CHAPTERS (chapters_of reads) again.chapters are.chapters are.chapters_stand)) are.chapters_alike in
-      let tags : too_large TAGS (tags_of (again ∷ [])) ≡ too_large TAGS (tags_of reads) =
-      may-large TAGS (tags_of reads) (tags_of (again ∷ [])) are.tags
-      (tags-tree (tree-read TAGS (tags_of reads) again.tags are.tags are.tags_stand)) are.tags_alike in
-      let tracks : too_large TRACKS (Some (tracks_of_output (again ∷ []))) ≡ too_large TRACKS (Some (tracks_of_output reads)) =
-      may-large TRACKS (Some (tracks_of_output reads)) (Some (tracks_of_output (again ∷ []))) are.tracks are.tree are.tracks_alike in
-      let records : records_refusal (again ∷ []) ≡ None =
+      let tags : too_large TAGS (tags_of [] (again ∷ [])) ≡ too_large TAGS (tags_of words.order reads) =
+      may-large TAGS (tags_of words.order reads) (tags_of [] (again ∷ [])) are.tags
+      (tags-tree (tree-read TAGS (tags_of words.order reads) again.tags are.tags are.tags_stand)) are.tags_alike in
+      let tracks : too_large TRACKS (Some (tracks_of_output [] (again ∷ []))) ≡ too_large TRACKS (Some (tracks_of_output words.order reads)) =
+      may-large TRACKS (Some (tracks_of_output words.order reads)) (Some (tracks_of_output [] (again ∷ []))) are.tracks are.tree are.tracks_alike in
+      let records : records_refusal [] (again ∷ []) ≡ None =
       ap (λ (o : Option ℕ). option_map HeaderTooLarge o) (ap₂ (λ (a b : Option ℕ). option_or a b) tracks (ap₂ (λ (a b : Option ℕ). option_or a b) chapters tags))
-      ∙ second-none first (records_refusal reads) unrefused in
+      ∙ second-none first (records_refusal words.order reads) unrefused in
       ap₂ (λ (a b : Option PlanRefusal). option_or a b) lanes records
 
 -- ---- tracks that can be used

@@ -1,5 +1,5 @@
 -- An output that is merged by itself is read as the one source of that merge.
-use Rattle.std.proofs.Common.{◌≡◌, ℕ, Bool, true, false, not, ◌&&◌, ◌||◌, if◌then◌else◌, cond, List, [], ◌∷◌, length, zip, Option, Some, None, Result, Ok, refl, ap, ◌∙◌}
+use Rattle.std.proofs.Common.{◌≡◌, ℕ, Bool, true, false, not, ◌&&◌, ◌||◌, if◌then◌else◌, cond, List, [], ◌∷◌, ◌++◌, length, zip, Option, Some, None, Result, Ok, refl, ap, ◌∙◌}
 use Rattle.std.specs.Prelude.{is_none, unwrap_or}
 use Rattle.std.specs.Option.{option_map}
 use Rattle.std.specs.Result.{result_err}
@@ -9,6 +9,7 @@ use Rattle.mkv_schema.specs.Outline.{Outlined, outline_of}
 use Rattle.meta_records.specs.Records.{FileRecords, file_records}
 use Rattle.output_laws.specs.Reading.{header_of_segment, outline_of_document}
 use Rattle.output_model.specs.Document.{Document, layout}
+use Rattle.input_files.specs.Inputs.{first_missing}
 use Rattle.input_files.specs.Names.{begins_ebml, is_srt, is_srt_name}
 use Rattle.input_files.specs.TextFiles.{text_files}
 use Rattle.input_files.specs.declared.text_files.TextFiles.{TextFiles}
@@ -19,20 +20,21 @@ use Rattle.merge_inputs.specs.Taken.{first_unusable, taken_from}
 use Rattle.merge_inputs.specs.declared.input.InputRefusal.{InputRefusal}
 use Rattle.merge_inputs.specs.declared.input.InputRefusal.TheVariants.{Damaged}
 use Rattle.merge_plan.specs.Appending.{append_refusal}
+use Rattle.merge_plan.specs.Attached.{attached_sources}
 use Rattle.merge_plan.specs.Front.{reads_of}
 use Rattle.merge_plan.specs.Places.{in_place}
 use Rattle.merge_plan.specs.Plan.{Source}
 use Rattle.merge_plan.specs.Refusal.{plan_refusal}
 use Rattle.merge_plan.specs.declared.refusal.PlanRefusal.{PlanRefusal}
 use Rattle.mkv_merge.specs.Chapters.{chaptered, chapters_refusal, with_chapters}
-use Rattle.mkv_merge.specs.Merge.{refusals_read, sources_in, sources_of, warned_if, verdict_of}
+use Rattle.mkv_merge.specs.Merge.{attached_refusal, refusals_read, sources_in, sources_of, warned_if, verdict_of}
 use Rattle.requests.specs.Plain.{plain_file}
 use Rattle.mkv_merge.specs.Read.{first_written, found_in, inputs_of, numbered, pending_of}
 use Rattle.mkv_merge.specs.Refused.{first_cause}
 use Rattle.mkv_io.specs.Results.{and_then, unless}
 use Rattle.mkv_merge.specs.Texts.{missing_text, timed_from, times_refusal}
 use Rattle.mkv_merge.specs.declared.refusal.Refusal.{Refusal}
-use Rattle.mkv_merge.specs.declared.refusal.Refusal.TheVariants.{Differs, Missing, OutputIsInput, Plan}
+use Rattle.mkv_merge.specs.declared.refusal.Refusal.TheVariants.{Differs, Missing, MissingAttached, OutputIsInput, Plan}
 use Rattle.remerge_laws.specs.AgainSources.{CanBegin, MergeIsDone, OutputsAreSources}
 use Rattle.remerge_laws.specs.Plain.{merge_again}
 use Rattle.remerge_laws.specs.Repeat.{source_again}
@@ -78,18 +80,18 @@ module _ (world : List ℕ → Option (List ℕ)) (duration : Bool) (out name : 
 
   -- the sources for the one input that was read; below, the refusal of the merge
   abbrev sources_by : List InputRead → List Source
-  sources_by reads = in_place (zip (layout d ∷ []) (timed_from texts.times 0 (chaptered with_chapters false texts.chapters reads)))
+  sources_by reads = in_place (zip (layout d ∷ []) (timed_from texts.times 0 (chaptered with_chapters false texts.chapters reads))) ++ attached_sources false [] []
 
   abbrev refusals_by : Result (List InputRead) Refusal → List (Option Refusal)
   refusals_by found =
-      result_err found ∷ chapters_refusal texts.chapters ∷ times_refusal texts.times
+      result_err found ∷ chapters_refusal texts.chapters ∷ times_refusal texts.times ∷ attached_refusal []
       ∷ option_map Differs (append_refusal (timed_from texts.times 0 (chaptered with_chapters false texts.chapters (found_in found))))
       ∷ option_map Plan (plan_refusal words (reads_of (sources_by (found_in found)))) ∷ []
 
   -- the same, by the content of the name and the result of reading it
   abbrev found_by : Option (List ℕ) → Option (List ℕ) → Option Refusal → Result (List InputRead) Refusal → Result (List Source) Refusal
   found_by written held pending found =
-      unless (first_cause (option_map OutputIsInput written ∷ option_map Missing (cond (is_none held) (Some 0) None) ∷ missing_text texts ∷ pending ∷ refusals_by found)) (sources_by (found_in found))
+      unless (first_cause (option_map OutputIsInput written ∷ option_map Missing (cond (is_none held) (Some 0) None) ∷ missing_text texts ∷ option_map MissingAttached (first_missing world []) ∷ pending ∷ refusals_by found)) (sources_by (found_in found))
 
   -- the result of reading the one input
   abbrev read_by : Result InputRead InputRefusal → Result (List InputRead) Refusal
@@ -99,8 +101,9 @@ module _ (world : List ℕ → Option (List ℕ)) (duration : Bool) (out name : 
       → sources_of world words ≡ Ok (source ∷ [])
   one-source begun read planned =
       let held : world name ≡ Some (layout d) = cc (begun.there) in
-      ap (λ (o : Option (List ℕ)). unless (first_cause (option_map OutputIsInput (first_written words) ∷ option_map Missing (cond (is_none o) (Some 0) None) ∷ missing_text texts ∷ pending_of world words
-      ∷ refusals_read words texts (unwrap_or o [] ∷ []))) (sources_in words texts (unwrap_or o [] ∷ []))) held
+      ap (λ (o : Option (List ℕ)). unless (first_cause (option_map OutputIsInput (first_written words) ∷ option_map Missing (cond (is_none o) (Some 0) None) ∷ missing_text texts
+      ∷ option_map MissingAttached (first_missing world []) ∷ pending_of world words
+      ∷ refusals_read words texts (unwrap_or o [] ∷ []) [])) (sources_in words texts (unwrap_or o [] ∷ []) [])) held
       ∙ ap (λ (o : Option (List ℕ)). found_by o (Some (layout d)) (pending_of world words) (inputs_of words (layout d ∷ []))) begun.apart
       ∙ ap (λ (o : Option Refusal). found_by None (Some (layout d)) o (inputs_of words (layout d ∷ []))) begun.settled
       ∙ ap (λ (found : Result InputRead InputRefusal). found_by None (Some (layout d)) None (read_by found)) read

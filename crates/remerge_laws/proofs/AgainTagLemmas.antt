@@ -1,9 +1,8 @@
 -- The Tags of an output are merged again as they were.
-use Rattle.std.proofs.Common.{◌≡◌, ◌≤◌, ◌<◌, ℕ, ◌+◌, ◌==◌, nat_eq, Bool, true, false, if◌then◌else◌, List, [], ◌∷◌, ◌++◌, length, map, flat_map, take, zip, All, Contains, Option, None, Some, inl, inr, refl, sym, ap, ap₂, subst, ◌∙◌, append-nil, length-append, arith, zero, suc, is_some}
+use Rattle.std.proofs.Common.{◌≡◌, ◌≤◌, ◌<◌, ℕ, ◌+◌, ◌==◌, nat_eq, Bool, true, false, if◌then◌else◌, List, [], ◌∷◌, ◌++◌, length, map, flat_map, zip, All, Contains, Option, None, Some, inl, inr, refl, sym, ap, ap₂, subst, ◌∙◌, append-nil, length-append, arith, zero, suc, is_some}
 use Rattle.std.specs.Map.{lookup}
 use Rattle.std.specs.Option.{option_map}
 use Rattle.std.proofs.lemmas.Bool.{eqb-false, eqb-true, cases_Bool}
-use Rattle.std.proofs.lemmas.List.{length-map, take_all}
 use Rattle.std.proofs.lemmas.List.Elements.{All-head, All-weaker, Contains-append_cases}
 use Rattle.mkv_schema.specs.declared.ids.TheConstants.{CHAPTERS, TAG, TAGS, TAG_TRACK_UID, TAG_EDITION_UID, TAG_CHAPTER_UID, TAG_ATTACHMENT_UID}
 use Rattle.tree_format.specs.Node.{Node, leaf, master, nodes_of, list_of, id_of, children}
@@ -30,7 +29,9 @@ use Rattle.output_records.specs.Tags.{number_of as number_among, uids_of as uids
 use Rattle.merge_inputs.specs.Input.{InputRead}
 use Rattle.merge_inputs.specs.declared.taken.TakenTrack.{TakenTrack}
 use Rattle.merge_plan.specs.Identifiers.{Have64Bits, Identifiers, identifiers_of}
-use Rattle.merge_plan.specs.Records.{anywhere, records_of, tags_of, tracks_taken, uids_of}
+use Rattle.merge_plan.specs.Order.{picked}
+use Rattle.merge_plan.specs.Records.{anywhere, is_begun_by, key_of, records_of, tags_of, tracks_ordered, uids_of}
+use Rattle.merge_plan.proofs.RecordLemmas.{length-uids}
 use Rattle.remerge_laws.specs.Again.{HasIdentifiersOf, TagsAreAlikeAgain}
 use Rattle.remerge_laws.specs.Alike.{MayBeAlike}
 use Rattle.remerge_laws.specs.Joined.{IsWrittenTag}
@@ -59,9 +60,9 @@ itself-there (x ∷ xs) v among = elim (cases_Bool (nat_eq v x)) [
 
 -- ---- an input with the identifiers of a merge
 
-module _ (reads : List InputRead) (again : InputRead) (has : HasIdentifiersOf reads again) where
+module _ (order : List (ℕ × ℕ)) (reads : List InputRead) (again : InputRead) (has : HasIdentifiersOf order reads again) where
   abbrev own : Identifiers
-  own = identifiers_of reads
+  own = identifiers_of order reads
 
   abbrev pub one : InputRecords
   one = record {
@@ -92,27 +93,34 @@ module _ (reads : List InputRead) (again : InputRead) (has : HasIdentifiersOf re
 
   -- Its tracks, editions, chapters and files get their own identifiers.
   pub own-editions : edition_numbers (one ∷ []) ≡ own.editions
-  own-editions = ap renumbered (read-editions again.chapters ∙ has.editions) ∙ stays (edition_uids (joined_chapters (records_of reads)))
+  own-editions = ap renumbered (read-editions again.chapters ∙ has.editions) ∙ stays (edition_uids (joined_chapters (records_of order reads)))
 
   pub own-chapters : chapter_numbers (one ∷ []) ≡ own.chapters
-  own-chapters = ap renumbered (read-chapters again.chapters ∙ has.chapters) ∙ stays (chapter_uids (joined_chapters (records_of reads)))
+  own-chapters = ap renumbered (read-chapters again.chapters ∙ has.chapters) ∙ stays (chapter_uids (joined_chapters (records_of order reads)))
 
   own-files : file_numbers (one ∷ []) ≡ own.files
   own-files =
-      ap renumbered (ap file_uids (append-nil (map anywhere again.attachments)) ∙ read-files again.attachments ∙ has.files) ∙ stays (file_uids (files_of (records_of reads)))
+      ap renumbered (ap file_uids (append-nil (map anywhere again.attachments)) ∙ read-files again.attachments ∙ has.files) ∙ stays (file_uids (files_of (records_of order reads)))
 
-  own-tracks : take (length again.taken) (uids_of (again.taken ++ [])) ≡ own.tracks
+  -- The input begins all output tracks.
+  all-picked : (taken : List TakenTrack) (uids : List ℕ) → length uids ≡ length taken → picked (is_begun_by 0) (map (key_of 0) taken ++ []) uids ≡ uids
+  all-picked [] [] many = refl
+  all-picked [] (u ∷ uids) many = absurd (omega arith)
+  all-picked (t ∷ taken) [] many = refl
+  all-picked (t ∷ taken) (u ∷ uids) many = ap (λ (l : List ℕ). u ∷ l) (all-picked taken uids (omega arith))
+
+  own-tracks : picked (is_begun_by 0) (map (key_of 0) again.taken ++ []) (uids_of (again.taken ++ [])) ≡ own.tracks
   own-tracks =
       let taken : List TakenTrack = again.taken in
-      let long : length taken ≡ length own.tracks = sym (length-map taken (λ (t : TakenTrack). t.track.uid)) ∙ ap length has.tracks in
-      ap (λ (l : List ℕ). take (length taken) (renumbered l)) (ap (map (λ (t : TakenTrack). t.track.uid)) (append-nil taken) ∙ has.tracks)
-      ∙ ap₂ (λ (n : ℕ) (l : List ℕ). take n l) long (stays (map (λ (t : TakenTrack). t.track.uid) (tracks_taken reads)))
-      ∙ take_all (length own.tracks) own.tracks (omega arith)
+      all-picked taken (uids_of (taken ++ [])) (length-uids (taken ++ []) ∙ ap length (append-nil taken))
+      ∙ ap renumbered (ap (map (λ (t : TakenTrack). t.track.uid)) (append-nil taken) ∙ has.tracks)
+      ∙ stays (map (λ (t : TakenTrack). t.track.uid) (tracks_ordered order reads))
 
   -- the records of the input, by its append offset
   abbrev given_at : Option ℕ → TagKeep → List InputRecords
   given_at shift keep =
-      let numbers : List ℕ = if is_some shift then [] else take (length again.taken) (uids_of ((if is_some shift then [] else again.taken) ++ [])) in
+      let taken : List TakenTrack = if is_some shift then [] else again.taken in
+      let numbers : List ℕ = picked (is_begun_by (if is_some shift then 0 else 0)) (map (key_of 0) taken ++ []) (uids_of (taken ++ [])) in
       record {
         track_uids = map (λ (t : TakenTrack). t.track.uid) again.taken;
         output_uids = numbers;
@@ -126,7 +134,7 @@ module _ (reads : List InputRead) (again : InputRead) (has : HasIdentifiersOf re
   abbrev numbered_by : List ℕ → List InputRecords
   numbered_by numbers = record one { output_uids = numbers } ∷ []
 
-  pub given-one : records_of (again ∷ []) ≡ one ∷ []
+  pub given-one : records_of [] (again ∷ []) ≡ one ∷ []
   given-one = ap₂ given_at has.alone has.keep ∙ ap numbered_by own-tracks
 
   abbrev pub again_numbers : ℕ → ℕ → Option ℕ
@@ -159,7 +167,7 @@ module _ (reads : List InputRead) (again : InputRead) (has : HasIdentifiersOf re
   abbrev pub written_again : Option Node → List Node
   written_again tags = children_in (option_map (written_tags keep_all again_numbers) tags) ++ []
 
-  pub tags-made : tags_of (again ∷ []) ≡ with_some (master TAGS 0 (nodes_of (written_again again.tags)))
+  pub tags-made : tags_of [] (again ∷ []) ≡ with_some (master TAGS 0 (nodes_of (written_again again.tags)))
   tags-made =
       ap merged_tags given-one
       ∙ ap (λ (editions : List ℕ). with_some (joined_tags (all_uids editions (chapter_numbers (one ∷ [])) (file_numbers (one ∷ []))) (one ∷ []))) own-editions
@@ -167,15 +175,15 @@ module _ (reads : List InputRead) (again : InputRead) (has : HasIdentifiersOf re
 
   module _ (stay : TagsStay) (short : Have64Bits own) where
     abbrev first : List Node
-    first = tags_from (numbers_of (records_of reads)) (records_of reads)
+    first = tags_from (numbers_of (records_of order reads)) (records_of order reads)
 
     first-written : All IsWrittenTag first
-    first-written = joined-named.written reads short
+    first-written = joined-named.written order reads short
 
-    kept-at : (place : ℕ) → octets (written_tags keep_all again_numbers (placed place (tags_joined reads))) ≡ octets (tags_joined reads)
+    kept-at : (place : ℕ) → octets (written_tags keep_all again_numbers (placed place (tags_joined order reads))) ≡ octets (tags_joined order reads)
     kept-at place =
         joined-stay stay again_numbers first place first-written
-        (All-weaker (NamesOneOf own) (KeepsTarget again_numbers) target-keeps (targets_of (placed place (tags_joined reads))) (joined-named.named reads place short))
+        (All-weaker (NamesOneOf own) (KeepsTarget again_numbers) target-keeps (targets_of (placed place (tags_joined order reads))) (joined-named.named order reads place short))
 
     -- A Tag has at least one byte.
     some-octets : (k : Node) → IsWrittenTag k → 0 < length (octets k)
@@ -201,31 +209,31 @@ module _ (reads : List InputRead) (again : InputRead) (has : HasIdentifiersOf re
         let long : 0 ≡ length (octets k) + length (octets_all (nodes_of ks)) = ap length bodies ∙ length-append (octets k) (octets_all (nodes_of ks)) in
         absurd (omega (arith, long, some))
 
-    alike-tags : (t : Node) → StandsAs (tags_joined reads) t → (first ≡ [] → ⊥) → MayBeAlike (Some (tags_joined reads)) (with_some (master TAGS 0 (nodes_of (written_again (Some t)))))
+    alike-tags : (t : Node) → StandsAs (tags_joined order reads) t → (first ≡ [] → ⊥) → MayBeAlike (Some (tags_joined order reads)) (with_some (master TAGS 0 (nodes_of (written_again (Some t)))))
     alike-tags t stands some =
-        let tree : Node = placed stands.0 (tags_joined reads) in
+        let tree : Node = placed stands.0 (tags_joined order reads) in
         let list : List Node = flat_map (written_child keep_all again_numbers) (children tree) in
         let is : written_again (Some t) ≡ list = ap (λ (n : Node). children (written_tags keep_all again_numbers n) ++ []) stands.1 ∙ append-nil (list_of (nodes_of list)) ∙ list-nodes list in
-        let same : octets (master TAGS 0 (nodes_of list)) ≡ octets (tags_joined reads) = kept-at stands.0 in
-        subst (λ (l : List Node). MayBeAlike (Some (tags_joined reads)) (with_some (master TAGS 0 (nodes_of l)))) (sym is)
-        (subst (λ (l : List Node). MayBeAlike (Some (tags_joined reads)) (unless_empty (master TAGS 0 (nodes_of list)) l)) (sym (list-nodes list)) (of list refl same))
+        let same : octets (master TAGS 0 (nodes_of list)) ≡ octets (tags_joined order reads) = kept-at stands.0 in
+        subst (λ (l : List Node). MayBeAlike (Some (tags_joined order reads)) (with_some (master TAGS 0 (nodes_of l)))) (sym is)
+        (subst (λ (l : List Node). MayBeAlike (Some (tags_joined order reads)) (unless_empty (master TAGS 0 (nodes_of list)) l)) (sym (list-nodes list)) (of list refl same))
       where
-        of : (l : List Node) → l ≡ flat_map (written_child keep_all again_numbers) (children (placed stands.0 (tags_joined reads))) → octets (master TAGS 0 (nodes_of l)) ≡ octets (tags_joined reads)
-            → MayBeAlike (Some (tags_joined reads)) (unless_empty (master TAGS 0 (nodes_of l)) l)
+        of : (l : List Node) → l ≡ flat_map (written_child keep_all again_numbers) (children (placed stands.0 (tags_joined order reads))) → octets (master TAGS 0 (nodes_of l)) ≡ octets (tags_joined order reads)
+            → MayBeAlike (Some (tags_joined order reads)) (unless_empty (master TAGS 0 (nodes_of l)) l)
         of [] is same = absurd (some (both first [] first-written same refl))
         of (m ∷ ms) is same = record { id = refl; some = refl; same = sym same }
 
-    by-first : (ns : List Node) → ns ≡ first → (o : Option Node) → MayStandAs (unless_empty (tags_joined reads) ns) o
-        → MayBeAlike (unless_empty (tags_joined reads) ns) (with_some (master TAGS 0 (nodes_of (written_again o))))
+    by-first : (ns : List Node) → ns ≡ first → (o : Option Node) → MayStandAs (unless_empty (tags_joined order reads) ns) o
+        → MayBeAlike (unless_empty (tags_joined order reads) ns) (with_some (master TAGS 0 (nodes_of (written_again o))))
     by-first [] is None stands = tt
     by-first [] is (Some t) stands = absurd stands
     by-first (n ∷ ns) is None stands = absurd stands
     by-first (n ∷ ns) is (Some t) stands = alike-tags t stands (λ empty. let never : n ∷ ns ≡ [] = is ∙ empty in absurd (cc))
 
-    tags-are : MayStandAs (tags_of reads) again.tags → MayBeAlike (tags_of reads) (tags_of (again ∷ []))
+    tags-are : MayStandAs (tags_of order reads) again.tags → MayBeAlike (tags_of order reads) (tags_of [] (again ∷ []))
     tags-are stands =
         let is : list_of (nodes_of first) ≡ first = list-nodes first in
-        subst (MayBeAlike (tags_of reads)) (sym tags-made) (by-first (list_of (nodes_of first)) is again.tags stands)
+        subst (MayBeAlike (tags_of order reads)) (sym tags-made) (by-first (list_of (nodes_of first)) is again.tags stands)
 
 pub tags-again : TagsStay → TagsAreAlikeAgain
-tags-again stay reads again short has stands = tags-are reads again has stay short stands
+tags-again stay order reads again short has stands = tags-are order reads again has stay short stands

@@ -1,8 +1,8 @@
 -- The targets of joined Tags name Elements that the output has.
-use Rattle.std.proofs.Common.{◌≡◌, ◌<◌, ℕ, ◌+◌, ◌^◌, ◌==◌, Bool, true, false, ◌&&◌, if◌then◌else◌, List, [], ◌∷◌, length, map, filter, flat_map, take, drop, zip, All, Contains, Option, None, Some, IfSome, refl, sym, ap, subst, ◌∙◌, inl, inr, slice_index_or, option_map}
+use Rattle.std.proofs.Common.{◌≡◌, ◌<◌, ℕ, ◌+◌, ◌^◌, ◌==◌, Bool, true, false, ◌&&◌, if◌then◌else◌, List, [], ◌∷◌, length, map, filter, flat_map, drop, zip, All, Contains, Option, None, Some, IfSome, refl, sym, ap, subst, ◌∙◌, inl, inr, slice_index_or, option_map}
 use Rattle.std.specs.Map.{lookup}
 use Rattle.std.proofs.lemmas.Bool.{eqb-true, cases_Bool, and_parts}
-use Rattle.std.proofs.lemmas.List.Elements.{All-append, All-cons, All-contains_itself, All-drop, All-head, All-nil, All-tail, All-take, All-map}
+use Rattle.std.proofs.lemmas.List.Elements.{All-append, All-cons, All-contains_itself, All-drop, All-head, All-nil, All-tail, All-map}
 use Rattle.ebml_numbers.specs.Number.{uint_octets}
 use Rattle.mkv_schema.specs.declared.ids.TheConstants.{TAG, TAGS, TARGETS, TAG_TRACK_UID, TAG_EDITION_UID, TAG_CHAPTER_UID, TAG_ATTACHMENT_UID}
 use Rattle.tree_format.specs.Node.{Node, Nodes, leaf, master, none, node, nodes_of, list_of, id_of, children}
@@ -21,7 +21,9 @@ use Rattle.output_records.specs.Tags.{all_uids, behind, numbers_for, numbers_of,
 use Rattle.output_records.specs.Tags.{number_of as number_among, uids_of as uids_given}
 use Rattle.merge_inputs.specs.Input.{InputRead}
 use Rattle.merge_plan.specs.Identifiers.{Have64Bits, Identifiers, identifiers_of}
-use Rattle.merge_plan.specs.Records.{Kept, is_appended, kept_anywhere, records_from, records_of, uids_at, uids_behind}
+use Rattle.merge_plan.specs.Order.{in_order}
+use Rattle.merge_plan.specs.Records.{Kept, LaneUids, is_begun_by, kept_anywhere, lane_uids, owner_at, records_from, records_in, records_of, track_uids_at, uids_at}
+use Rattle.merge_plan.proofs.OrderLemmas.{picked-all}
 use Rattle.remerge_laws.specs.Joined.{IsWrittenTag}
 use Rattle.remerge_laws.specs.Named.{JoinedTagsNameTheOutput, NamesOneOf, named_by, tags_joined}
 use Rattle.record_laws.proofs.TagLemmas.{all-made}
@@ -201,22 +203,13 @@ module _ (ids : Identifiers) where
       (All-tail HasAmong i inputs all))
 
   -- The numbers of an input's tracks are among the output's.
-  records-among : (before left : List ℕ) (ks : List Kept) → AreAmong ids.tracks before → AreAmong ids.tracks left → All HasAmong (records_from before left ks)
-  records-among before left [] old more = All-nil HasAmong
-  records-among before left (k ∷ ks) old more =
-      All-cons HasAmong _ (records_from (uids_at before left k.1) (uids_behind left k.1) ks) (at (is_appended k.1))
-      (records-among (uids_at before left k.1) (uids_behind left k.1) ks (at (is_appended k.1)) (past (is_appended k.1)))
-    where
-      P : ℕ → Type 0
-      P v = (v < 2 ^ 64) × Contains ids.tracks v
-
-      at : (t : Bool) → All P (if t then before else take (length k.1.taken) left)
-      at true = old
-      at false = All-take P (length k.1.taken) left more
-
-      past : (t : Bool) → All P (if t then left else drop (length k.1.taken) left)
-      past true = more
-      past false = All-drop P (length k.1.taken) left more
+  records-among : (lanes : LaneUids) (before number : ℕ) (ks : List Kept) → AreAmong ids.tracks lanes.uids → All HasAmong (records_from lanes before number ks)
+  records-among lanes before number [] among = All-nil HasAmong
+  records-among lanes before number (k ∷ ks) among =
+      let owner : ℕ = owner_at before number k.1 in
+      All-cons HasAmong (records_in (track_uids_at lanes owner k.1) (uids_at lanes owner) k) (records_from lanes owner (number + 1) ks)
+      (picked-all (λ v. (v < 2 ^ 64) × Contains ids.tracks v) (is_begun_by owner) (in_order lanes.order lanes.keys lanes.keys) lanes.uids among)
+      (records-among lanes owner (number + 1) ks among)
 
 -- Identifiers of 64 bits are among themselves.
 among-itself : (ids : List ℕ) → All (λ v. v < 2 ^ 64) ids → All (λ v. (v < 2 ^ 64) × Contains ids v) ids
@@ -229,21 +222,21 @@ own-small ids i short own =
     (input-gives ids i ids.editions ids.chapters ids.files (subst (All (λ v. (v < 2 ^ 64) × Contains ids.tracks v)) (sym own) (among-itself ids.tracks short.tracks))
     (record { of_editions = among-itself ids.editions short.editions; of_chapters = among-itself ids.chapters short.chapters; of_files = among-itself ids.files short.files }))
 
-joined-names : (reads : List InputRead) → Have64Bits (identifiers_of reads) → All (IsNamingTag (identifiers_of reads)) (tags_from (numbers_of (records_of reads)) (records_of reads))
-joined-names reads short =
-    let ids : Identifiers = identifiers_of reads in
-    from-names ids ids.editions ids.chapters ids.files (records_of reads)
+joined-names : (order : List (ℕ × ℕ)) (reads : List InputRead) → Have64Bits (identifiers_of order reads) → All (IsNamingTag (identifiers_of order reads)) (tags_from (numbers_of (records_of order reads)) (records_of order reads))
+joined-names order reads short =
+    let ids : Identifiers = identifiers_of order reads in
+    from-names ids ids.editions ids.chapters ids.files (records_of order reads)
     (record { of_editions = among-itself ids.editions short.editions; of_chapters = among-itself ids.chapters short.chapters; of_files = among-itself ids.files short.files })
-    (records-among ids [] ids.tracks (map kept_anywhere reads) (All-nil (λ v. (v < 2 ^ 64) × Contains ids.tracks v)) (among-itself ids.tracks short.tracks))
+    (records-among ids (lane_uids order reads) 0 0 (map kept_anywhere reads) (among-itself ids.tracks short.tracks))
 
 pub joined-named : JoinedTagsNameTheOutput
 joined-named = record {
-  written = λ reads short k d below. (joined-names reads short k d below).written;
-  named = λ reads place short.
-      let ids : Identifiers = identifiers_of reads in
-      let tags : List Node = tags_from (numbers_of (records_of reads)) (records_of reads) in
-      let each : All (NamesOfTag ids) tags = λ k d below. (joined-names reads short k d below).names in
-      tags-name ids (placed place (tags_joined reads))
+  written = λ order reads short k d below. (joined-names order reads short k d below).written;
+  named = λ order reads place short.
+      let ids : Identifiers = identifiers_of order reads in
+      let tags : List Node = tags_from (numbers_of (records_of order reads)) (records_of order reads) in
+      let each : All (NamesOfTag ids) tags = λ k d below. (joined-names order reads short k d below).names in
+      tags-name ids (placed place (tags_joined order reads))
       (list-placed (NamesOfTag ids) (tag-placed ids) (nodes_of tags) (place + length (header_octets TAGS (length (octets_all (nodes_of tags)))))
       (subst (All (NamesOfTag ids)) (sym (list-nodes tags)) each));
 }

@@ -50,7 +50,7 @@ use Rattle.merge_inputs.specs.declared.taken.TakenTrack.{TakenTrack}
 use Rattle.merge_plan.specs.Front.{attachments_of, file_uids, reads_of}
 use Rattle.merge_plan.specs.Identifiers.{Have64Bits, identifiers_of}
 use Rattle.merge_plan.specs.Plan.{Source, lanes_given, lanes_taken, limits_of, rule_of, rules_given, default_rule}
-use Rattle.merge_plan.specs.Records.{anywhere, chapters_of, info_of, kept_anywhere, records_from, records_of, tags_of, title_of, tracks_of_output, tracks_taken, uids_at, uids_behind, uids_of}
+use Rattle.merge_plan.specs.Records.{LaneUids, anywhere, chapters_of, info_of, kept_anywhere, lane_uids, owner_at, records_from, records_of, tags_of, title_of, tracks_of_output, tracks_ordered, uids_of}
 use Rattle.merge_plan.specs.Records.{entries_of as entries_given}
 use Rattle.merge_plan.specs.Refusal.{plan_refusal}
 use Rattle.mkv_merge.specs.Merge.{blocks_of}
@@ -89,13 +89,13 @@ use Rattle.remerge_laws.proofs.WholeLemmas.{one-document}
 
 -- the facts about the sources
 pub record ArePlain (words : MergeWords) (sources : List Source) : Type 0 where
-  pub taken : All IsTaken (tracks_taken (reads_of sources))
-  pub types : All (λ (t : TakenTrack). is_taken_type t.track.kind ≡ true) (tracks_taken (reads_of sources))
-  pub cues : All (λ (t : TakenTrack). t.cues ≡ None) (tracks_taken (reads_of sources))
-  pub undone : All (λ (t : TakenTrack). t.track.stored ≡ false) (tracks_taken (reads_of sources))
+  pub taken : All IsTaken (tracks_ordered words.order (reads_of sources))
+  pub types : All (λ (t : TakenTrack). is_taken_type t.track.kind ≡ true) (tracks_ordered words.order (reads_of sources))
+  pub cues : All (λ (t : TakenTrack). t.cues ≡ None) (tracks_ordered words.order (reads_of sources))
+  pub undone : All (λ (t : TakenTrack). t.track.stored ≡ false) (tracks_ordered words.order (reads_of sources))
   pub title : HasNoZero (title_of words (reads_of sources))
-  pub short : Have64Bits (identifiers_of (reads_of sources))
-  pub records : HaveRecords sources
+  pub short : Have64Bits (identifiers_of words.order (reads_of sources))
+  pub records : HaveRecords words sources
   pub unrefused : plan_refusal words (reads_of sources) ≡ None
 
 -- the facts about their document
@@ -124,17 +124,18 @@ uids-anywhere : (files : List AttachedFile) → uids_in_files (map anywhere file
 uids-anywhere [] = refl
 uids-anywhere (a ∷ files) = ap (λ (us : List ℕ). a.uid ∷ us) (uids-anywhere files)
 
-uids-from : (before left : List ℕ) (reads : List InputRead)
-    → uids_in_files (files_of (records_from before left (map kept_anywhere reads))) ≡ map (λ (a : AttachedFile). a.uid) (flat_map (λ (i : InputRead). i.attachments) reads)
-uids-from before left [] = refl
-uids-from before left (i ∷ reads) =
-    let rest : List Attachment = files_of (records_from (uids_at before left i) (uids_behind left i) (map kept_anywhere reads)) in
+uids-from : (lanes : LaneUids) (before number : ℕ) (reads : List InputRead)
+    → uids_in_files (files_of (records_from lanes before number (map kept_anywhere reads))) ≡ map (λ (a : AttachedFile). a.uid) (flat_map (λ (i : InputRead). i.attachments) reads)
+uids-from lanes before number [] = refl
+uids-from lanes before number (i ∷ reads) =
+    let owner : ℕ = owner_at before number i in
+    let rest : List Attachment = files_of (records_from lanes owner (number + 1) (map kept_anywhere reads)) in
     map-append (λ (a : Attachment). a.uid) (map anywhere i.attachments) rest
-    ∙ ap₂ (λ (x y : List ℕ). x ++ y) (uids-anywhere i.attachments) (uids-from (uids_at before left i) (uids_behind left i) reads)
+    ∙ ap₂ (λ (x y : List ℕ). x ++ y) (uids-anywhere i.attachments) (uids-from lanes owner (number + 1) reads)
     ∙ sym (map-append (λ (a : AttachedFile). a.uid) i.attachments (flat_map (λ (j : InputRead). j.attachments) reads))
 
-files-numbers : (reads : List InputRead) → file_uids reads ≡ file_numbers (records_of reads)
-files-numbers reads = ap renumbered (sym (uids-from [] (uids_of (tracks_taken reads)) reads))
+files-numbers : (order : List (ℕ × ℕ)) (reads : List InputRead) → file_uids reads ≡ file_numbers (records_of order reads)
+files-numbers order reads = ap renumbered (sym (uids-from (lane_uids order reads) 0 0 reads))
 
 -- ---- result of reading
 
@@ -150,7 +151,7 @@ module _ (tracks_stay : TracksStay) (chapters_stay : ChaptersStay) (tags_stay : 
   reads = reads_of sources
 
   abbrev taken : List TakenTrack
-  taken = tracks_taken reads
+  taken = tracks_ordered words.order reads
 
   read : IsReadWithLimits d
   read = outputs-read d has.sound has.limits
@@ -169,7 +170,7 @@ module _ (tracks_stay : TracksStay) (chapters_stay : ChaptersStay) (tags_stay : 
   scale-is = told-scale w.front.info w.front.lasting ∙ info-scale words.scale (title_of words reads) (subst (λ (n : ℕ). n < 2 ^ 64) (sym usual.scale) (omega arith))
 
   files : HaveFiles sources
-  files = record { filled = are.records.attachments; small = subst (All (λ n. n < 2 ^ 64)) (sym (files-numbers reads)) are.short.files }
+  files = record { filled = are.records.attachments; small = subst (All (λ n. n < 2 ^ 64)) (sym (files-numbers words.order reads)) are.short.files }
 
   -- ---- the second merge
 
@@ -190,15 +191,15 @@ module _ (tracks_stay : TracksStay) (chapters_stay : ChaptersStay) (tags_stay : 
       plain = taken-of.plain;
     }
 
-    chapters-of : HasChaptersOf reads s.1
+    chapters-of : HasChaptersOf words.order reads s.1
     chapters-of = record { short = are.short; records = are.records.chapters; stand = of_d.chapters; alone = refl }
 
-    identifiers : HasIdentifiersOf reads s.1
+    identifiers : HasIdentifiersOf words.order reads s.1
     identifiers = record {
       tracks = taken-of.uids ∙ ap (map uid_of) same-entries ∙ uids-given taken are.taken are.short.tracks;
-      editions = (chapters-again chapters_stay).editions reads s.1 chapters-of;
-      chapters = (chapters-again chapters_stay).chapters reads s.1 chapters-of;
-      files = files-stay.read sources s files of_d.attachments ∙ files-numbers reads;
+      editions = (chapters-again chapters_stay).editions words.order reads s.1 chapters-of;
+      chapters = (chapters-again chapters_stay).chapters words.order reads s.1 chapters-of;
+      files = files-stay.read sources s files of_d.attachments ∙ files-numbers words.order reads;
       alone = refl;
       keep = refl;
     }
@@ -221,7 +222,7 @@ module _ (tracks_stay : TracksStay) (chapters_stay : ChaptersStay) (tags_stay : 
     clusters-same : clusters (limits_of words) (blocks_of words sources) ≡ clusters (limits_of (merge_again words.duration out name)) (blocks_of (merge_again words.duration out name) (s ∷ []))
     clusters-same = sym (ap₂ clusters limits-same blocks-again)
 
-    rules-same : rules_given reads ≡ rules_given (s.1 ∷ [])
+    rules-same : rules_given words.order reads ≡ rules_given [] (s.1 ∷ [])
     rules-same =
         sym (rules-given taken are.taken are.cues) ∙ ap (map (λ (entry : Node). default_rule (type_of entry))) (sym same-entries) ∙ sym taken-of.rules
         ∙ ap (map rule_of) (sym (append-nil s.1.taken))
@@ -231,13 +232,13 @@ module _ (tracks_stay : TracksStay) (chapters_stay : ChaptersStay) (tags_stay : 
     info-same : info_of (merge_again words.duration out name) (s.1 ∷ []) ≡ info_of words reads
     info-same = info-again words reads w.front.lasting out name r.info s.1 usual.scale are.title of_d.info refl
 
-    durations-same : durations_of 1000000 (tracks_of_output (s.1 ∷ [])) ≡ durations_of words.scale (tracks_of_output reads)
+    durations-same : durations_of 1000000 (tracks_of_output [] (s.1 ∷ [])) ≡ durations_of words.scale (tracks_of_output words.order reads)
     durations-same =
         let few = has.sound.tracks.few in
         let many = taken-of.many in
         ap₂ (λ (scale : ℕ) (frames : List (Option ℕ)). let ds : Durations = record { scale = scale; frames = frames } in ds) (sym usual.scale)
         (ap (λ (ts : List TakenTrack). map default_duration_of (entries_of (output_tracks (entries_given ts)))) (append-nil s.1.taken)
-        ∙ durations-again name d.front.tracks r.tracks has.sound.tracks.is plain-tracks of_d.tracks (omega arith) (again-small reads s.1 are.short identifiers))
+        ∙ durations-again name d.front.tracks r.tracks has.sound.tracks.is plain-tracks of_d.tracks (omega arith) (again-small words reads s.1 are.short identifiers))
 
     -- Both outputs end at the same tick.
     lasting-same : (whole_document (merge_again words.duration out name) (s ∷ [])).front.lasting ≡ w.front.lasting
@@ -254,14 +255,14 @@ module _ (tracks_stay : TracksStay) (chapters_stay : ChaptersStay) (tags_stay : 
         ap (λ (ts : List TakenTrack). map octets (entries_given ts)) (append-nil s.1.taken)
         ∙ entries-again tracks_stay name taken r.tracks are.taken are.undone are.short.tracks plain-tracks of_d.tracks
 
-    tracks-alike : AreAlike d.front.tracks (tracks_of_output (s.1 ∷ []))
+    tracks-alike : AreAlike d.front.tracks (tracks_of_output [] (s.1 ∷ []))
     tracks-alike = record { id = refl; some = refl; same = ap (kept_octets TRACKS) (sym (same-joined (entries_given (s.1.taken ++ [])) (entries_given taken) entries-alike)) }
 
     chapters-alike : MayBeAlike d.chapters (chapters_of (s.1 ∷ []))
-    chapters-alike = (chapters-again chapters_stay).alike reads s.1 chapters-of
+    chapters-alike = (chapters-again chapters_stay).alike words.order reads s.1 chapters-of
 
-    tags-alike : MayBeAlike d.tags (tags_of (s.1 ∷ []))
-    tags-alike = tags-again tags_stay reads s.1 are.short identifiers of_d.tags
+    tags-alike : MayBeAlike d.tags (tags_of [] (s.1 ∷ []))
+    tags-alike = tags-again tags_stay words.order reads s.1 are.short identifiers of_d.tags
 
     files-alike : AllZip AreAlike d.front.attachments (attachments_of (s ∷ []))
     files-alike = files-stay.alike sources s files of_d.attachments
@@ -288,7 +289,7 @@ module _ (tracks_stay : TracksStay) (chapters_stay : ChaptersStay) (tags_stay : 
     cues-same : d.cues ≡ e.cues
     cues-same =
         ap (λ (rules : List CueRule). points rules (AREA + length (joined (front_elements w.front))) d.clusters) rules-same
-        ∙ ap₂ (λ (octets : List ℕ) (cs : List OutputCluster). points (rules_given (s.1 ∷ [])) (AREA + length octets) cs)
+        ∙ ap₂ (λ (octets : List ℕ) (cs : List OutputCluster). points (rules_given [] (s.1 ∷ [])) (AREA + length octets) cs)
         fronts-alike clusters-same
 
     documents-alike : AreAlikeDocuments d (as_read e)
@@ -312,16 +313,16 @@ module _ (tracks_stay : TracksStay) (chapters_stay : ChaptersStay) (tags_stay : 
         usable-again name taken r.tracks are.taken (subst (All IsBare) same-entries has.plain)
         (subst (λ (es : List Node). AllZip IsTrackOf es r.tracks) same-entries of_d.tracks.say)
 
-    tracks-stand : IsTree TRACKS (tracks_of_output (s.1 ∷ []))
+    tracks-stand : IsTree TRACKS (tracks_of_output [] (s.1 ∷ []))
     tracks-stand =
         let few = has.sound.tracks.few in
         let many = taken-of.many in
         subst (λ (ts : List TakenTrack). IsTree TRACKS (output_tracks (entries_given ts))) (sym (append-nil s.1.taken))
-        (tracks-tree name d.front.tracks r.tracks has.sound.tracks.is plain-tracks of_d.tracks (omega arith) (again-small reads s.1 are.short identifiers))
+        (tracks-tree name d.front.tracks r.tracks has.sound.tracks.is plain-tracks of_d.tracks (omega arith) (again-small words reads s.1 are.short identifiers))
 
     planned : plan_refusal (merge_again words.duration out name) (s.1 ∷ []) ≡ None
     planned =
-        plan-again reads s.1 are.short identifiers words out name (record {
+        plan-again words reads s.1 are.short identifiers out name (record {
           tracks = has.sound.tracks.is;
           chapters = are.records.chapters;
           tags = are.records.tags;

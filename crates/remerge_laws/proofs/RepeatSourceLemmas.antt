@@ -24,14 +24,16 @@ use Rattle.requests.specs.Texts.{AreTexts}
 use Rattle.merge_inputs.specs.Taken.{IsTaken}
 use Rattle.merge_plan.specs.Front.{reads_of}
 use Rattle.merge_plan.specs.Plan.{Source}
-use Rattle.merge_plan.specs.Records.{tracks_taken}
+use Rattle.merge_plan.specs.Records.{tracks_ordered, tracks_taken}
 use Rattle.mkv_merge.specs.Merge.{outputs_of}
 use Rattle.mkv_merge.specs.Records.{HaveRecords}
 use Rattle.merge_laws.specs.Laws.{LayoutsHoldOutputs, MergedDocumentsAreSound}
 use Rattle.merge_laws.specs.Merge.{HasEncodingsOf, HoldsOutput}
 use Rattle.merge_laws.specs.Sources.{AreSources, IsReadSource, IsReadTrack}
 use Rattle.merge_laws.proofs.DocumentLemmas.{all-tracks}
-use Rattle.merge_laws.proofs.LaneLemmas.{lanes-count, lanes-free}
+use Rattle.merge_laws.proofs.LaneLemmas.{lanes-free}
+use Rattle.merge_plan.proofs.OrderedLemmas.{lanes-many, ordered-all}
+use Rattle.merge_plan.proofs.RecordLemmas.{ordered-count}
 use Rattle.merge_laws.proofs.TracksLemmas.{entries-count}
 use Rattle.remerge_laws.specs.AsRead.{EndsAfterStart, as_read}
 use Rattle.remerge_laws.specs.Limits.{IsWithinLimits}
@@ -45,8 +47,8 @@ use Rattle.remerge_laws.proofs.WholeLemmas.{one-document, whole-planned}
 
 -- ---- selected tracks
 
-all-taken : (sources : List Source) → All IsReadSource sources → All IsTaken (tracks_taken (reads_of sources))
-all-taken sources each = All-weaker IsReadTrack IsTaken (λ t read. read.taken) (tracks_taken (reads_of sources)) (all-tracks sources each)
+all-taken : (order : List (ℕ × ℕ)) (sources : List Source) → All IsReadSource sources → All IsTaken (tracks_ordered order (reads_of sources))
+all-taken order sources each = All-weaker IsReadTrack IsTaken (λ t read. read.taken) (tracks_ordered order (reads_of sources)) (all-tracks order sources each)
 
 -- Without tracks that are taken as they are stored, no entry has ContentEncodings.
 none-kept : (taken : List TakenTrack) (es : List Node) → All (λ (t : TakenTrack). t.track.stored ≡ false) taken → AllZip HasEncodingsOf taken es → All (λ (entry : Node). first_child CONTENT_ENCODINGS entry ≡ None) es
@@ -61,7 +63,7 @@ none-kept (t ∷ taken) (e ∷ es) undone are =
 
 -- ---- together
 
-module _ (documents_sound : MergedDocumentsAreSound) (layouts_hold : LayoutsHoldOutputs) (words : MergeWords) (sources : List Source) (usual : IsDefault words) (good : IsSoundMerge words) (texts : AreTexts words) (are : AreSources words sources) (records : HaveRecords sources) (later : EndsAfterStart (whole_document words sources)) (within : IsWithinLimits (layout (whole_document words sources))) (undone : All (λ (t : TakenTrack). t.track.stored ≡ false) (tracks_taken (reads_of sources))) where
+module _ (documents_sound : MergedDocumentsAreSound) (layouts_hold : LayoutsHoldOutputs) (words : MergeWords) (sources : List Source) (usual : IsDefault words) (good : IsSoundMerge words) (texts : AreTexts words) (are : AreSources words sources) (records : HaveRecords words sources) (later : EndsAfterStart (whole_document words sources)) (within : IsWithinLimits (layout (whole_document words sources))) (undone : All (λ (t : TakenTrack). t.track.stored ≡ false) (tracks_taken (reads_of sources))) where
   abbrev d : Document
   d = whole_document words sources
 
@@ -80,15 +82,15 @@ module _ (documents_sound : MergedDocumentsAreSound) (layouts_hold : LayoutsHold
       let found = one-of-all (λ (o : PlannedOutput). length (layout o.document) ≤ LONGEST_FILE → HoldsOutput words sources o (layout o.document)) (layouts_hold words sources good texts are records) in
       (record { name = found.0; blocks = found.1; document = d }, refl, found.2 within.short)
 
-  taken : All IsTaken (tracks_taken (reads_of sources))
-  taken = all-taken sources are.each
+  taken : All IsTaken (tracks_ordered words.order (reads_of sources))
+  taken = all-taken words.order sources are.each
 
   plain-document : HavePlainDocument words sources
   plain-document = record {
     later = later;
     sound = (as-read d document-sound later).sound;
-    lanes = lanes-count sources
-        ∙ sym (ap length (entries-are (tracks_taken (reads_of sources)) taken) ∙ entries-count (tracks_taken (reads_of sources)));
+    lanes = lanes-many sources
+        ∙ sym (ap length (entries-are (tracks_ordered words.order (reads_of sources)) taken) ∙ entries-count (tracks_ordered words.order (reads_of sources)) ∙ ordered-count words.order (reads_of sources));
     unnumbered = lanes-free words sources are.each;
     plain = plain_one holds;
     limits =
@@ -99,15 +101,16 @@ module _ (documents_sound : MergedDocumentsAreSound) (layouts_hold : LayoutsHold
       plain_one : (o : PlannedOutput) × (o.document ≡ d) × HoldsOutput words sources o (layout d) → All (λ (entry : Node). first_child CONTENT_ENCODINGS entry ≡ None) (entries_of d.front.tracks)
       plain_one found =
           subst (λ (e : Document). All (λ (entry : Node). first_child CONTENT_ENCODINGS entry ≡ None) (entries_of e.front.tracks)) found.1
-          (none-kept (tracks_taken (reads_of sources)) (entries_of found.0.document.front.tracks) undone found.2.encodings)
+          (none-kept (tracks_ordered words.order (reads_of sources)) (entries_of found.0.document.front.tracks)
+          (ordered-all (λ (t : TakenTrack). t.track.stored ≡ false) words.order (reads_of sources) (tracks_taken (reads_of sources)) undone) found.2.encodings)
 
 pub outputs-repeated : TracksStay → ChaptersStay → TagsStay → LanesAreReadAgain → MergedDocumentsAreSound → LayoutsHoldOutputs → OutputsAreRepeated
 outputs-repeated tracks_stay chapters_stay tags_stay lanes_stay documents_sound layouts_hold words sources out name usual good texts are records plain later within =
     let known : ArePlain words sources = record {
-      taken = all-taken sources are.each;
-      types = All-weaker IsReadTrack IsOfTakenType (λ t read. read.kind) (tracks_taken (reads_of sources)) (all-tracks sources are.each);
-      cues = plain.cues;
-      undone = plain.undone;
+      taken = all-taken words.order sources are.each;
+      types = All-weaker IsReadTrack IsOfTakenType (λ t read. read.kind) (tracks_ordered words.order (reads_of sources)) (all-tracks words.order sources are.each);
+      cues = ordered-all (λ (t : TakenTrack). t.cues ≡ None) words.order (reads_of sources) (tracks_taken (reads_of sources)) plain.cues;
+      undone = ordered-all (λ (t : TakenTrack). t.track.stored ≡ false) words.order (reads_of sources) (tracks_taken (reads_of sources)) plain.undone;
       title = plain.title;
       short = records.numbers;
       records = records;

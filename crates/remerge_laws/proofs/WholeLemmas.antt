@@ -25,7 +25,7 @@ use Rattle.output_records.specs.Info.{application, output_info, title_elements}
 use Rattle.output_records.specs.Limits.{first_too_large, too_large}
 use Rattle.merge_plan.specs.Front.{attachments_of, front_of, reads_of}
 use Rattle.merge_plan.specs.Plan.{Source, limits_of, rules_given, starts_in}
-use Rattle.merge_plan.specs.Records.{chapters_of, tags_of, title_of, tracks_of_output, tracks_taken}
+use Rattle.merge_plan.specs.Records.{chapters_of, tags_of, title_of, tracks_of_output, tracks_ordered, tracks_taken}
 use Rattle.merge_plan.specs.Refusal.{lanes_refusal, plan_refusal, records_refusal}
 use Rattle.merge_plan.specs.declared.refusal.PlanRefusal.TheVariants.{HeaderTooLarge}
 use Rattle.output_model.specs.Document.{info_told}
@@ -59,8 +59,8 @@ output_with words sources split info = record {
   name = name_of split words.output 1;
   blocks = blocks_of words sources;
   document =
-      document_of (limits_of words) (rules_given (reads_of sources)) (record (front_of words sources) { info = info; attachments = attachments_of sources })
-      (chapters_within split (chapters_of (reads_of sources)) (stretch_of words.scale 0 None)) (tags_of (reads_of sources)) (blocks_of words sources);
+      document_of (limits_of words) (rules_given words.order (reads_of sources)) (record (front_of words sources) { info = info; attachments = attachments_of sources })
+      (chapters_within split (chapters_of (reads_of sources)) (stretch_of words.scale 0 None)) (tags_of words.order (reads_of sources)) (blocks_of words sources);
 }
 
 pub one-document : WholeMergesHaveOneDocument
@@ -107,13 +107,13 @@ few-info scale (octet ∷ octets) (Some zero) = omega arith
 few-info scale (octet ∷ octets) (Some (suc n)) = omega arith
 
 module _ (words : MergeWords) (reads : List InputRead) (unrefused : plan_refusal words reads ≡ None) where
-  none-too-large : first_too_large (tracks_of_output reads) (chapters_of reads) (tags_of reads) ≡ None
+  none-too-large : first_too_large (tracks_of_output words.order reads) (chapters_of reads) (tags_of words.order reads) ≡ None
   none-too-large =
-      none-made HeaderTooLarge (first_too_large (tracks_of_output reads) (chapters_of reads) (tags_of reads))
-      (second-none (lanes_refusal words.webm (tracks_taken reads)) (records_refusal reads) unrefused)
+      none-made HeaderTooLarge (first_too_large (tracks_of_output words.order reads) (chapters_of reads) (tags_of words.order reads))
+      (second-none (lanes_refusal words.webm (tracks_taken reads) (tracks_ordered words.order reads)) (records_refusal words.order reads) unrefused)
 
-  large-behind : option_or (too_large CHAPTERS (chapters_of reads)) (too_large TAGS (tags_of reads)) ≡ None
-  large-behind = second-none (too_large TRACKS (Some (tracks_of_output reads))) (option_or (too_large CHAPTERS (chapters_of reads)) (too_large TAGS (tags_of reads))) none-too-large
+  large-behind : option_or (too_large CHAPTERS (chapters_of reads)) (too_large TAGS (tags_of words.order reads)) ≡ None
+  large-behind = second-none (too_large TRACKS (Some (tracks_of_output words.order reads))) (option_or (too_large CHAPTERS (chapters_of reads)) (too_large TAGS (tags_of words.order reads))) none-too-large
 
 pub whole-planned : WholeMergesHaveSmallRecords
 whole-planned words sources unrefused =
@@ -121,7 +121,7 @@ whole-planned words sources unrefused =
     record {
       lasting = refl;
       info = few-info words.scale (title_of words reads) (whole_document words sources).front.lasting;
-      tracks = not-large TRACKS (tracks_of_output reads) (first-none (too_large TRACKS (Some (tracks_of_output reads))) (option_or (too_large CHAPTERS (chapters_of reads)) (too_large TAGS (tags_of reads))) (none-too-large words reads unrefused));
-      chapters = none-large CHAPTERS (chapters_of reads) (first-none (too_large CHAPTERS (chapters_of reads)) (too_large TAGS (tags_of reads)) (large-behind words reads unrefused));
-      tags = none-large TAGS (tags_of reads) (second-none (too_large CHAPTERS (chapters_of reads)) (too_large TAGS (tags_of reads)) (large-behind words reads unrefused));
+      tracks = not-large TRACKS (tracks_of_output words.order reads) (first-none (too_large TRACKS (Some (tracks_of_output words.order reads))) (option_or (too_large CHAPTERS (chapters_of reads)) (too_large TAGS (tags_of words.order reads))) (none-too-large words reads unrefused));
+      chapters = none-large CHAPTERS (chapters_of reads) (first-none (too_large CHAPTERS (chapters_of reads)) (too_large TAGS (tags_of words.order reads)) (large-behind words reads unrefused));
+      tags = none-large TAGS (tags_of words.order reads) (second-none (too_large CHAPTERS (chapters_of reads)) (too_large TAGS (tags_of words.order reads)) (large-behind words reads unrefused));
     }
