@@ -19,9 +19,10 @@ use Rattle.requests.specs.declared.merge.MergeWords.{MergeWords}
 use Rattle.merge_inputs.specs.declared.taken.TakenTrack.{TakenTrack}
 use Rattle.merge_inputs.specs.Input.{InputRead, BlocksRead, Clusters, events_by}
 use Rattle.merge_plan.specs.Front.{reads_of}
-use Rattle.merge_plan.specs.Plan.{Source, given_from, given_of, append_offset, inputs_given, lanes_given, lanes_taken}
+use Rattle.merge_plan.specs.Plan.{Source, given_from, given_of, append_offset, inputs_taken, lanes_given, lanes_ordered, lanes_taken}
 use Rattle.merge_plan.specs.Records.{is_appended}
 use Rattle.merge_plan.proofs.ChainLemmas.{lanes-all}
+use Rattle.merge_plan.proofs.OrderedLemmas.{ordered-all}
 use Rattle.mkv_merge.specs.Merge.{damages_met, links_met}
 use Rattle.remerge_laws.specs.AgainLanes.{IsReadOfOutput}
 
@@ -85,9 +86,10 @@ HasNoDamage s = All IsUndamaged (given_of s)
 pub none-damaged : (words : MergeWords) (sources : List Source) (k : ℕ) → All HasNoDamage sources → damages_met words sources k ≡ []
 unfolding HasNoDamage
 none-damaged words sources k none =
-    found-whole (λ (link : ℕ × List Damage). link.0 == k) (links_met (inputs_given 0 (reads_of sources)) (lanes_taken words sources))
-    (links-whole (inputs_given 0 (reads_of sources)) (lanes_taken words sources)
-    (taken-whole words.append_damaged (lanes_given sources) (lanes-all IsUndamaged (λ (s : Source). is_appended s.1) given_of HasNoDamage (λ s is. is) sources none)))
+    found-whole (λ (link : ℕ × List Damage). link.0 == k) (links_met (inputs_taken words.order (reads_of sources)) (lanes_taken words sources))
+    (links-whole (inputs_taken words.order (reads_of sources)) (lanes_taken words sources)
+    (taken-whole words.append_damaged (lanes_ordered words.order sources)
+    (ordered-all (All IsUndamaged) words.order (reads_of sources) (lanes_given sources) (lanes-all IsUndamaged (λ (s : Source). is_appended s.1) given_of HasNoDamage (λ s is. is) sources none))))
 
 no-damages : (bs : List Block) → damages_of (block_events bs) ≡ []
 no-damages [] = refl

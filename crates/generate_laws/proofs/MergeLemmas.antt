@@ -30,6 +30,7 @@ use Rattle.output_laws.proofs.AgainLemmas.{lanes-again}
 use Rattle.merge_inputs.specs.Input.{InputRead}
 use Rattle.merge_inputs.specs.declared.input.InputRefusal.{InputRefusal}
 use Rattle.merge_plan.specs.Appending.{append_refusal}
+use Rattle.merge_plan.specs.Attached.{attached_sources}
 use Rattle.merge_plan.specs.Chains.{columns_from}
 use Rattle.merge_plan.specs.Front.{reads_of}
 use Rattle.merge_plan.specs.Places.{in_place}
@@ -38,7 +39,7 @@ use Rattle.merge_plan.specs.Refusal.{plan_refusal}
 use Rattle.merge_plan.specs.declared.refusal.PlanRefusal.{PlanRefusal}
 use Rattle.mkv_merge.specs.Chapters.{chaptered, chapters_refusal, with_chapters}
 use Rattle.mkv_merge.specs.Joined.{no_texts, sources_apart}
-use Rattle.mkv_merge.specs.Merge.{blocks_of, damages_met, damages_warned, has_damage, outputs_of}
+use Rattle.mkv_merge.specs.Merge.{attached_refusal, blocks_of, damages_met, damages_warned, has_damage, outputs_of}
 use Rattle.mkv_merge.specs.Read.{first_written, found_in, inputs_from, inputs_of, numbered}
 use Rattle.mkv_merge.specs.Refused.{first_cause}
 use Rattle.mkv_merge.specs.Texts.{timed_from, times_refusal}
@@ -139,11 +140,11 @@ module _ (n : ℕ) (few : n ≤ 100000) (names : Names) where
 
   -- the sources for the inputs that were read; below, the first refusal
   abbrev sources_by : List InputRead → List Source
-  sources_by reads = in_place (zip contents (timed_from [] 0 (chaptered with_chapters false no_texts.chapters reads)))
+  sources_by reads = in_place (zip contents (timed_from [] 0 (chaptered with_chapters false no_texts.chapters reads))) ++ attached_sources false [] []
 
   abbrev found_by : Option (List ℕ) → Result (List InputRead) Refusal → Result (List Source) Refusal
   found_by written found =
-      unless (first_cause (option_map OutputIsInput written ∷ result_err found ∷ chapters_refusal no_texts.chapters ∷ times_refusal []
+      unless (first_cause (option_map OutputIsInput written ∷ result_err found ∷ chapters_refusal no_texts.chapters ∷ times_refusal [] ∷ attached_refusal []
       ∷ option_map Differs (append_refusal (timed_from [] 0 (chaptered with_chapters false no_texts.chapters (found_in found))))
       ∷ option_map Plan (plan_refusal words (reads_of (sources_by (found_in found)))) ∷ [])) (sources_by (found_in found))
 
