@@ -7,6 +7,9 @@ mod PlaceLemmas
 pub mod SourceLemmas
 pub mod LaneLemmas
 pub mod TakenLemmas
+pub mod HeldLemmas
+mod FrontLemmas
+mod OrderLemmas
 mod LoadLemmas
 mod ChapterLemmas
 mod PartLemmas

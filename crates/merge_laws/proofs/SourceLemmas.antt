@@ -331,18 +331,22 @@ input-read words webm held bytes read octets sound has = of (is_srt words.name b
     of true is = srt-read words bytes read octets sound has is
     of false is = file-read words webm held bytes read octets sound has is
 
--- The command line selects tracks that the file has.
-pub input-taken : (words : FileWords) (webm : Bool) (held : ℕ) (bytes : List ℕ) (read : InputRead) → input_of words webm held bytes ≡ Ok read → (list : List Track) × (taken_from words 0 list ≡ read.taken)
+-- The command line selects tracks that the file has, and these are counted.
+pub input-taken : (words : FileWords) (webm : Bool) (held : ℕ) (bytes : List ℕ) (read : InputRead) → input_of words webm held bytes ≡ Ok read
+    → (list : List Track) × ((taken_from words 0 list ≡ read.taken) × (length list ≡ read.count))
 input-taken words webm held bytes read = of (is_srt words.name bytes)
   where
-    of : (text : Bool) → (if text then text_read words bytes else file_read words webm held bytes) ≡ Ok read → (list : List Track) × (taken_from words 0 list ≡ read.taken)
-    of true is = let found = text-ok (srt_text bytes) (text_with words) read is in (track_of text_entry ∷ [], ap (λ (i : InputRead). i.taken) found.1.1)
+    of : (text : Bool) → (if text then text_read words bytes else file_read words webm held bytes) ≡ Ok read
+        → (list : List Track) × ((taken_from words 0 list ≡ read.taken) × (length list ≡ read.count))
+    of true is =
+        let found = text-ok (srt_text bytes) (text_with words) read is in
+        (track_of text_entry ∷ [], (ap (λ (i : InputRead). i.taken) found.1.1, ap (λ (i : InputRead). i.count) found.1.1))
     of false is =
         let outline = found-ok (outline_of held bytes) _ read is in
         let records = found-ok (file_records bytes outline.0.segment) _ read outline.1.1 in
         let r : FileRecords = records.0 in
         let made = unrefused-ok (refusal_of (taken_from words 0 r.tracks)) (input_with words webm outline.0 r) read records.1.1 in
-        (r.tracks, ap (λ (i : InputRead). i.taken) made.1)
+        (r.tracks, (ap (λ (i : InputRead). i.taken) made.1, ap (λ (i : InputRead). i.count) made.1))
 
 -- ---- all inputs
 

@@ -2,3 +2,4 @@ pub mod Sources
 pub mod Merge
 pub mod Bound
 pub mod Laws
+pub mod Order

@@ -5,6 +5,7 @@
 //! that reads or writes depends on this crate.
 
 ghost use Rattle.merge_laws.specs.Bound.{OnlyAppendingWalks, ReadsAreBounded};
+ghost use Rattle.merge_laws.specs.Order.{OrdersKeepTracks, OwnOrdersChangeNothing};
 ghost use Rattle.merge_laws.specs.Laws.{DamagedLanesGoOn, LayoutsHoldOutputs, MergedDocumentsAreSound, SelectedBlocksAreSound, SourcesAreRead, UndamagedLanesStay, WholeMergesAreOne};
 
 /// Law: if all files consist of bytes, the contents of the sources of `merge` do, and their tracks can be written. The
@@ -48,6 +49,18 @@ pub fn undamaged_lanes_stay()
 /// damaged input. A promise to users; no code calls it.
 pub fn damaged_lanes_go_on()
     ensures { DamagedLanesGoOn }
+{}
+
+/// Law: `--track-order` changes only the order of the output tracks of `merge`. Each is there once, with its blocks and
+/// the track that begins it. A promise to users; no code calls it.
+pub fn orders_keep_tracks()
+    ensures { OrdersKeepTracks }
+{}
+
+/// Law: if `--track-order` names the output tracks of `merge` as they are without it, or a part of them from the front,
+/// no output track changes. A promise to users; no code calls it.
+pub fn own_orders_change_nothing()
+    ensures { OwnOrdersChangeNothing }
 {}
 
 /// Law: `merge` reads at most 16 times the sum of its inputs' lengths for each output track, and 48 times this sum
