@@ -5,9 +5,9 @@ use Rattle.std.specs.List.Sorted.{IsPermutation}
 use Rattle.std.proofs.lemmas.List.Elements.{All-head, All-tail}
 use Rattle.std.proofs.lemmas.List.Sorted.{IsPermutation-append_right, IsPermutation-cons, IsPermutation-middle, IsPermutation-refl, IsPermutation-sym, IsPermutation-trans}
 use Rattle.merge_plan.specs.Order.{in_order, names, names_other, picked}
-use Rattle.merge_plan.proofs.OrderLemmas.{in_order-map}
+use Rattle.merge_plan.proofs.OrderLemmas.{in_order-map, picked-all}
 
-abbrev Keys : Type 0
+abbrev pub Keys : Type 0
 Keys = List (ℕ × ℕ)
 
 -- ---- an order that names the first items as they are
@@ -59,6 +59,28 @@ in_order-front (suc n) [] xs none many = refl
 in_order-front (suc n) (key ∷ keys) [] (next k ks other apart) many = absurd (omega arith)
 in_order-front (suc n) (key ∷ keys) (x ∷ xs) (next k ks other apart) many =
     front-next (take n keys) key keys x xs other (omega arith) ∙ ap (λ l. x ∷ l) (in_order-front n keys xs apart (omega arith))
+
+-- It changes nothing of the items whose keys pass a test, either.
+pub in_order-some : {A : Type 0} (n : ℕ) (test : ℕ × ℕ → Bool) (keys : Keys) (xs : List A) → AreApart keys → length (picked test keys keys) ≡ length xs
+    → in_order (take n keys) (picked test keys keys) xs ≡ xs
+in_order-some zero test keys xs apart many = refl
+in_order-some (suc n) test [] xs none many = refl
+in_order-some {A = A} (suc n) test (key ∷ keys) xs (next k ks other apart) many = of (test key) xs (λ ys few. in_order-some n test keys ys apart few) many
+  where
+    own : Keys
+    own = picked test keys keys
+
+    others : NamesNone key own
+    others = picked-all (λ (k : ℕ × ℕ). names key k ≡ false) test keys keys other
+
+    of : (b : Bool) (ys : List A) → ((zs : List A) → length (picked test keys keys) ≡ length zs → in_order (take n keys) (picked test keys keys) zs ≡ zs)
+        → length (if b then key ∷ own else own) ≡ length ys → in_order (key ∷ take n keys) (if b then key ∷ own else own) ys ≡ ys
+    of true [] rest many = absurd (omega arith)
+    of true (y ∷ ys) rest many = front-next (take n keys) key own y ys others (omega arith) ∙ ap (λ l. y ∷ l) (rest ys (omega arith))
+    of false ys rest many =
+        ap₂ (λ (l r : List A). l ++ r) (picked-none key own ys others)
+        (ap₂ (in_order (take n keys)) (picked-rest key own own others refl) (picked-rest key own ys others many))
+        ∙ rest ys many
 
 -- ---- an order loses no item
 

@@ -10,6 +10,8 @@ pub mod TakenLemmas
 pub mod HeldLemmas
 mod FrontLemmas
 mod OrderLemmas
+mod OrderTagLemmas
+mod OrderVerdictLemmas
 mod LoadLemmas
 mod ChapterLemmas
 mod PartLemmas

@@ -17,7 +17,7 @@ use Rattle.merge_inputs.specs.Taken.{taken_from, taken_track}
 use Rattle.merge_inputs.specs.declared.taken.TakenTrack.{TakenTrack}
 use Rattle.merge_plan.specs.Front.{reads_of}
 use Rattle.merge_plan.specs.Order.{in_order, names}
-use Rattle.merge_plan.specs.Plan.{Source, inputs_given, lanes_given, lanes_taken, numbers_of}
+use Rattle.merge_plan.specs.Plan.{Source, inputs_given, inputs_taken, lanes_given, lanes_taken, numbers_of}
 use Rattle.merge_plan.specs.Records.{is_appended, key_of, keys_from, tracks_begun, tracks_ordered, tracks_taken}
 use Rattle.merge_plan.proofs.ChainLemmas.{begins, lanes-first}
 use Rattle.merge_plan.proofs.OrderLemmas.{in_order-map}
@@ -25,7 +25,7 @@ use Rattle.merge_plan.proofs.OrderedLemmas.{lanes-many}
 use Rattle.merge_plan.proofs.RecordLemmas.{keys-count}
 use Rattle.mkv_merge.specs.Merge.{sources_of}
 use Rattle.merge_laws.specs.Merge.{lanes_selected}
-use Rattle.merge_laws.specs.Order.{NamesTheFirst, OrdersKeepTracks, OwnOrdersChangeNothing, tracks_with_blocks, unordered}
+use Rattle.merge_laws.specs.Order.{NamesTheFirst, OrdersKeepTracks, tracks_with_blocks, unordered}
 use Rattle.merge_laws.proofs.FrontLemmas.{AreApart, NamesNone, in_order-front, in_order-pairs, in_order-permutes, next, none}
 use Rattle.merge_laws.proofs.HeldLemmas.{HasTracks, sources-held}
 use Rattle.merge_laws.proofs.SourceLemmas.{input-taken}
@@ -74,7 +74,7 @@ orders-keep words sources = tracks-kept words sources
 -- ---- the keys of the tracks
 
 -- The IDs of the selected tracks ascend: the first is at least `from`, and each is below `count`.
-abbrev AreIds : ℕ → ℕ → List TakenTrack → Type 0
+abbrev pub AreIds : ℕ → ℕ → List TakenTrack → Type 0
 AreIds count from [] = Unit {0}
 AreIds count from (t ∷ ts) = (from ≤ t.id) × ((t.id < count) × AreIds count (t.id + 1) ts)
 
@@ -92,7 +92,7 @@ ids-taken words count id (t ∷ ts) few = of (is_taken words id t.kind) (ids-tak
     of false rest = ids-later count id (id + 1) (taken_from words (id + 1) ts) (omega arith) rest
 
 -- the fact of an input: the IDs of its selected tracks ascend
-abbrev HaveIds : ℕ → List TakenTrack → Type 0
+abbrev pub HaveIds : ℕ → List TakenTrack → Type 0
 HaveIds count taken = AreIds count 0 taken
 
 input-ids : (words : FileWords) (webm : Bool) (held : ℕ) (bytes : List ℕ) (read : InputRead) → Unit {0} → input_of words webm held bytes ≡ Ok read → HaveIds read.count read.taken
@@ -119,14 +119,14 @@ misses-later number count m from (t ∷ ts) less are =
     other false b is = refl
 
 -- The key's input is number `number` or a later one.
-abbrev IsFrom : ℕ → ℕ × ℕ → Type 0
+abbrev pub IsFrom : ℕ → ℕ × ℕ → Type 0
 IsFrom number key = number ≤ key.0
 
 keys-are_from : (number : ℕ) (ts : List TakenTrack) → All (IsFrom number) (map (key_of number) ts)
 keys-are_from number [] = All-nil (IsFrom number)
 keys-are_from number (t ∷ ts) = All-cons (IsFrom number) (key_of number t) (map (key_of number) ts) (omega arith) (keys-are_from number ts)
 
-keys-from : (number : ℕ) (reads : List InputRead) → All (IsFrom number) (keys_from number reads)
+pub keys-from : (number : ℕ) (reads : List InputRead) → All (IsFrom number) (keys_from number reads)
 keys-from number [] = All-nil (IsFrom number)
 keys-from number (i ∷ is) =
     All-append (IsFrom number) (map (key_of number) (tracks_begun i)) (keys_from (number + 1) is) (keys-are_from number (tracks_begun i))
@@ -145,7 +145,7 @@ apart-append number count from (t ∷ ts) keys are later apart =
     (All-append (λ (key : ℕ × ℕ). names (key_of number t) key ≡ false) (map (key_of number) ts) keys (misses-later number count t.id (t.id + 1) ts (omega arith) are.1.1) (misses-other number t.id keys later))
     (apart-append number count (t.id + 1) ts keys are.1.1 later apart)
 
-keys-apart : (number : ℕ) (reads : List InputRead) → All (λ (i : InputRead). HaveIds i.count i.taken) reads → AreApart (keys_from number reads)
+pub keys-apart : (number : ℕ) (reads : List InputRead) → All (λ (i : InputRead). HaveIds i.count i.taken) reads → AreApart (keys_from number reads)
 keys-apart number [] each = none
 keys-apart number (i ∷ is) each =
     apart-append number i.count 0 (tracks_begun i) (keys_from (number + 1) is) (begun (is_appended i) (All-head (λ (j : InputRead). HaveIds j.count j.taken) i is each)) (keys-from (number + 1) is)
@@ -182,7 +182,7 @@ inputs-many reads =
 -- ---- an order that names the tracks as they are
 
 module _ (world : List ℕ → Option (List ℕ)) (words : MergeWords) (sources : List Source) (is : sources_of world words ≡ Ok sources) (first : NamesTheFirst words sources) where
-  all-reads : (ss : List Source) → All (HasTracks HaveIds tt) ss → All (λ (i : InputRead). HaveIds i.count i.taken) (reads_of ss)
+  pub all-reads : (ss : List Source) → All (HasTracks HaveIds tt) ss → All (λ (i : InputRead). HaveIds i.count i.taken) (reads_of ss)
   all-reads [] each = All-nil (λ (i : InputRead). HaveIds i.count i.taken)
   all-reads (s ∷ ss) each =
       All-cons (λ (i : InputRead). HaveIds i.count i.taken) s.1 (reads_of ss) (All-head (HasTracks HaveIds tt) s ss each) (all-reads ss (All-tail (HasTracks HaveIds tt) s ss each))
@@ -197,12 +197,8 @@ module _ (world : List ℕ → Option (List ℕ)) (words : MergeWords) (sources 
   pub ordered-same : tracks_ordered words.order (reads_of sources) ≡ tracks_ordered [] (reads_of sources)
   ordered-same = front-same (tracks_taken (reads_of sources)) refl
 
-  lanes-same : lanes_taken words sources ≡ lanes_taken (unordered words) sources
+  pub lanes-same : lanes_taken words sources ≡ lanes_taken (unordered words) sources
   lanes-same = ap (map (map (going_on words.append_damaged))) (front-same (lanes_given sources) (lanes-many sources))
 
-pub own-orders : OwnOrdersChangeNothing
-own-orders world words sources is first = record {
-  tracks = ordered-same world words sources is first;
-  lanes = lanes-same world words sources is first;
-  inputs = front-same world words sources is first (inputs_given 0 (reads_of sources)) (inputs-many (reads_of sources));
-}
+  pub numbers-same : inputs_taken words.order (reads_of sources) ≡ inputs_taken [] (reads_of sources)
+  numbers-same = front-same (inputs_given 0 (reads_of sources)) (inputs-many (reads_of sources))

@@ -72,6 +72,8 @@ use Rattle.mkv_schema.specs.declared.track_type.TheConstants.{AUDIO_TRACK, SUBTI
 use Rattle.merge_inputs.specs.declared.input.InputRefusal.{InputRefusal}
 use Rattle.merge_inputs.specs.declared.input.InputRefusal.TheVariants.{Damaged}
 use Rattle.merge_inputs.proofs.TakenLemmas.{AreTaken-read, taken-tracks}
+use Rattle.merge_plan.specs.Appending.{append_refusal}
+use Rattle.merge_plan.specs.declared.appending.AppendDiffers.{AppendDiffers}
 use Rattle.merge_plan.specs.Attached.{attached_source, attached_sources}
 use Rattle.merge_plan.specs.Front.{reads_of}
 use Rattle.merge_plan.specs.Places.{in_place}
@@ -81,10 +83,10 @@ use Rattle.merge_plan.specs.declared.refusal.PlanRefusal.{PlanRefusal}
 use Rattle.mkv_merge.specs.Merge.{refusals, refusals_read, sources_in, sources_of}
 use Rattle.mkv_merge.specs.Chapters.{chaptered, first_with, with_chapters}
 use Rattle.mkv_merge.specs.Texts.{listings_at, timed_from, with_listings}
-use Rattle.mkv_merge.specs.Read.{attached_held, contents_held, found_in, inputs_from, inputs_of, numbered, texts_held}
+use Rattle.mkv_merge.specs.Read.{attached_held, contents_held, found_in, inputs_from, inputs_of, numbered, reads_with, texts_held}
 use Rattle.mkv_merge.specs.Refused.{first_cause}
 use Rattle.mkv_merge.specs.declared.refusal.Refusal.{Refusal}
-use Rattle.mkv_merge.specs.declared.refusal.Refusal.TheVariants.{Plan}
+use Rattle.mkv_merge.specs.declared.refusal.Refusal.TheVariants.{Differs, Plan}
 use Rattle.requests.specs.Texts.{HasTexts, AreTexts}
 use Rattle.merge_laws.specs.Sources.{HoldsOctets, IsReadSource, IsReadTrack, AreSources, is_taken_type}
 use Rattle.merge_laws.proofs.PlaceLemmas.{placed-read}
@@ -427,13 +429,17 @@ contents-octets world [] holds = All-nil AreOctets
 contents-octets world (name ∷ names) holds =
     All-cons AreOctets (unwrap_or (world name) []) (map (λ (n : List ℕ). unwrap_or (world n) []) names) (content-octets world name (world name) holds refl) (contents-octets world names holds)
 
-no-refusal : (why : Option Refusal) (sources found : List Source) → unless why sources ≡ Ok found → (why ≡ None) × (sources ≡ found)
+pub no-refusal : (why : Option Refusal) (sources found : List Source) → unless why sources ≡ Ok found → (why ≡ None) × (sources ≡ found)
 no-refusal None sources found is = (refl, cc)
 no-refusal (Some why) sources found is = absurd (cc)
 
 unplanned : (why : Option PlanRefusal) → option_map Plan why ≡ None → why ≡ None
 unplanned None is = refl
 unplanned (Some why) is = absurd (cc)
+
+undiffering : (why : Option AppendDiffers) → option_map Differs why ≡ None → why ≡ None
+undiffering None is = refl
+undiffering (Some why) is = absurd (cc)
 
 -- No refusal holds.
 none-stands : (causes : List (Option Refusal)) → first_cause causes ≡ None → AllByRecursion (λ (cause : Option Refusal). cause ≡ None) causes
@@ -453,6 +459,7 @@ pub record WereRead (world : List ℕ → Option (List ℕ)) (words : MergeWords
   pub read : inputs_of words (contents_held world words) ≡ Ok found
   pub placed : in_place (zip (contents_held world words) (timed_from given.times 0 (chaptered with_chapters words.webm given.chapters found)))
       ++ attached_sources words.webm words.attached (attached_held world words) ≡ sources
+  pub joined : append_refusal (timed_from given.times 0 (chaptered with_chapters words.webm given.chapters found)) ≡ None
   pub unrefused : plan_refusal words (reads_of sources) ≡ None
 
 -- The sources of a merge were read in this way.
@@ -469,6 +476,7 @@ were-read world words sources is =
       found = found_in (inputs_of words contents);
       read = all-found (inputs_of words contents) read.0;
       placed = good.1;
+      joined = undiffering (append_refusal (reads_with words (texts_held world words) contents)) read.1.1.1.1.0;
       unrefused = ap (λ (each : List Source). plan_refusal words (reads_of each)) (sym good.1) ∙ unplanned (plan_refusal words (reads_of all)) read.1.1.1.1.1.0;
     }
 

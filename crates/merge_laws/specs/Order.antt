@@ -6,9 +6,9 @@ use Rattle.output_model.specs.OutputBlock.{OutputBlock}
 use Rattle.requests.specs.declared.merge.MergeWords.{MergeWords}
 use Rattle.merge_inputs.specs.declared.taken.TakenTrack.{TakenTrack}
 use Rattle.merge_plan.specs.Front.{reads_of}
-use Rattle.merge_plan.specs.Plan.{Source, inputs_taken, lanes_taken}
+use Rattle.merge_plan.specs.Plan.{Source}
 use Rattle.merge_plan.specs.Records.{keys_from, tracks_ordered}
-use Rattle.mkv_merge.specs.Merge.{sources_of}
+use Rattle.mkv_merge.specs.Merge.{merge_verdict, sources_of}
 use Rattle.merge_laws.specs.Merge.{lanes_selected}
 
 -- the merge `words` without `--track-order`. The laws on the option compare both.
@@ -30,16 +30,9 @@ OrdersKeepTracks = (words : MergeWords) (sources : List Source) → IsPermutatio
 abbrev pub NamesTheFirst : MergeWords → List Source → Type 0
 NamesTheFirst words sources = take (length words.order) (keys_from 0 (reads_of sources)) ≡ words.order
 
--- The merge `words` of `sources` has the output tracks that it has without `--track-order`, in the same order: the tracks that begin them, their links
--- with their blocks, and the numbers of their links' inputs. `OwnOrdersChangeNothing` states it.
-pub record IsOrderedAsWithout (words : MergeWords) (sources : List Source) : Type 0 where
-  pub tracks : tracks_ordered words.order (reads_of sources) ≡ tracks_ordered [] (reads_of sources)
-  pub lanes : lanes_taken words sources ≡ lanes_taken (unordered words) sources
-  pub inputs : inputs_taken words.order (reads_of sources) ≡ inputs_taken [] (reads_of sources)
-
--- If `--track-order` of the merge `words` names the output tracks in their order without it, from the first on, it changes no output track. `sources`
--- are the inputs if the files are `world`. It is the law `own_orders_change_nothing`.
+-- If `--track-order` of the merge `words` names the output tracks in their order without it, from the first on, it changes nothing: the status, the
+-- messages and the outputs are the same. `sources` are the inputs if the files are `world`. It is the law `own_orders_change_nothing`.
 abbrev pub OwnOrdersChangeNothing : Type 0
 OwnOrdersChangeNothing =
     (world : List ℕ → Option (List ℕ)) (words : MergeWords) (sources : List Source) → sources_of world words ≡ Ok sources → NamesTheFirst words sources
-    → IsOrderedAsWithout words sources
+    → merge_verdict world words ≡ merge_verdict world (unordered words)

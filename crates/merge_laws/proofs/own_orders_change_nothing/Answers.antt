@@ -1,4 +1,4 @@
-use Rattle.merge_laws.proofs.OrderLemmas.{own-orders}
+use Rattle.merge_laws.proofs.OrderVerdictLemmas.{own-orders}
 use Rattle.merge_laws.proofs.own_orders_change_nothing.Goals as goal
 
 pub returns : goal.returns
