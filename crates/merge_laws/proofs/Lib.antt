@@ -12,6 +12,8 @@ mod FrontLemmas
 mod OrderLemmas
 mod OrderTagLemmas
 mod OrderVerdictLemmas
+mod AddedLemmas
+mod WholeFileLemmas
 mod LoadLemmas
 mod ChapterLemmas
 mod PartLemmas

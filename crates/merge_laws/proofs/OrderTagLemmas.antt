@@ -78,11 +78,11 @@ abbrev pub AreChained : ℕ → List InputRead → Type 0
 AreChained tracks [] = Unit {0}
 AreChained tracks (i ∷ is) = (is_appended i ≡ true → tracks ≡ length i.taken) × AreChained (if is_appended i then tracks else length i.taken) is
 
-either : {A : Type 0} (a b : Option A) → option_or a b ≡ None → (a ≡ None) × (b ≡ None)
+pub either : {A : Type 0} (a b : Option A) → option_or a b ≡ None → (a ≡ None) × (b ≡ None)
 either None b none = (refl, none)
 either (Some x) b none = absurd (cc)
 
-unmapped : {A B : Type 0} (f : A → B) (o : Option A) → option_map f o ≡ None → o ≡ None
+pub unmapped : {A B : Type 0} (f : A → B) (o : Option A) → option_map f o ≡ None → o ≡ None
 unmapped f None none = refl
 unmapped f (Some x) none = absurd (cc)
 

@@ -442,7 +442,7 @@ undiffering None is = refl
 undiffering (Some why) is = absurd (cc)
 
 -- No refusal holds.
-none-stands : (causes : List (Option Refusal)) → first_cause causes ≡ None → AllByRecursion (λ (cause : Option Refusal). cause ≡ None) causes
+pub none-stands : (causes : List (Option Refusal)) → first_cause causes ≡ None → AllByRecursion (λ (cause : Option Refusal). cause ≡ None) causes
 none-stands [] is = tt
 none-stands (None ∷ causes) is = (refl, none-stands causes is)
 none-stands (Some why ∷ causes) is = absurd (cc)

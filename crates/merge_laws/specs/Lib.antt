@@ -3,3 +3,4 @@ pub mod Merge
 pub mod Bound
 pub mod Laws
 pub mod Order
+pub mod Attached

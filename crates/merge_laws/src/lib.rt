@@ -4,6 +4,7 @@
 //! RFC 8794, section 8 (EBML Document), and RFC 9559, sections 5.1 (Segment Element) and 10 (Cluster Blocks). No code
 //! that reads or writes depends on this crate.
 
+ghost use Rattle.merge_laws.specs.Attached.{AttachedFilesAreWhole};
 ghost use Rattle.merge_laws.specs.Bound.{OnlyAppendingWalks, ReadsAreBounded};
 ghost use Rattle.merge_laws.specs.Order.{OrdersKeepTracks, OwnOrdersChangeNothing};
 ghost use Rattle.merge_laws.specs.Laws.{DamagedLanesGoOn, LayoutsHoldOutputs, MergedDocumentsAreSound, SelectedBlocksAreSound, SourcesAreRead, UndamagedLanesStay, WholeMergesAreOne};
@@ -49,6 +50,12 @@ pub fn undamaged_lanes_stay()
 /// damaged input. A promise to users; no code calls it.
 pub fn damaged_lanes_go_on()
     ensures { DamagedLanesGoOn }
+{}
+
+/// Law: `--attach-file` adds the files, whole, to the Attachments of `merge`, after the attached files of its inputs. It
+/// changes nothing else of what is written. A promise to users; no code calls it.
+pub fn attached_files_are_whole()
+    ensures { AttachedFilesAreWhole }
 {}
 
 /// Law: `--track-order` changes only the order of the output tracks of `merge`. Each is there once, with its blocks and
