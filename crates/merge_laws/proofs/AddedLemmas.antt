@@ -5,7 +5,6 @@ use Rattle.std.specs.Map.{lookup}
 use Rattle.std.specs.Option.{option_map}
 use Rattle.std.proofs.lemmas.Bool.Decides.{nat_tests}
 use Rattle.std.proofs.lemmas.Grind.{flat_map-append}
-
 use Rattle.std.proofs.lemmas.List.{drop-append-le, length-append, length-drop, map-append}
 use Rattle.std.proofs.lemmas.List.Elements.{All-append, All-head, All-nil, All-tail}
 use Rattle.std.proofs.lemmas.List.Folds.{list_any-append}
@@ -156,10 +155,10 @@ tags-front editions chapters files more (i ∷ is) few =
     let dropped : drop (length own) (files ++ more) ≡ drop (length own) files ++ more = drop-append-le (length own) files more (omega arith) in
     ap₂ (λ (first others : List Node). first ++ others)
     (ap (λ (pairs : List (ℕ × ℕ)). children_in (option_map (written_tags i.keep (λ (id uid : ℕ).
-        if id == TAG_TRACK_UID then number_of i.track_uids i.output_uids uid else
-        (if id == TAG_EDITION_UID then number_of (uids_of i).editions editions uid else
-        (if id == TAG_CHAPTER_UID then number_of (uids_of i).chapters chapters uid else
-        (if id == TAG_ATTACHMENT_UID then lookup (nat_eq uid) pairs else None))))) i.tags))
+    if id == TAG_TRACK_UID then number_of i.track_uids i.output_uids uid else
+    (if id == TAG_EDITION_UID then number_of (uids_of i).editions editions uid else
+    (if id == TAG_CHAPTER_UID then number_of (uids_of i).chapters chapters uid else
+    (if id == TAG_ATTACHMENT_UID then lookup (nat_eq uid) pairs else None))))) i.tags))
     (zip-front own files more (omega arith)))
     (ap (λ (l : List ℕ). tags_from (all_uids (drop (length (uids_of i).editions) editions) (drop (length (uids_of i).chapters) chapters) l) is) dropped
     ∙ tags-front (drop (length (uids_of i).editions) editions) (drop (length (uids_of i).chapters) chapters) (drop (length own) files) more is (omega (arith, length-drop (length own) files)))

@@ -45,11 +45,11 @@ front-next : {A : Type 0} (order : Keys) (key : ℕ × ℕ) (keys : Keys) (x : A
 front-next {A = A} order key keys x xs other many =
     let own = names-own key in
     let first : picked (names key) (key ∷ keys) (x ∷ xs) ≡ x ∷ [] =
-        ap (λ b. if b then x ∷ picked (names key) keys xs else picked (names key) keys xs) own ∙ ap (λ l. x ∷ l) (picked-none key keys xs other) in
+    ap (λ b. if b then x ∷ picked (names key) keys xs else picked (names key) keys xs) own ∙ ap (λ l. x ∷ l) (picked-none key keys xs other) in
     let left : picked (names_other key) (key ∷ keys) (key ∷ keys) ≡ keys =
-        ap (λ b. if not b then key ∷ picked (names_other key) keys keys else picked (names_other key) keys keys) own ∙ picked-rest key keys keys other refl in
+    ap (λ b. if not b then key ∷ picked (names_other key) keys keys else picked (names_other key) keys keys) own ∙ picked-rest key keys keys other refl in
     let rest : picked (names_other key) (key ∷ keys) (x ∷ xs) ≡ xs =
-        ap (λ b. if not b then x ∷ picked (names_other key) keys xs else picked (names_other key) keys xs) own ∙ picked-rest key keys xs other many in
+    ap (λ b. if not b then x ∷ picked (names_other key) keys xs else picked (names_other key) keys xs) own ∙ picked-rest key keys xs other many in
     ap₂ (λ l r. l ++ r) first (ap₂ (in_order order) left rest)
 
 -- An order of the first keys, as they are, changes nothing.

@@ -25,9 +25,9 @@ whole file = (record { uid = 0; at = 0; len = length file.1; entry = attached_en
 abbrev pub files_attached : (List ℕ → Option (List ℕ)) → MergeWords → List (AttachedFile × List ℕ)
 files_attached world words = if words.webm then [] else map whole (zip words.attached (attached_held world words))
 
--- The Attachments of the merge `words` of the sources `sources` are those of the merge without `--attach-file`, and after them one AttachedFile for each
--- file that is attached, with all its bytes as FileData. The tracks, their blocks, Info, Chapters and Tags are those without the option. `world` has the
--- files, `own` are the sources without the option, and `uids` the FileUIDs that attached files get. It is the law `attached_files_are_whole`.
+-- The Attachments of the merge `words` of `sources` are those of the merge without `--attach-file`, and after them one AttachedFile for each file that
+-- is attached, with all its bytes as FileData. The tracks, their blocks, Info, Chapters and Tags are those without the option. `world` has the files.
+-- `own` are the sources without the option, and `uids` the FileUIDs of the files that are attached. `AttachedFilesAreWhole` states it.
 pub record AttachesFiles (world : List ℕ → Option (List ℕ)) (words : MergeWords) (sources : List Source) : Type 0 where
   pub own : List Source
   pub without : sources_of world (unattached words) ≡ Ok own
@@ -44,4 +44,5 @@ pub record AttachesFiles (world : List ℕ → Option (List ℕ)) (words : Merge
 -- `attached_files_are_whole`.
 abbrev pub AttachedFilesAreWhole : Type 0
 AttachedFilesAreWhole =
-    (world : List ℕ → Option (List ℕ)) (words : MergeWords) (sources : List Source) → sources_of world words ≡ Ok sources → AttachesFiles world words sources
+    (world : List ℕ → Option (List ℕ)) (words : MergeWords) (sources : List Source) → sources_of world words ≡ Ok sources
+    → AttachesFiles world words sources

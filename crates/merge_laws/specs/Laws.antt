@@ -63,7 +63,8 @@ NeverStops g = g.stops ≡ false
 -- the law `undamaged_lanes_stay`.
 abbrev pub UndamagedLanesStay : Type 0
 UndamagedLanesStay =
-    (words : MergeWords) (sources : List Source) → All (All NeverStops) (lanes_given sources) → lanes_taken words sources ≡ lanes_ordered words.order sources
+    (words : MergeWords) (sources : List Source) → All (All NeverStops) (lanes_given sources)
+    → lanes_taken words sources ≡ lanes_ordered words.order sources
 
 -- If the merge `words` has `--append-damaged`, all blocks of all links of each output track are selected, with ticks of `words.scale` nanoseconds.
 -- `sources` are its inputs. It is the law `damaged_lanes_go_on`.

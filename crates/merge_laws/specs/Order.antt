@@ -23,10 +23,11 @@ tracks_with_blocks words sources = zip (tracks_ordered words.order (reads_of sou
 -- The merge `words` of `sources` has the output tracks that it has without `--track-order`, each once and with the same blocks, in another order. It
 -- is the law `orders_keep_tracks`.
 abbrev pub OrdersKeepTracks : Type 0
-OrdersKeepTracks = (words : MergeWords) (sources : List Source) → IsPermutation (tracks_with_blocks (unordered words) sources) (tracks_with_blocks words sources)
+OrdersKeepTracks =
+    (words : MergeWords) (sources : List Source) → IsPermutation (tracks_with_blocks (unordered words) sources) (tracks_with_blocks words sources)
 
--- `--track-order` of the merge `words` of `sources` names the output tracks in the order that they have without it: all, or some from the first on. It
--- is the condition of the law `own_orders_change_nothing`.
+-- `--track-order` of the merge `words` of `sources` names the output tracks in the order that they have without it: all, or some from the first on.
+-- It is the condition of the law `own_orders_change_nothing`.
 abbrev pub NamesTheFirst : MergeWords → List Source → Type 0
 NamesTheFirst words sources = take (length words.order) (keys_from 0 (reads_of sources)) ≡ words.order
 
@@ -34,5 +35,5 @@ NamesTheFirst words sources = take (length words.order) (keys_from 0 (reads_of s
 -- messages and the outputs are the same. `sources` are the inputs if the files are `world`. It is the law `own_orders_change_nothing`.
 abbrev pub OwnOrdersChangeNothing : Type 0
 OwnOrdersChangeNothing =
-    (world : List ℕ → Option (List ℕ)) (words : MergeWords) (sources : List Source) → sources_of world words ≡ Ok sources → NamesTheFirst words sources
-    → merge_verdict world words ≡ merge_verdict world (unordered words)
+    (world : List ℕ → Option (List ℕ)) (words : MergeWords) (sources : List Source) → sources_of world words ≡ Ok sources
+    → NamesTheFirst words sources → merge_verdict world words ≡ merge_verdict world (unordered words)

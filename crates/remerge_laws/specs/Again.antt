@@ -22,8 +22,9 @@ pub record HasIdentifiersOf (order : List (ℕ × ℕ)) (reads : List InputRead)
   pub keep : again.keep ≡ keep_all
 
 -- An input `again` that has the Tags and identifiers that a merge of the inputs `reads` wrote has these Tags again after it is merged by itself.
--- `order` gives the order of the first output's tracks. The identifiers must have 64 bits. A step of the law that an output, merged by itself, is written as it was. The law `tags_are_alike_again` states it.
+-- `order` gives the order of the first output's tracks. The identifiers must have 64 bits. A step of the law that an output, merged by itself, is
+-- written as it was. The law `tags_are_alike_again` states it.
 abbrev pub TagsAreAlikeAgain : Type 0
 TagsAreAlikeAgain =
-    (order : List (ℕ × ℕ)) (reads : List InputRead) (again : InputRead) → Have64Bits (identifiers_of order reads) → HasIdentifiersOf order reads again → MayStandAs (tags_of order reads) again.tags
-    → MayBeAlike (tags_of order reads) (tags_of [] (again ∷ []))
+    (order : List (ℕ × ℕ)) (reads : List InputRead) (again : InputRead) → Have64Bits (identifiers_of order reads)
+    → HasIdentifiersOf order reads again → MayStandAs (tags_of order reads) again.tags → MayBeAlike (tags_of order reads) (tags_of [] (again ∷ []))

@@ -21,6 +21,9 @@ pub record HasChaptersOf (order : List (ℕ × ℕ)) (reads : List InputRead) (a
 -- An input `again` with the Chapters that a merge of the inputs `reads` wrote has their identifiers. It has the same Chapters after it is merged by
 -- itself. `order` gives the order of the first output's tracks. The law `chapters_are_alike_again` states it.
 pub record ChaptersAreAlikeAgain : Type 0 where
-  pub editions : (order : List (ℕ × ℕ)) (reads : List InputRead) (again : InputRead) → HasChaptersOf order reads again → uids_in edition_uids again.chapters ≡ (identifiers_of order reads).editions
-  pub chapters : (order : List (ℕ × ℕ)) (reads : List InputRead) (again : InputRead) → HasChaptersOf order reads again → uids_in chapter_uids again.chapters ≡ (identifiers_of order reads).chapters
-  pub alike : (order : List (ℕ × ℕ)) (reads : List InputRead) (again : InputRead) → HasChaptersOf order reads again → MayBeAlike (chapters_of reads) (chapters_of (again ∷ []))
+  pub editions : (order : List (ℕ × ℕ)) (reads : List InputRead) (again : InputRead) → HasChaptersOf order reads again
+      → uids_in edition_uids again.chapters ≡ (identifiers_of order reads).editions
+  pub chapters : (order : List (ℕ × ℕ)) (reads : List InputRead) (again : InputRead) → HasChaptersOf order reads again
+      → uids_in chapter_uids again.chapters ≡ (identifiers_of order reads).chapters
+  pub alike : (order : List (ℕ × ℕ)) (reads : List InputRead) (again : InputRead) → HasChaptersOf order reads again
+      → MayBeAlike (chapters_of reads) (chapters_of (again ∷ []))

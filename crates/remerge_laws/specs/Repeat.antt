@@ -68,5 +68,6 @@ pub record IsRepeated (duration : Bool) (out name : List ℕ) (d : Document) (r 
 abbrev pub OutputsAreRepeated : Type 0
 OutputsAreRepeated =
     (words : MergeWords) (sources : List Source) (out name : List ℕ) → IsDefault words → IsSoundMerge words → AreTexts words → AreSources words sources
-    → HaveRecords words sources → ArePlainSources words sources → EndsAfterStart (whole_document words sources) → IsWithinLimits (layout (whole_document words sources))
+    → HaveRecords words sources → ArePlainSources words sources → EndsAfterStart (whole_document words sources)
+    → IsWithinLimits (layout (whole_document words sources))
     → (r : FileRecords) × IsRepeated words.duration out name (as_read (whole_document words sources)) r
