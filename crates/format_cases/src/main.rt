@@ -10,6 +10,7 @@ use std::io;
 
 mod blocks;
 mod case;
+mod checksums;
 mod files;
 mod level_one;
 mod numbers;
@@ -41,6 +42,7 @@ fn tell(alloc: Global, word: &str, case: &Case, text: &mut String) -> Result<(),
     match word {
         "element" => numbers::tell_element(case, text),
         "row" => numbers::tell_row(case, text),
+        "crc32" => checksums::tell_checksum(case, text),
         "tree" | "uint" | "int" | "text" => trees::tell_master(alloc, word, case, text),
         "info" => tracks::tell_info(alloc, case, text),
         "tracks" => tracks::tell_tracks(alloc, case, text),
