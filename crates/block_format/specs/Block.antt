@@ -31,7 +31,7 @@ abbrev pub nanoseconds : ℕ → ℤ → ℤ
 nanoseconds scale ticks = ticks *ℤ pos scale
 
 -- the timestamp of a block in nanoseconds: the Cluster's Timestamp plus the block's own, in ticks of `scale` nanoseconds. For the blocks of
--- SimpleBlocks and BlockGroups.
+-- SimpleBlocks and BlockGroups. The Cluster has the Timestamp `timestamp`, and the block the content `content`.
 abbrev pub time_of : ℕ → ℕ → Content → ℤ
 time_of scale timestamp content = nanoseconds scale (pos timestamp +ℤ content.relative)
 

@@ -34,7 +34,7 @@ found_at r bytes timestamp h =
     []
 
 -- the Timestamp of a Cluster after its child `h`, given the Timestamp before that, if any; the first of several counts. It is in ticks. For
--- `found_among`, when a file's blocks are read.
+-- `found_among`, when a file's blocks are read. `bytes` is the file.
 abbrev pub timestamp_behind : List ℕ → Option ℕ → Header → Option ℕ
 timestamp_behind bytes (Some timestamp) h = Some timestamp
 timestamp_behind bytes None h = if h.id == TIMESTAMP then Some (uint_of (body_of bytes h)) else None
@@ -52,7 +52,7 @@ found_behind None = []
 found_behind (Some d) = Err d ∷ []
 
 -- the blocks and damage of the children of a Cluster in `run`, with the damage after them. `timestamp` is the Cluster's Timestamp before them, if
--- any. `r` are the rules of reading. For `found_in`, when a file's blocks are read.
+-- any. `r` are the rules of reading. For `found_in`, when a file's blocks are read. `bytes` is the file.
 abbrev pub found_in_run : Rules → List ℕ → Option ℕ → Run → List Found
 found_in_run r bytes timestamp run = found_among r bytes timestamp run.list ++ found_behind run.damage
 

@@ -18,7 +18,7 @@ use Rattle.block_reader.specs.Spelled.{header_in}
 -- ---- number of frames
 
 -- the number of frames in a lace of `len` bytes and the given kind, or None if its first bytes, given here, aren't enough to know that it is valid.
--- The first byte is the number minus one. Used by `frame_count`.
+-- The first byte is the number minus one. Used by `frame_count`. The kind is `kind`.
 abbrev pub laced_count : Lace → List ℕ → ℕ → Option ℕ
 laced_count kind [] len = None
 laced_count kind (less_one ∷ front) len = if is_settled kind (less_one + 1) front (len - 1) then Some (less_one + 1) else None

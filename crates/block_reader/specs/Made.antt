@@ -29,13 +29,14 @@ block_with h frames references kept = record {
 }
 
 -- The last argument, the head that a reader returned or its damage, agrees with `found`, the expected block. The head makes this block with the
--- frames, references and kept children, or both are the same damage. Used by `MakesSimpleHead` and `MakesGroupHead`.
+-- frames, references and kept children, or both are the same damage. Used by `MakesSimpleHead` and `MakesGroupHead`. They are `frames`, `references`
+-- and `kept`.
 abbrev pub MakesHead : List (List ℕ) → List ℤ → List ℕ → Result Block Damage → Result BlockHead Damage → Type 0
 MakesHead frames references kept found (Ok head) = found ≡ Ok (block_with head frames references kept)
 MakesHead frames references kept found (Err d) = found ≡ Err d
 
 -- The time `ticks` of a BlockGroup, its duration `duration` or one of its references is 2^56 nanoseconds or more in size. All are in ticks of `scale`
--- nanoseconds. Used by `TellsTimes`.
+-- nanoseconds. Used by `TellsTimes`. `references` are all of them.
 abbrev pub has_too_large_ticks : ℕ → ℤ → Option ℕ → List ℤ → Bool
 has_too_large_ticks scale ticks duration references =
     is_too_large_at scale ticks

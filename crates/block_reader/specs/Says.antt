@@ -31,7 +31,7 @@ MakesSimpleHead scale timestamp h s result = (frames : List (List ℕ))
     → MakesHead frames [] [] (in_time (with_limits scale) h.id (simple_block_with scale timestamp h.offset (content_of s frames))) result
 
 -- The last argument, the result of `times_of`, has the times of a BlockGroup as `HasTimes` requires, or is None because one of them is too large.
--- `ticks` is its time, and `old` has its duration and references, in ticks of `scale` nanoseconds.
+-- `ticks` is its time, and `old` has its duration and references, in ticks of `scale` nanoseconds. `new` has them.
 abbrev pub TellsTimes : ℕ → ℤ → Gathered → Gathered → Option Times → Type 0
 TellsTimes scale ticks old new (Some times) = HasTimes scale ticks old new times
 TellsTimes scale ticks old new None = has_too_large_ticks scale ticks old.duration old.references.items ≡ true

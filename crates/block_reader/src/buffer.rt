@@ -48,7 +48,8 @@ impl Model for BlockBuffer {
 }
 
 impl BlockBuffer {
-    /// Returns a buffer without a block, which takes no memory. A cursor over a file's blocks has one.
+    /// Returns a buffer without a block, which takes no memory. A cursor over a file's blocks has one. Used by
+    /// `Cursor::start`.
     pub fn new(alloc: Global) -> BlockBuffer
         ensures octets { result.octets ≡ [] }
         ensures nothing { LendsNothing result }

@@ -29,7 +29,8 @@ abbrev pub place_behind : OpenCluster → Run → ℕ
 place_behind c children = if c.unknown then children.end else c.end
 
 -- the blocks and damaged places that a reading has left inside the Cluster `c`: first the ones in its remaining children, `children`, then the ones
--- after it. The other arguments are as in `left_at_level_1`. Used by `left_in`.
+-- after it. The other arguments are as in `left_at_level_1`. Used by `left_in`. `r` are the rules for blocks, and `bytes` is the file. The Segment
+-- has the size `size` and ends at the offset `end`.
 abbrev pub left_inside : Rules → List ℕ → Size → ℕ → OpenCluster → Run → List Event
 left_inside r bytes size end c children =
     events_then c.closed (found_in_run r bytes c.timestamp children) (left_at_level_1 r bytes size (place_behind c children) end)

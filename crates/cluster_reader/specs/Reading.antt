@@ -190,7 +190,7 @@ pub record PaysWithinFile {T : Type 0} (size : ℕ) (old new : Reading) (before 
   pub most : read_to new ≤ size
 
 -- A call of `advance` or `advance_for` read no byte of its file twice, unless it failed, and at most up to its end. It changed the source from `src`
--- to `src'`, and the reading from `old` to `new`. `r` gives the proof's view of the source.
+-- to `src'`, and the reading from `old` to `new`. `r` gives the proof's view of the source. `result` is what the call returned.
 abbrev pub SpendsIn : {S T : Type 0} → Ghosts S → S → S → Reading → Reading → Result T ReadEnd → Type 0
 SpendsIn r src src' old new result = PaysWithinFile (file_size r src old.file) old new (r.octets_read src) (r.octets_read src') result
 

@@ -59,7 +59,8 @@ Finds takes bytes scale timestamp h b child.Block = FindsBlock takes b (found_at
 Finds takes bytes scale timestamp h b (child.Damaged d) = found_at (with_limits scale) bytes timestamp h ≡ Err d ∷ []
 
 -- `found`, which `read_child` returned for the child `h` of a Cluster, is as `Finds` requires, if the file is visible to the proof. The walk changed
--- from `old` to `new`. `timestamp` is the Cluster's, and `r` gives the proof's view of the source `src`.
+-- from `old` to `new`. `timestamp` is the Cluster's, and `r` gives the proof's view of the source `src`. `takes` chooses the blocks that are read
+-- whole.
 abbrev pub FindsIn : {S : Type 0} → Ghosts S → S → Walk → Walk → Option ℕ → Header → BlockFilter → Child → Type 0
 FindsIn r src old new timestamp h takes found = IfTold r src old.file (λ bytes. Finds takes bytes old.scale timestamp h new.block found)
 
@@ -161,18 +162,18 @@ pub record TakesStep (takes : BlockFilter) (old new : Walk) (result : Result Ste
   pub lends : IfOk result (λ step. LendsWanted takes step new.block)
 
 -- A turn or step that changed the source from `src` to `src'`, and the walk from `old` to `new`, read no byte of its file twice, unless it failed.
--- `r` gives the proof's view of the source.
+-- `r` gives the proof's view of the source. `result` is what the call returned.
 abbrev pub PaysFor : {S T : Type 0} → Ghosts S → S → S → Walk → Walk → Result T ReadEnd → Type 0
 PaysFor r src src' old new result = Pays (file_size r src old.file) (shown old) (shown new) (r.octets_read src) (r.octets_read src') result
 
 -- The number of bytes that the walk's window read from `src` to `src'` is bounded by its move through the content of the Element `h`, a Cluster's
--- child. The walk changed from `old` to `new`, and `r` gives the proof's view of the source.
+-- child. The walk changed from `old` to `new`, and `r` gives the proof's view of the source. `result` is what the call returned.
 abbrev pub ReadsBody : {S T E : Type 0} → Ghosts S → S → S → Walk → Walk → Header → Result T E → Type 0
 ReadsBody r src src' old new h result = Goes r old.file h.body (λ _. stated_end h) old.window new.window src src' result
 
 -- The number of bytes that the walk's window read from `src` to `src'` is bounded, when the first bytes of the SimpleBlock `h` are looked at. The
 -- window stays at the start of its content. The walk changed from `old` to `new`, and `r` gives the proof's view of the source. Used by the contract
--- of `passes`.
+-- of `passes`. `result` is what the call returned.
 abbrev pub StaysAtBody : {S T E : Type 0} → Ghosts S → S → S → Walk → Walk → Header → Result T E → Type 0
 StaysAtBody r src src' old new h result = GoesTo r old.file h.body h.body old.window new.window src src' result
 
@@ -187,7 +188,7 @@ abbrev pub FindsHere : {S E : Type 0} → Ghosts S → S → Walk → Setting �
 FindsHere r src w s end result = FindsAt r src w.file s w.place.at end result
 
 -- `found`, which `timestamp_child` returned for the child `h` of a Cluster, is as `FindsIn` requires for each filter. The walk changed from `old` to
--- `new`. `r` gives the proof's view of the files.
+-- `new`. `r` gives the proof's view of the files. `src` is the state of the files, and `timestamp` the Cluster's Timestamp.
 abbrev pub FindsForAll : {S : Type 0} → Ghosts S → S → Walk → Walk → Option ℕ → Header → Child → Type 0
 FindsForAll r src old new timestamp h found = (takes : BlockFilter) → FindsIn r src old new timestamp h takes found
 

@@ -193,7 +193,7 @@ impl Cursor {
         self.walk.block.references()
     }
 
-    /// Returns the number of damaged places that the cursor found in the file up to now.
+    /// Returns the number of damaged places that the cursor found in the file up to now. Used by tests.
     pub fn damages(&self) -> u64
         ensures { result ≡ self.now.damages }
     {

@@ -61,7 +61,8 @@ impl Damages {
         self.first.as_slice()
     }
 
-    /// Returns the number of damaged places after the first hundred, at most 2^64 - 1, for a last warning.
+    /// Returns the number of damaged places after the first hundred, at most 2^64 - 1, for a last warning. `merge` and
+    /// `extract` print it.
     pub fn more(&self) -> u64
         ensures { result ≡ self.now.more }
     {

@@ -3,7 +3,7 @@ ghost use Rattle.cluster_reader.specs.Laws.{CanReadOn, LeavesNothingBehind};
 ghost use Rattle.cluster_reader.specs.ToldDamages.{TellsInTurn};
 
 /// States that at the end of the reading of a file no block and no damaged place is left. A law for readers of blocks;
-/// no command calls it.
+/// no command calls it. A law for readers of the proof.
 pub fn nothing_is_left_at_the_end()
     ensures { LeavesNothingBehind }
 {}

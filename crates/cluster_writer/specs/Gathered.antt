@@ -24,7 +24,7 @@ pub record Gathered : Type 0 where
 -- ---- the Cluster in the buffer
 
 -- the contents of a buffer without a block, with these limits of a Cluster and `spare` bytes of free capacity. Used by `gathered_with`, while `merge`
--- fills a Cluster.
+-- fills a Cluster. They are `limits`.
 abbrev pub empty_with : ClusterLimits → ℕ → Gathered
 empty_with limits spare = record { limits = limits; timestamp = None; count = 0; elements = []; spare = spare }
 
@@ -129,7 +129,7 @@ pub record AddsBlock (b : OutputBlock) (old new : Gathered) : Type 0 where
   pub spare : old.spare ≤ new.spare + octets_taken b
 
 -- The buffer `new` is `old` with the Element of a block added. It is of the output track number `lane` at the tick `tick`, with the parts that `lent`
--- joins. The contract of `ClusterBuf::put` states it.
+-- joins. The contract of `ClusterBuf::put` states it. They are `head`, `prefix`, `body`, `sizes`, `references` and `kept`.
 abbrev pub AddsLent : ℕ → ℕ → OutHead → List ℕ → List ℕ → List ℕ → List ℤ → List ℕ → Gathered → Gathered → Type 0
 AddsLent lane tick head prefix body sizes references kept old new =
     AddsBlock (block_put lane tick (lent head prefix body sizes references kept)) old new
@@ -151,7 +151,7 @@ abbrev pub HoldsNext : OutputBlock → Gathered → Gathered → Type 0
 HoldsNext b old new = (c : Option OutputCluster) → Holds c old → Holds (Some (with_next c b)) new
 
 -- The buffer `new` holds the Cluster of the buffer `old` with a block after its own. It is of the output track number `lane` at the tick `tick`, with
--- the parts that `lent` joins. The contract of `ClusterBuf::put` states it.
+-- the parts that `lent` joins. The contract of `ClusterBuf::put` states it. They are `head`, `prefix`, `body`, `sizes`, `references` and `kept`.
 abbrev pub HoldsLent : ℕ → ℕ → OutHead → List ℕ → List ℕ → List ℕ → List ℤ → List ℕ → Gathered → Gathered → Type 0
 HoldsLent lane tick head prefix body sizes references kept old new =
     HoldsNext (block_put lane tick (lent head prefix body sizes references kept)) old new

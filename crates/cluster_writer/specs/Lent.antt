@@ -8,7 +8,8 @@ use Rattle.cluster_writer.specs.declared.lent.BlockRef.{BlockRef}
 use Rattle.cluster_writer.specs.declared.lent.BlockLengths.{BlockLengths}
 
 -- the block of an output track with the given parts: its head, the prefix of each frame, the bytes of all frames and their sizes. The last two are
--- its references in ticks and the bytes of kept children. The contract of `ClusterBuf::put` joins its arguments by it.
+-- its references in ticks and the bytes of kept children. The contract of `ClusterBuf::put` joins its arguments by it. They are `head`, `prefix`,
+-- `body`, `sizes`, `references` and `kept`.
 abbrev pub lent : OutHead → List ℕ → List ℕ → List ℕ → List ℤ → List ℕ → Lent
 lent head prefix body sizes references kept =
     record { head = head; prefix = prefix; body = body; sizes = sizes; references = references; kept = kept }
@@ -44,7 +45,7 @@ pub record Measures (own : OutHead) (front : ℕ) (parts : List ℕ) (others : L
   pub kept : length l.kept ≡ extra
 
 -- `len` is the length in bytes of the SimpleBlock or BlockGroup of each block with these parts and lengths, as `Measures` states them. The contract
--- of `element_len` states it.
+-- of `element_len` states it. They are `head`, `prefix`, `sizes`, `references` and `kept`.
 abbrev pub IsLenOf : OutHead → ℕ → List ℕ → List ℤ → ℕ → ℕ → Type 0
 IsLenOf head prefix sizes references kept len =
     (l : Lent) → IsLent l → Measures head prefix sizes references kept l → len ≡ octets_taken (lent_block l)

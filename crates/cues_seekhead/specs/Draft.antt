@@ -60,7 +60,7 @@ Drafts f file least back patches old new (Err _) =
 
 -- The last writes `e` of the output `file`, which had at least `least` bytes, were done from `old` to `new`; the contract of `Ending::write`. Its
 -- Segment's body begins at byte `start`. It ends at the tick `end`, and its Duration is at the offset `place` in that body, if it has one. `f` gives
--- the proof's view of the files.
+-- the proof's view of the files. `result` is what the call returned.
 abbrev pub DraftsEnd : {S T E : Type 0} → Ghosts S → FileId → ℕ → ℕ → Option ℕ → ℕ → Ending → S → S → Result T E → Type 0
 DraftsEnd f file least start place end e old new result =
     Drafts f file least e.back (patches_with start place end e.area (size_octets e.total 8)) old new result

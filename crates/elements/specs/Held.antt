@@ -20,14 +20,14 @@ pub record HoldsIn {S : Type 0} (g : Ghosts S) (file : FileId) (src : S) (held :
 
 -- A call looks up `len` bytes at the offset `at` of the file `file` in the buffer. It reads no more than a window of the same length would. The range
 -- `old` of `buffer` became the range `new` of `now_buffer`, from the state `before` to `now` of the files. `g` shows the files to the proof. The
--- contract of `BufferedRange::hold` states it.
+-- contract of `BufferedRange::hold` states it. `result` is what the call returned.
 abbrev pub LooksIn : {S T E : Type 0} → Ghosts S → FileId → ℕ → ℕ → BufferedRange → List ℕ → BufferedRange → List ℕ → S → S → Result T E → Type 0
 LooksIn g file at len old buffer new now_buffer before now result =
     Looks g file (length buffer) at len (held_in old buffer) (held_in new now_buffer) before now result
 
 -- A call moves the buffer to the offset `at` of the file `file`, if it hasn't passed it, and reads no more than a window. The range `old` of `buffer`
 -- became the range `new` of `now_buffer`, from the state `before` to `now` of the files. `g` shows the files to the proof. The contracts of
--- `BufferedRange::hold` and `element` state it.
+-- `BufferedRange::hold` and `element` state it. `result` is what the call returned.
 abbrev pub GoesIn : {S T E : Type 0} → Ghosts S → FileId → ℕ → BufferedRange → List ℕ → BufferedRange → List ℕ → S → S → Result T E → Type 0
 GoesIn g file at old buffer new now_buffer before now result =
     Goes g file at (λ _. at) (held_in old buffer) (held_in new now_buffer) before now result
@@ -49,7 +49,7 @@ ReadsBehind g file wanted held old new = g.octets_read new + held.len ≤ g.octe
 
 -- A call looks up a header at the offset `at` of the file `file`, in a parent that ends at the offset `end`. The range `old` of `buffer` became the
 -- range `new` of `now_buffer`, from the state `before` to `now` of the files. `g` shows the files to the proof. The contract of
--- `BufferedRange::element` states it.
+-- `BufferedRange::element` states it. `result` is what the call returned.
 abbrev pub LooksHeader : {S T E : Type 0} → Ghosts S → FileId → ℕ → ℕ → BufferedRange → List ℕ → BufferedRange → List ℕ → S → S → Result T E → Type 0
 LooksHeader g file at end old buffer new now_buffer before now result =
     LooksIn g file at (header_room at end) old buffer new now_buffer before now result

@@ -64,29 +64,31 @@ abbrev pub FindsAt : {S E : Type 0} → Ghosts S → S → FileId → Setting �
 FindsAt g src file s at end result = IfOk result (λ found. IfTold g src file (λ bytes. found ≡ element_at s bytes at end))
 
 -- The window `old` became `new`, moved from the offset `at` to the offset `to` of the file `file`. From the state `before` to `now` of the files, at
--- most the bytes of that move were read. `g` shows the files to the proof. For `GoesOver`, as a bound on the bytes that a reader reads.
+-- most the bytes of that move were read. `g` shows the files to the proof. For `GoesOver`, as a bound on the bytes that a reader reads. `result` is
+-- what the call returned.
 abbrev pub GoesTo : {S T E : Type 0} → Ghosts S → FileId → ℕ → ℕ → ReadAhead → ReadAhead → S → S → Result T E → Type 0
 GoesTo g file at to old new before now result = Goes g file at (λ _. to) old new before now result
 
 -- The walk `old` over the file `file` became `new`. Its window, which `ahead` gives, has moved from the offset `at` to the offset `to` of the result.
 -- From the state `before` to `now` of the files, at most the bytes of that move were read. `g` shows the files to the proof. The contracts of walks
--- over Elements state it.
+-- over Elements state it. `result` is what the call returned.
 abbrev pub GoesThrough : {S T E W : Type 0} → Ghosts S → (W → ReadAhead) → FileId → ℕ → (T → ℕ) → W → W → S → S → Result T E → Type 0
 GoesThrough g ahead file at to old new before now result = Goes g file at to (ahead old) (ahead new) before now result
 
 -- A call looked up the `len` bytes at the offset `at` of the file `file` in the window of a walk, or couldn't read them. `ahead` gives the window,
 -- which has `room` bytes. The walk `old` became `new`, from the state `before` to `now` of the files. `g` shows the files to the proof. The contract
--- of `Lookahead::element` states it.
+-- of `Lookahead::element` states it. `result` is what the call returned.
 abbrev pub LooksThrough : {S T E W : Type 0} → Ghosts S → (W → ReadAhead) → FileId → ℕ → ℕ → ℕ → W → W → S → S → Result T E → Type 0
 LooksThrough g ahead file room at len old new before now result = Looks g file room at len (ahead old) (ahead new) before now result
 
 -- The walk `old` over the file `file` became `new`. Its window, which `ahead` gives, has moved from the data of `h` to the offset `to` of the result.
 -- From the state `before` to `now` of the files, at most the bytes of that move were read. `g` shows the files to the proof. The contract of `behind`
--- states it.
+-- states it. `result` is what the call returned.
 abbrev pub GoesBody : {S T E W : Type 0} → Ghosts S → (W → ReadAhead) → FileId → Header → (T → ℕ) → W → W → S → S → Result T E → Type 0
 GoesBody g ahead file h to old new before now result = GoesThrough g ahead file h.body to old new before now result
 
 -- The window `old` on the file `file` became `new`, moved from the data of `h` to its end. From the state `before` to `now` of the files, at most the
--- bytes of that move were read. `g` shows the files to the proof. The contracts of calls that read the data of an Element state it.
+-- bytes of that move were read. `g` shows the files to the proof. The contracts of calls that read the data of an Element state it. `result` is what
+-- the call returned.
 abbrev pub GoesOver : {S T E : Type 0} → Ghosts S → FileId → Header → ReadAhead → ReadAhead → S → S → Result T E → Type 0
 GoesOver g file h old new before now result = GoesTo g file h.body (stated_end h) old new before now result

@@ -9,7 +9,7 @@ use Rattle.elements.specs.declared.level_one.Level1Step.{Level1Step}
 use Rattle.elements.specs.declared.level_one.Level1Step.TheVariants.{Element, Damaged, End}
 
 -- The Elements `left` from the offset `at` on begin with the result of the step, if `from` gives the Elements from a later offset on. For `StepsIn`,
--- when a reader walks over level 1.
+-- when a reader walks over level 1. `header` is that of the Element that the step found.
 abbrev pub StepsOn : Level1Step → Run → ℕ → (ℕ → Run) → Type 0
 StepsOn (Element header (Ok next)) left at from = left ≡ in_front header (from next)
 StepsOn (Element header (Err d)) left at from = left ≡ in_front header (breaks_at at d)
@@ -22,7 +22,7 @@ abbrev pub StepsIn : List ℕ → Size → ℕ → ℕ → Level1Step → Type 0
 StepsIn bytes size at end step = StepsOn step (level_1 bytes size at end) at (λ q. level_1 bytes size q end)
 
 -- If the step from the offset `at` found an Element, it begins before `end`, and the next offset is after `at` and at most `end`. For `IsStep`, when
--- a reader walks over level 1.
+-- a reader walks over level 1. `header` is that of the Element that the step found.
 abbrev pub IsFurther : Level1Step → ℕ → ℕ → Type 0
 IsFurther (Element header (Ok next)) at end = (at < next) × (next ≤ end)
 IsFurther (Element header (Err d)) at end = at < end

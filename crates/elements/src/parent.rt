@@ -36,7 +36,7 @@ impl Parent {
     }
 
     /// Checks whether the byte `80` is ChapterDisplay's ID in this parent (RFC 9559, section 5.1.7, Chapters Element).
-    /// For the ID of an Element, when a reader parses a header.
+    /// For the ID of an Element, when a reader parses a header. Used by `id_at`.
     pub fn has_display(self) -> bool
         ensures { result ≡ (setting_of self).display }
     {
@@ -44,7 +44,7 @@ impl Parent {
     }
 
     /// Checks whether the parent's data is read whole before its children are parsed. For the damage of an Element's
-    /// header and data, when a reader parses a header.
+    /// header and data, when a reader parses a header. Used by `body_damage` and `cut_header`.
     pub fn is_tree(self) -> bool
         ensures { result ≡ (setting_of self).read_whole }
     {

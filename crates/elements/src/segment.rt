@@ -14,6 +14,7 @@ pub trait HasSegment {
     ghost total: { Self → ℕ };
 
     /// Returns the header of the Segment, which begins in the file. The reader of the blocks of a file begins with it.
+    /// Used by `Cursor::start`.
     fn segment(&self) -> Header
         ensures exact { result ≡ segment self.now }
         ensures inside { result.body ≤ total self.now };

@@ -173,6 +173,7 @@ impl Window {
     }
 
     /// Empties the window, so that the next look-up reads the file. The reader of blocks calls it after a failed read.
+    /// Used by `turn_child`.
     pub fn forget(&mut self)
         ensures { self.new ≡ nothing_at 0 }
     {

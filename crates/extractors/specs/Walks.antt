@@ -94,11 +94,12 @@ abbrev pub AddsLent : {S T E : Type 0} → writing.Ghosts S → TrackOutput → 
 AddsLent f o n c old new sinks later k result = Adds f old new sinks later k (entries_from o n (frames_of_block o.step (block_of c.block))) result
 
 -- The result of `give_frames` has the number of the frame after the block at the cursor `c`. The block's first frame has number `n` in the track of
--- the output `o`, counted from 1.
+-- the output `o`, counted from 1. `result` is what the call returned.
 abbrev pub CountsFrames : {E : Type 0} → TrackOutput → ℕ → Reading → Result Given E → Type 0
 CountsFrames o n c result = IfOk result (λ given. given.next ≡ counted (n + length (frames_of_block o.step (block_of c.block))))
 
--- The result of `give_frames` has the number of the frames of the block at the cursor `c` that can't be written to the output `o`.
+-- The result of `give_frames` has the number of the frames of the block at the cursor `c` that can't be written to the output `o`. `result` is what
+-- the call returned.
 abbrev pub CountsBad : {E : Type 0} → TrackOutput → Reading → Result Given E → Type 0
 CountsBad o c result = IfOk result (λ given. given.bad ≡ Some (length (filter (is_bad o) (block_of c.block).frames)))
 
@@ -110,7 +111,7 @@ abbrev pub AddsTime : {S T E : Type 0} → writing.Ghosts S → TrackOutput → 
 AddsTime f o n c old new sinks later k result = (b : Block) → IsKnownByHead b c.block → Adds f old new sinks later k (entries_from o n (frames_of_block o.step b)) result
 
 -- The result of `give_times` has the number of the frame after a block, if its first frame has number `n` in the track of the output `o`, counted
--- from 1. The cursor `c` needs only the head of this block and its number of frames.
+-- from 1. The cursor `c` needs only the head of this block and its number of frames. `result` is what the call returned.
 abbrev pub CountsTimes : {E : Type 0} → TrackOutput → ℕ → Reading → Result Given E → Type 0
 CountsTimes o n c result = (b : Block) → IsKnownByHead b c.block → IfOk result (λ given. given.next ≡ counted (n + length (frames_of_block o.step b)))
 
@@ -121,17 +122,17 @@ abbrev pub AddsPart : {S T E : Type 0} → writing.Ghosts S → TrackOutput → 
 AddsPart f o n c old new sinks later k result = (b : Block) → IsEnoughFor o b c.block → Adds f old new sinks later k (piece o n b) result
 
 -- The result of `give_to` has the number of the next frame of the output `o` after the block at the cursor `c`. It was `n` before the block. A block
--- of another track adds none.
+-- of another track adds none. `result` is what the call returned.
 abbrev pub CountsPiece : {E : Type 0} → TrackOutput → ℕ → Reading → Result Given E → Type 0
 CountsPiece o n c result = (b : Block) → IsEnoughFor o b c.block → IfOk result (λ given. given.next ≡ counted (n + count_in o b))
 
 -- The result of `give_to` has the number of the bad frames of the block at the cursor `c` for the output `o`, or None if the block is of another
--- track.
+-- track. `result` is what the call returned.
 abbrev pub CountsBadPiece : {E : Type 0} → TrackOutput → Reading → Result Given E → Type 0
 CountsBadPiece o c result = (b : Block) → IsEnoughFor o b c.block → IfOk result (λ given. given.bad ≡ bad_count o b)
 
 -- The result of `give_block` is the number of the bad frames of the block at the cursor `c`, each once, if `list` has the outputs. The cursor has
--- enough of the block for them.
+-- enough of the block for them. `result` is what the call returned.
 abbrev pub CountsAllBad : {E : Type 0} → List TrackOutput → Reading → Result ℕ E → Type 0
 CountsAllBad list c result = (b : Block) → IsEnoughForAll list b c.block → IfOk result (λ count. count ≡ length (bad_in list b))
 

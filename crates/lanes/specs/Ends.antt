@@ -31,13 +31,14 @@ link_end b k (Track t) = track_end t k b
 link_end b k (Entries e) = 0
 
 -- the greatest end in nanoseconds of the block `b` for any of the links, or 0. For each link the second argument has the number of frames that
--- precede the block. The contract of `greatest_end` has it.
+-- precede the block. The contract of `greatest_end` has it. `links` are the links of the output track.
 abbrev pub ends_of : Block → List ℕ → List Link → ℕ
 ends_of b [] links = 0
 ends_of b (k ∷ counts) [] = 0
 ends_of b (k ∷ counts) (link ∷ links) = max (link_end b k link) (ends_of b counts links)
 
--- the greatest end in nanoseconds of the subtitles of the text `e`, without append offset, or 0. The contract of `text_end` in the code has it.
+-- the greatest end in nanoseconds of the subtitles of the text `e`, without append offset, or 0. The contract of `text_end` in the code has it. Used
+-- by `texts_end`.
 abbrev pub text_end : TextLink → ℕ
 text_end e = last_end (text_with e []).placing (map entry_block e.entries)
 
@@ -49,11 +50,12 @@ given_by events (Track t) = track_with t events
 given_by events (Entries e) = text_with e e.entries
 
 -- the end in nanoseconds of a file with the events `events` and the given links, without append offset. The survey of a file finds it. Used by
--- `texts_end` and `IsWalked`.
+-- `texts_end` and `IsWalked`. `links` are the links of the output track.
 abbrev pub end_of : List Event → List Link → ℕ
 end_of events links = file_end (map (given_by events) links)
 
--- the greatest end in nanoseconds of the subtitles of the links that are texts, without append offset, or 0. A survey begins with it.
+-- the greatest end in nanoseconds of the subtitles of the links that are texts, without append offset, or 0. A survey begins with it. Used by
+-- `end_of`.
 abbrev pub texts_end : List Link → ℕ
 texts_end links = end_of [] links
 

@@ -23,6 +23,7 @@ link_frames b (Track t) = frames_of t b
 link_frames b (Entries e) = 0
 
 -- the numbers of frames of the links' tracks, in the second argument, after the block `b` was counted. The contract of `count_frames` has them.
+-- `links` are the links of the output track.
 abbrev pub counted_for : Block → List ℕ → List Link → List ℕ
 counted_for b [] links = []
 counted_for b (n ∷ counts) [] = n ∷ counts

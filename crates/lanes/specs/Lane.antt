@@ -100,13 +100,13 @@ GivesBlock f old new (Ok End) = (left f old ≡ []) × (left f new ≡ [])
 GivesBlock f old new (Err end) = left f new ≡ left f old
 
 -- `advance` has changed the output track from `old` to `new` as `GivesBlock` requires. The damaged places that are reported at the end are the same.
--- `f` are the live files. A part of `GivesIfTold`.
+-- `f` are the live files. A part of `GivesIfTold`. `result` is what the call returned.
 pub record Gives (f : LiveFiles) (old new : LaneSeen) (result : Result LaneStep ReadEnd) : Type 0 where
   pub blocks : GivesBlock f old new result
   pub damages : told_in_all f new ≡ told_in_all f old
 
 -- `advance` has changed the output track from `old` to `new` as `Gives` requires, if the files of its links, live in `f`, are visible to the proof.
--- The contract of `Lane::advance` has it.
+-- The contract of `Lane::advance` has it. `result` is what the call returned.
 abbrev pub GivesIfTold : LiveFiles → LaneSeen → LaneSeen → Result LaneStep ReadEnd → Type 0
 GivesIfTold f old new result = IsTold f old → Gives f old new result
 
@@ -116,7 +116,7 @@ given_by (Ok Block) = 1
 given_by (Ok End) = 0
 given_by (Err end) = 0
 
--- an upper bound on the turns that the walk of the output track `l` has left. It shows that a merge ends.
+-- an upper bound on the turns that the walk of the output track `l` has left. It shows that a merge ends. Used by the contract of `Lane::advance`.
 abbrev pub way : LaneSeen → ℕ
 way l = walks.way l.links l.walk
 
@@ -143,7 +143,7 @@ Steps old new (Ok End) = Ends old new
 Steps old new (Err end) = ⊤
 
 -- `advance` has changed the output track from `old` to `new`: it keeps the links and the scale, and counts the blocks that it returns. The contract
--- of `Lane::advance` has it.
+-- of `Lane::advance` has it. `result` is what the call returned.
 pub record Moves (old new : LaneSeen) (result : Result LaneStep ReadEnd) : Type 0 where
   pub links : new.links ≡ old.links
   pub scale : new.scale ≡ old.scale
@@ -167,6 +167,6 @@ Pays f old new before now (Ok answer) = now + due f new ≤ before + due f old
 Pays f old new before now (Err end) = now + due f new ≤ before + due f old + files_length f old
 
 -- A call has read only bytes that were due, as `Pays` requires. It changed the source from `src` to `src'`, and the output track from `old` to `new`.
--- The contract of `Lane::advance` has it. `r` gives the proof's view of the files.
+-- The contract of `Lane::advance` has it. `r` gives the proof's view of the files. `result` is what the call returned.
 abbrev pub PaysFor : {S T : Type 0} → Ghosts S → S → S → LaneSeen → LaneSeen → Result T ReadEnd → Type 0
 PaysFor r src src' old new result = Pays (live_files r src) old new (r.octets_read src) (r.octets_read src') result

@@ -45,7 +45,7 @@ pub record IsSurvey (f : LiveFiles) (links : List Link) (s : Survey) : Type 0 wh
   pub stopped : s.stopped ≡ stops_any f links
 
 -- The survey of the file of `links` had the expected result, if the files, live in `f`, are visible to the proof. It may fail. The contract of
--- `survey` has it.
+-- `survey` has it. `result` is what the call returned.
 abbrev pub Surveys : LiveFiles → List Link → Result Survey ReadEnd → Type 0
 Surveys f links result = All (IsToldLink f) links → IfOk result (IsSurvey f links)
 

@@ -4,7 +4,8 @@ use Rattle.std.specs.Prelude.{ℕ, ◌+◌, ◌-◌, ◌/◌, ◌*◌, ◌^◌, 
 use Rattle.output_model.specs.Ticks.{since_start}
 
 -- the time in the output of a block at `time` in its file, or nothing before time 0. `delay` comes from the options, `shift` is the append offset;
--- all are in nanoseconds. The contract of `output_time` in the code has it.
+-- all are in nanoseconds. The contract of `output_time` in the code has it. `time` is the block's, `delay` the track's, and `shift` the append offset
+-- of its file.
 abbrev pub output_time : ℤ → ℕ → ℤ → Option ℕ
 output_time delay shift time = option_map (λ (t : ℕ). t + shift) (since_start (time +ℤ delay))
 

@@ -38,6 +38,6 @@ more_in None = 0
 more_in (Some t) = t.more
 
 -- the number of damaged places of the link with the number `number`, counted from 0, after its first hundred. The list has the reports of all links.
--- The contract of `Lane::more` has it.
+-- The contract of `Lane::more` has it. It is `ts`.
 abbrev pub more_of : List ToldDamages → ℕ → ℕ
 more_of ts number = more_in (slice_get ts number)

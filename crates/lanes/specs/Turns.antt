@@ -24,13 +24,14 @@ GivesFirst old new lent (Ok (Some End)) = (old ≡ []) × (new ≡ [])
 GivesFirst old new lent (Err end) = new ≡ old
 
 -- A turn has changed the walk over `links` from `old` to `new`. It placed the first block that was left, or none, and the damaged places that are
--- reported at the end are the same. `f` are the live files, and `scale` the nanoseconds per tick. Used by `TurnsIfTold`.
+-- reported at the end are the same. `f` are the live files, and `scale` the nanoseconds per tick. Used by `TurnsIfTold`. `result` is what the call
+-- returned.
 pub record Turns (f : LiveFiles) (scale : ℕ) (links : List Link) (old new : Walk) (result : Result (Option LaneStep) ReadEnd) : Type 0 where
   pub blocks : GivesFirst (left f scale links old) (left f scale links new) (lent_in links new) result
   pub damages : told_in_all f links new ≡ told_in_all f links old
 
 -- A turn has changed the walk over `links` from `old` to `new` as `Turns` requires, if their files, live in `f`, are visible to the proof. The
--- contract of `take_turn` has it.
+-- contract of `take_turn` has it. A tick has `scale` nanoseconds, and `result` is what the call returned.
 abbrev pub TurnsIfTold : LiveFiles → ℕ → List Link → Walk → Walk → Result (Option LaneStep) ReadEnd → Type 0
 TurnsIfTold f scale links old new result = All (IsToldLink f) links → Turns f scale links old new result
 
@@ -60,7 +61,7 @@ GoesOn links old new (Some Block) = way links new < way links old
 GoesOn links old new (Some End) = Ends links old new
 
 -- A turn has changed the walk over `links` from `old` to `new`: it moved forwards, and its block, if there is one, can be written. `scale` is the
--- nanoseconds per tick. The contract of `take_turn` has it.
+-- nanoseconds per tick. The contract of `take_turn` has it. `turn` is the result of the turn.
 pub record Moves (scale : ℕ) (links : List Link) (old new : Walk) (turn : Option LaneStep) : Type 0 where
   pub on : GoesOn links old new turn
   pub lends : LendsFor scale links new turn
@@ -72,6 +73,6 @@ Pays f links old new before now (Ok answer) = now + due f links new ≤ before +
 Pays f links old new before now (Err end) = now + due f links new ≤ before + due f links old + files_length f links
 
 -- A call has read only bytes that were due, as `Pays` requires. It changed the source from `src` to `src'`, and the walk over `links` from `old` to
--- `new`. The contract of `take_turn` has it. `r` gives the proof's view of the files.
+-- `new`. The contract of `take_turn` has it. `r` gives the proof's view of the files. `result` is what the call returned.
 abbrev pub PaysFor : {S T : Type 0} → Ghosts S → S → S → List Link → Walk → Walk → Result T ReadEnd → Type 0
 PaysFor r src src' links old new result = Pays (live_files r src) links old new (r.octets_read src) (r.octets_read src') result

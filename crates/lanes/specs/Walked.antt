@@ -15,6 +15,6 @@ pub record IsWalked (events : List Event) (links : List Link) (s : Survey) : Typ
   pub stopped : s.stopped ≡ is_some (last_of events)
 
 -- A survey of all that the cursor `c` has left of its file, for `links`, had the expected result, if the file is visible to the proof. `src` is the
--- state of the files. The contract of `walk` has it. `r` gives the proof's view of the files.
+-- state of the files. The contract of `walk` has it. `r` gives the proof's view of the files. `result` is what the call returned.
 abbrev pub WalksLeft : {S : Type 0} → Ghosts S → S → Reading → List Link → Result Survey ReadEnd → Type 0
 WalksLeft r src c links result = IfTold r src c.file (λ bytes. IfOk result (IsWalked (left_of bytes c) links))

@@ -27,7 +27,7 @@ abbrev pub track_behind : TrackLink → ℕ → Bool → List Event → Given
 track_behind t k stopped events = record (timed_given (listing_of t) k (track_given (placing_of t) t.number events)) { stops = stopped || (not t.goes_on && is_some (last_of events)) }
 
 -- the rest of the link `t`: all of it before its file is opened, and then the events that its cursor has left. `k` frames of its track precede them,
--- and `f` are the live files. `here_left` uses it.
+-- and `f` are the live files. `here_left` uses it. `stopped` is true if damage ended its reading.
 abbrev pub track_left : LiveFiles → TrackLink → ℕ → Bool → Option Reading → Given
 track_left f t k stopped None = given_in f (Track t)
 track_left f t k stopped (Some c) = track_behind t k stopped (left_of (octets_in f t.file.n) c)
@@ -43,6 +43,7 @@ links_from f w [] = []
 links_from f w (link ∷ links) = here_left f w link ∷ map (given_in f) links
 
 -- the rest of the links of an output track, from the current link of the walk `w` onwards. `f` are the live files. `left` and `told_in_all` use it.
+-- `links` are the links of the output track.
 abbrev pub links_left : LiveFiles → List Link → Walk → List Given
 links_left f links w = links_from f w (drop w.at links)
 
@@ -52,7 +53,7 @@ abbrev pub left : LiveFiles → ℕ → List Link → Walk → List Ordered
 left f scale links w = ordered_from w.greatest (lane_blocks scale (links_left f links w))
 
 -- the damaged places, by link, that the walk `w` over `links` has reported when it ends: the ones met up to now and the rest. `f` are the live files.
--- The summary of a merge has them.
+-- The summary of a merge has them. Used by `Gives`.
 abbrev pub told_in_all : LiveFiles → List Link → Walk → List ToldDamages
 told_in_all f links w = take w.at w.told.items ++ with_all (drop w.at w.told.items) (lane_damages (links_left f links w))
 
@@ -80,7 +81,8 @@ lent_in links w = lent_by w (slice_get links w.at)
 
 -- ---- place of a walk
 
--- The cursor, if there is one, can be read among the live files `f`, and is in the file of the link. `IsReady` uses it for the current link.
+-- The cursor, if there is one, can be read among the live files `f`, and is in the file of the link. `IsReady` uses it for the current link. `link`
+-- is that link.
 abbrev pub IsAt : LiveFiles → Option Reading → Option Link → Type 0
 IsAt f None link = ⊤
 IsAt f (Some c) (Some (Track t)) = CanRead f c × (c.file ≡ t.file)
@@ -136,7 +138,7 @@ abbrev pub way_from : Walk → List Link → ℕ
 way_from w [] = 0
 way_from w (link ∷ links) = here_way w link + way_all links
 
--- an upper bound on the turns that the walk `w` over `links` has left. It shows that the walk ends.
+-- an upper bound on the turns that the walk `w` over `links` has left. It shows that the walk ends. Used by the contract of `take_turn`.
 abbrev pub way : List Link → Walk → ℕ
 way links w = way_from w (drop w.at links)
 
@@ -147,13 +149,13 @@ abbrev pub file_length : LiveFiles → Link → ℕ
 file_length f (Track t) = f.size t.file.n
 file_length f (Entries e) = 0
 
--- the sum of the lengths in bytes of the links' files. `f` are the live files. It bounds what a merge reads.
+-- the sum of the lengths in bytes of the links' files. `f` are the live files. It bounds what a merge reads. Used by the contract of `survey`.
 abbrev pub files_length : LiveFiles → List Link → ℕ
 files_length f [] = 0
 files_length f (link ∷ links) = file_length f link + files_length f links
 
 -- the number of bytes that may still be read of the file of the link `t`. They are all, or the rest after the place that its cursor has read up to.
--- `here_due` uses it.
+-- `here_due` uses it. `f` are the live files.
 abbrev pub track_due : LiveFiles → TrackLink → Option Reading → ℕ
 track_due f t None = f.size t.file.n
 track_due f t (Some c) = f.size t.file.n - read_to c

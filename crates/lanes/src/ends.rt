@@ -137,7 +137,7 @@ fn text_end(text: &TextLink, end: u64) -> u64
 }
 
 /// Returns the greatest end of the subtitles in those of `links` that are texts, in nanoseconds, or 0 if there is none.
-/// The survey of a file begins with it.
+/// The survey of a file begins with it. Used by `survey`.
 pub fn texts_end(links: &[Link]) -> u64
     requires { All IsTimed links.now }
     ensures exact { result ≡ texts_end links.now }

@@ -8,7 +8,7 @@ pub fn lanes_stand_over_writes()
 {}
 
 /// Law: an output track that has ended has met all damaged places of its links. It is a law for readers of the proof;
-/// no function cites it.
+/// no function cites it. A law for readers of the proof.
 pub fn ended_lanes_have_told_all()
     ensures { EndedHaveToldAll }
 {}

@@ -161,6 +161,6 @@ file items name = record {
 }
 
 -- the inputs that the items of a merge's command line name, each with the options of the items between the previous input and itself. For the request
--- of the merge.
+-- of the merge. Used by `merged`.
 abbrev pub files : List Item → List FileWords
 files items = map (λ (f : List Item × Item). file f.0 f.1.value) (zip (slice_split is_file items) (filter is_file items))

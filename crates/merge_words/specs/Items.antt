@@ -81,7 +81,7 @@ abbrev pub stands_for : Subject → ℕ → List Item → Bool
 stands_for subject id items = list_any (λ i. same i.subject subject && is_track id (track_in i.value)) items
 
 -- An option with this subject is among the items `before`, and its scope allows it only once. For `repeats`, when the command line of `merge` is
--- read.
+-- read. `subject` is what the option sets.
 abbrev pub repeats_in : Scope → Subject → List Item → Bool
 repeats_in scope.Output subject before = stands subject before
 repeats_in scope.Attached subject before = stands subject (since_attached before)
@@ -93,7 +93,7 @@ abbrev pub repeats : Meaning → List Item → Bool
 repeats means before = repeats_in means.scope means.subject before
 
 -- An option with this subject for the same track, if it is for one, is among the items `before` since the last input. For `option_at`, when the
--- command line of `merge` is read.
+-- command line of `merge` is read. `subject` is what the option sets.
 abbrev pub repeats_for : Subject → Option ℕ → List Item → Bool
 repeats_for subject None before = false
 repeats_for subject (Some id) before = stands_for subject id (since_file before)
@@ -112,7 +112,7 @@ value_at at form next count = do
   read_value at (value_of form word)
 
 -- the value of an option at argument number `at`: the one that its form implies, or the one in the next argument, `next`. For `option_at`, when the
--- command line of `merge` is read.
+-- command line of `merge` is read. `form` is the form of its values, and the command line has `count` arguments.
 abbrev pub said : ℕ → ValueForm → Option (List ℕ) → ℕ → Result Value Usage
 said at form next count = unwrap_or (option_map (λ (v : Value). Ok v) (flag_of form)) (value_at (at + 1) form next count)
 
@@ -144,7 +144,8 @@ file_at before at word =
     else Ok (record { at = at; subject = subject.File; scope = scope.Output; value = File word })
 
 -- the item of an argument that looks like an option, at argument number `at`, given its meaning; without one it is refused. It has the arguments of
--- `option_at`. For `item_at`, when the command line of `merge` is read.
+-- `option_at`. For `item_at`, when the command line of `merge` is read. `before` are the items before it, `next` is the next argument, and the
+-- command line has `count` of them.
 abbrev pub known : List Item → ℕ → Option Meaning → Option (List ℕ) → ℕ → Result Item Usage
 known before at None next count = wrong at UnknownOption
 known before at (Some means) next count = option_at before at means next count

@@ -96,7 +96,8 @@ linking items = option_map (λ (i : Item). i.at) (find (λ i. same i.subject sub
 abbrev pub unlinked : List Item → Option ℕ
 unlinked items = if stands subject.Uuids items then None else linking items
 
--- the refusal of items that aren't a complete merge, in this order. The command line has `count` arguments. For `merged`.
+-- the refusal of items that aren't a complete merge, in this order. The command line has `count` arguments. For `merged`. `items` are the items of
+-- the command line.
 unfoldable pub complete : ℕ → List Item → Result (Unit {0}) Usage
 complete count items = do
   _ ← wrong_if (stands subject.Append (since_file items)) count MissingValue

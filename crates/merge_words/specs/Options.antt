@@ -23,7 +23,8 @@ pub record Row : Type 0 where
   pub scope : Scope
   pub form : ValueForm
 
--- the row of the options' table with these fields. For `table`, when the command line of `merge` is read.
+-- the row of the options' table with these fields. For `table`, when the command line of `merge` is read. `short` and `long` are its spellings,
+-- `subject` is what it sets, `scope` what it is about, and `form` the form of its values.
 abbrev pub option : List ℕ → List ℕ → Subject → Scope → ValueForm → Row
 option short long subject scope form = record { short = short; long = long; subject = subject; scope = scope; form = form }
 
@@ -96,6 +97,6 @@ meaning_among rows word = option_map meaning (find (spelled word) rows)
 unfoldable pub meaning_of : List ℕ → Option Meaning
 meaning_of word = if is_option word then meaning_among table word else None
 
--- The subjects `a` and `b` are the same. For the search of items of a subject.
+-- The subjects `a` and `b` are the same. For the search of items of a subject. The contract of `is` states it.
 abbrev pub same : Subject → Subject → Bool
 same a b = sameb the_type a b

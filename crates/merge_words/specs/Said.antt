@@ -14,7 +14,7 @@ use Rattle.merge_words.specs.Options.{same}
 abbrev pub value_in : Subject → List Item → Option Value
 value_in subject items = option_map (λ (i : Item). i.value) (find (λ i. same i.subject subject) items)
 
--- the file name that an option value is, if it is one. For the names of the output, the chapter file and the inputs.
+-- the file name that an option value is, if it is one. For the names of the output, the chapter file and the inputs. Used by `files` and `merged`.
 abbrev pub file_of : Value → Option (List ℕ)
 file_of (File name) = Some name
 file_of _ = None

@@ -175,7 +175,7 @@ fn meaning_among(rows: &[OptionRow], word: &str) -> Option<Meaning>
 }
 
 impl Subject {
-    /// Checks whether both subjects are the same. For the search of items of a subject.
+    /// Checks whether both subjects are the same. For the search of items of a subject. Used by `stands`.
     pub fn is(self, other: Subject) -> bool
         ensures { result ≡ spec.same self other }
     {

@@ -25,7 +25,7 @@ pub record IsReady {S : Type 0} (r : reads.Ghosts S) (d : Ghosts S) (disk : S) :
   pub at_rest : AtRest d disk
 
 -- After Ok the pair in the state `new` is what `to` gives for the contents that reads returned in the state `old`. `d` has the parts of a state.
--- Contracts of the steps of an edit promise it.
+-- Contracts of the steps of an edit promise it. `result` is what the call returned.
 abbrev pub MakesPair : {S T E : Type 0} → Ghosts S → S → S → Result T E → (List ℕ → List ℕ → Pair) → Type 0
 MakesPair d old new result to = IsTrue d.told → OnOk result (d.pair new ≡ to (d.pair old).media.reads (d.pair old).sidecar.reads)
 

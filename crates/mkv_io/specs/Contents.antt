@@ -12,10 +12,11 @@ overwritten bytes at now = take at bytes ++ (now ++ drop (at + length now) bytes
 
 -- ---- the same changes for a content that may be invisible to the proof, or absent
 
--- the given content with the bytes `more` after it, as `append` leaves it, or None if it isn't visible to the proof
+-- the given content with the bytes `more` after it, as `append` leaves it, or None if it isn't visible to the proof. The content is `content`.
 abbrev pub with_appended : List ℕ → Option (List ℕ) → Option (List ℕ)
 with_appended more content = option_map (λ bytes. bytes ++ more) content
 
 -- the given content with the bytes `now` over it from the offset `at` onwards, as `overwrite` leaves it. It is None if it isn't visible to the proof.
+-- The content is `content`.
 abbrev pub with_overwritten : ℕ → List ℕ → Option (List ℕ) → Option (List ℕ)
 with_overwritten at now content = option_map (λ bytes. overwritten bytes at now) content

@@ -11,7 +11,7 @@ abbrev pub end_of_make : MakeFault → RemuxEnd
 end_of_make make_fault.Failed = remux_end.WriteFault
 end_of_make make_fault.Memory = remux_end.Memory
 
--- the end of a run whose input wasn't read, by the cause of the reader
+-- the end of a run whose input wasn't read, by the cause of the reader. Used by the contract of `from`.
 abbrev pub end_of_read : ReadEnd → RemuxEnd
 end_of_read read_end.ReadFault = remux_end.ReadFault
 end_of_read read_end.Memory = remux_end.Memory

@@ -36,6 +36,6 @@ pub record OnlyReads {S : Type 0} (g : Ghosts S) (old new : S) : Type 0 where
   pub octets : g.octets_read old ≤ g.octets_read new
 
 -- If the result is a value `x`, `P x` holds for the content of the live file `file` in the state `s`. This applies only if that content is visible to
--- the proof. `g` has the live files of a state. Contracts of readers that may fail use it.
+-- the proof. `g` has the live files of a state. Contracts of readers that may fail use it. `result` is what the call returned.
 abbrev pub IfRead : {S T E : Type 0} → Ghosts S → S → FileId → Result T E → (T → List ℕ → Type 0) → Type 0
 IfRead g s file result P = IfOk result (λ x. IfTold g s file (P x))

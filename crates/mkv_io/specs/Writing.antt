@@ -34,6 +34,7 @@ pub record WritesOnly {S : Type 0} (r : Ghosts S) (f : writing.Ghosts S) (names 
   pub faults : f.writing_faults old ≤ f.writing_faults new
 
 -- If the result is a value, `P` holds for it and the contents of the names in `old`. This applies only if they are visible to the proof. `f` has the
--- names of a state. Contracts of reading the files that the command line names use it. Used by `read_named` of `input_files` and others.
+-- names of a state. Contracts of reading the files that the command line names use it. Used by `read_named` of `input_files` and others. `result` is
+-- what the call returned.
 abbrev pub IfByNames : {S T E : Type 0} → writing.Ghosts S → S → Result T E → ((List ℕ → Option (List ℕ)) → T → Type 0) → Type 0
 IfByNames f old result P = IfVisible (f.names old) (λ world. IfOk result (P world))

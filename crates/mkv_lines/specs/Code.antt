@@ -17,7 +17,8 @@ code_of Refused = 2
 code_of NoMemory = 3
 code_of Outside = 4
 
--- the reason why a command ends early after this failure of a call that reads a file. The contract of the conversion from `ReadEnd` has it.
+-- the reason why a command ends early after this failure of a call that reads a file. The contract of the conversion from `ReadEnd` has it. Used by
+-- the contract of `from`.
 abbrev pub read_stop : ReadEnd → CommandEnd
 read_stop read_end.ReadFault = stop.Files
 read_stop read_end.Memory = stop.Memory
@@ -29,7 +30,7 @@ stop_of remux_end.ReadFault = stop.Files
 stop_of remux_end.WriteFault = stop.Files
 stop_of remux_end.Memory = stop.Memory
 
--- the status of a run whose command had this result: its own, or one for out of memory or an I/O failure. Outcomes of a run use it.
+-- the status of a run whose command had this result: its own, or one for out of memory or an I/O failure. Outcomes of a run use it. Used by `run`.
 abbrev pub status_of : Result Status CommandEnd → Status
 status_of (Ok s) = s
 status_of (Err stop.Memory) = NoMemory

@@ -15,11 +15,13 @@ use Rattle.mkv_lines.specs.declared.status.Status.{Status}
 use Rattle.mkv_lines.specs.declared.status.CommandEnd.{CommandEnd}
 
 -- the state of `files` and of the report `report`, as plain values that are compared before and after a command. `Fulfils` and `HasEnded` use it.
+-- `r`, `f` and `p` give the proof's view of the files and the report.
 abbrev pub seen_in : {F P : Type 0} → ReadsGhosts F → FilesGhosts F → ReportGhosts P → F → P → Seen
 seen_in r f p files report = seen r f.writing_faults f.names p files report
 
 -- The command has its outcome `v`: lines, outputs and status. Or it ended early, with a first part of them. `files` and `report` are the states
--- before, `files'` and `report'` after. Used by the contracts of commands that work on files.
+-- before, `files'` and `report'` after. Used by the contracts of commands that work on files. `r`, `f` and `p` give the proof's view of the files and
+-- the report, and `result` is what the command returned.
 abbrev pub Fulfils : {F P : Type 0} → ReadsGhosts F → FilesGhosts F → ReportGhosts P → F → F → P → P → Result Status CommandEnd → Verdict → Type 0
 Fulfils r f p files files' report report' result v = Reaches (seen_in r f p files report) (seen_in r f p files' report') result v
 
@@ -33,16 +35,17 @@ pub record HasEnded {F P : Type 0} (r : ReadsGhosts F) (f : FilesGhosts F) (p : 
 -- ---- parts of a command
 
 -- The lines `lines` were added to the report `report`, which became `report'`. If the call failed, a first part of them was. Used by the contracts of
--- functions that print.
+-- functions that print. `p` gives the proof's view of the report, and `result` is what the call returned.
 abbrev pub SaysTo : {P T : Type 0} → ReportGhosts P → P → P → List (List ℕ) → Result T CommandEnd → Type 0
 SaysTo p report report' lines result = Says (p.lines report) (p.lines report') lines result
 
--- the failure counts of `files`, for a call that prints nothing. `HasFilesCause` uses them.
+-- the failure counts of `files`, for a call that prints nothing. `HasFilesCause` uses them. `r` and `f` give the proof's view of the files.
 abbrev pub files_counts : {F : Type 0} → ReadsGhosts F → FilesGhosts F → F → Counts
 files_counts r f files = record { reading = r.reading_faults files; writing = f.writing_faults files; report = 0 }
 
 -- A call that works only on files fails because memory ran out, or because a read or write failed. Its failure count then increased from `files` to
--- `files'`. Used by the contracts of merges that print nothing, as in `generate`.
+-- `files'`. Used by the contracts of merges that print nothing, as in `generate`. `r` and `f` give the proof's view of the files, and `result` is
+-- what the call returned.
 abbrev pub HasFilesCause : {F T : Type 0} → ReadsGhosts F → FilesGhosts F → F → F → Result T CommandEnd → Type 0
 HasFilesCause r f files files' result = HasStopCause (files_counts r f files) (files_counts r f files') result
 

@@ -140,7 +140,7 @@ abbrev pub wrote_blocks_line : List ℕ → ℕ → List ℕ
 wrote_blocks_line name blocks = wrote_line name ++ (codes ": " ++ (decimal blocks ++ codes " blocks"))
 
 -- the line about the files that `generate n` has written. The merged file has `blocks` blocks, `clusters` Clusters and `cues` cue points, and `parts`
--- is the number of its parts.
+-- is the number of its parts. `n` is the number of pictures.
 abbrev pub generated_line : ℕ → ℕ → ℕ → ℕ → ℕ → List ℕ
 generated_line n blocks clusters cues parts =
     codes "generated "

@@ -14,7 +14,7 @@ pub record Seen : Type 0 where
   pub names : Names
 
 -- the visible state of `files` and of the report `said`, as plain values; the other arguments give the definitions that it is read by. `seen_in` uses
--- it.
+-- it. They are `reads`, `writing_faults` and `names` for the files, and `report` for the report.
 abbrev pub seen : {F R : Type 0} → ReadsGhosts F → (F → ℕ) → (F → Names) → ReportGhosts R → F → R → Seen
 seen reads writing_faults names report files said = record {
   counts = record { reading = reads.reading_faults files; writing = writing_faults files; report = report.faults said };

@@ -193,7 +193,7 @@ impl fmt::Display for Line<'_> {
 
     ghost output = { λ line. Some (text_of line) };
 
-    /// Writes the text of the message, without a line end.
+    /// Writes the text of the message, without a line end. Used by `say`, when a command prints a message.
     fn fmt<W: fmt::Write>(&self, f: &mut fmt::Formatter<W>) -> fmt::Result {
         match *self {
             Line::Level0(header) => level_0(f, header),
@@ -395,7 +395,7 @@ fn reindexed<W: fmt::Write>(f: &mut fmt::Formatter<W>, name: &str, cues: u64) ->
 }
 
 // Writes the line about the files of `generate n` to `f`: the blocks, Clusters and cue points of the merged file, and
-// the number of its parts. `Line::Generated` is printed by it.
+// the number of its parts. `Line::Generated` is printed by it. Used by `fmt`.
 fn generated<W: fmt::Write>(
     f: &mut fmt::Formatter<W>,
     n: u32,

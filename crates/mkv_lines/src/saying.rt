@@ -41,7 +41,7 @@ pub fn say_text<R: Report>(report: &mut R, text: &str) -> Result<(), CommandEnd>
 }
 
 /// Prints the error line `why` of a refusal to `report`, and returns the status `Refused`. Every command ends by it if
-/// it is refused.
+/// it is refused. Used by `merge_of`, `extract_of` and others.
 pub fn refuse<R: Report>(alloc: Global, why: &Line, report: &mut R) -> Result<Status, CommandEnd>
     ensures verdict { SaysVerdict (R.lines report.old) (R.lines report.new) result (refused (text_of why.now)) }
     ensures ordinary { IfOk result IsOrdinary }

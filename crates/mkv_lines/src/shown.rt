@@ -18,7 +18,7 @@ impl fmt::Display for ShownElement {
 
     ghost output = { λ id. Some (element_text id.0) };
 
-    /// Writes the Element as a message prints it.
+    /// Writes the Element as a message prints it. Used by `Line::fmt`.
     fn fmt<W: fmt::Write>(&self, f: &mut fmt::Formatter<W>) -> fmt::Result {
         let id = self.0;
         write!(f, ", element {id:X}")
@@ -35,7 +35,7 @@ impl fmt::Display for DamagedId {
 
     ghost output = { λ id. Some (damaged_id id.0) };
 
-    /// Writes the ID as a message prints it.
+    /// Writes the ID as a message prints it. Used by `Line::fmt`.
     fn fmt<W: fmt::Write>(&self, f: &mut fmt::Formatter<W>) -> fmt::Result {
         let id = self.0;
         if id == 0 {
@@ -55,7 +55,7 @@ impl fmt::Display for Level0Name {
 
     ghost output = { λ id. Some (level_0_name id.0) };
 
-    /// Writes the name of the Element.
+    /// Writes the name of the Element. Used by `Line::fmt`.
     fn fmt<W: fmt::Write>(&self, f: &mut fmt::Formatter<W>) -> fmt::Result {
         let id = self.0;
         match row(id) {
@@ -75,7 +75,7 @@ impl fmt::Display for Level1Name {
 
     ghost output = { λ id. Some (level_1_name id.0) };
 
-    /// Writes the name of the Element.
+    /// Writes the name of the Element. Used by `Line::fmt`.
     fn fmt<W: fmt::Write>(&self, f: &mut fmt::Formatter<W>) -> fmt::Result {
         let id = self.0;
         if may_stand(id, SEGMENT) {
@@ -95,7 +95,7 @@ impl fmt::Display for ShownSize {
 
     ghost output = { λ size. Some (size_text size.0) };
 
-    /// Writes the size as a message prints it.
+    /// Writes the size as a message prints it. Used by `Line::fmt`.
     fn fmt<W: fmt::Write>(&self, f: &mut fmt::Formatter<W>) -> fmt::Result {
         match self.0 {
             Size::Known(octets) => write!(f, "{octets}"),
@@ -114,7 +114,7 @@ impl fmt::Display for ShownPlace {
 
     ghost output = { λ header. Some (place_text header.0) };
 
-    /// Writes the place as a message prints it.
+    /// Writes the place as a message prints it. Used by `Line::fmt`.
     fn fmt<W: fmt::Write>(&self, f: &mut fmt::Formatter<W>) -> fmt::Result {
         let offset = self.0.offset;
         let size = ShownSize(self.0.size);
@@ -132,7 +132,7 @@ impl fmt::Display for ShownDamage {
 
     ghost output = { λ damage. Some (damage_text damage.0) };
 
-    /// Writes the damaged place as a message prints it.
+    /// Writes the damaged place as a message prints it. Used by `Line::fmt`.
     fn fmt<W: fmt::Write>(&self, f: &mut fmt::Formatter<W>) -> fmt::Result {
         let kind = self.0.kind;
         let id = DamagedId(self.0.id);
@@ -151,7 +151,7 @@ impl fmt::Display for ShownMark {
 
     ghost output = { λ mark. Some (mark_text mark.0) };
 
-    /// Writes the difference as a message prints it.
+    /// Writes the difference as a message prints it. Used by `Line::fmt`.
     fn fmt<W: fmt::Write>(&self, f: &mut fmt::Formatter<W>) -> fmt::Result {
         match self.0 {
             Mark::Length => f.write_str("length"),
@@ -177,7 +177,7 @@ impl fmt::Display for ShownTrack<'_> {
 
     ghost output = { λ t. Some (track_text t.index t.type_name.now t.codec.now t.number t.uid t.language.now) };
 
-    /// Writes the track as a message prints it.
+    /// Writes the track as a message prints it. Used by `Line::fmt`.
     fn fmt<W: fmt::Write>(&self, f: &mut fmt::Formatter<W>) -> fmt::Result {
         let (index, type_name, number, uid) = (self.index, self.type_name, self.number, self.uid);
         let (codec, language) = (ShownText(self.codec), ShownText(self.language));

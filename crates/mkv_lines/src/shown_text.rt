@@ -16,7 +16,7 @@ impl fmt::Display for ShownText<'_> {
 
     ghost output = { λ text. Some (shown_text text.0.now) };
 
-    /// Writes the text as a message prints it.
+    /// Writes the text as a message prints it. Used by `Line::fmt` for names and titles.
     fn fmt<W: fmt::Write>(&self, f: &mut fmt::Formatter<W>) -> fmt::Result {
         write_shown(self.0, f)
     }
@@ -43,7 +43,8 @@ impl fmt::Display for ShownChar {
 
     ghost output = { λ c. Some (shown_char c.0) };
 
-    /// Writes the character, or its bytes as `\x` and two digits if it is a control character.
+    /// Writes the character, or its bytes as `\x` and two digits if it is a control character. Used by the text of a
+    /// message.
     fn fmt<W: fmt::Write>(&self, f: &mut fmt::Formatter<W>) -> fmt::Result {
         let c = self.0;
         match u32::from(c) {
@@ -70,7 +71,7 @@ impl fmt::Display for Escaped {
 
     ghost output = { λ octet. Some (escaped octet.0) };
 
-    /// Writes the byte as `\x` and two hexadecimal digits.
+    /// Writes the byte as `\x` and two hexadecimal digits. Used by the text of a message.
     fn fmt<W: fmt::Write>(&self, f: &mut fmt::Formatter<W>) -> fmt::Result {
         let (high, low) = (self.0 / 16, self.0 % 16);
         write!(f, "\\x{high:X}{low:X}")

@@ -3,7 +3,7 @@ use Rattle.mkv_memory.specs.FailingIn.{failures_in}
 use Rattle.mkv_memory.specs.SeenDisk.{SeenDisk}
 use Rattle.mkv_memory.specs.declared.mem_disk.MemDisk.{MemDisk}
 
--- the observable state of a disk in memory, `disk`, which its contracts are about
+-- the observable state of a disk in memory, `disk`, which its contracts are about. The view of `MemDisk` is it.
 abbrev pub seen : MemDisk → SeenDisk
 seen disk = record {
   logged = disk.files;

@@ -38,6 +38,7 @@ abbrev pub replayed : List ℕ → List ℕ → List Call → List ℕ → Pair
 replayed media sidecar calls octets = replay (made_in calls octets) (both media sidecar)
 
 -- the file with the number `file`, 0 or 1, after the calls `calls` of the log, as in `replayed`. The contract of `replayed` in the code has it.
+-- `media` and `sidecar` are the contents of the two files at first, and `octets` the bytes that the calls wrote.
 abbrev pub file_replayed : ℕ → List ℕ → List ℕ → List Call → List ℕ → DiskFile
 file_replayed file media sidecar calls octets = file_of file (replayed media sidecar calls octets)
 
@@ -55,7 +56,7 @@ is_same (suc n) zero = false
 is_same (suc n) (suc m) = true
 
 -- the log as a history, from the contents of the two files at first and the calls since. `octets` has the bytes that the calls wrote, and `room` the
--- room that was reserved. The view of `LoggedPair` uses it.
+-- room that was reserved. The view of `LoggedPair` uses it. `media` and `sidecar` are the contents at first, and `calls` the calls since.
 abbrev pub logged : List ℕ → List ℕ → List Call → List ℕ → CallBudget → Logged
 logged media sidecar calls octets room = record {
   history = record { media = media; sidecar = sidecar; made = made_in calls octets };
@@ -63,7 +64,7 @@ logged media sidecar calls octets room = record {
 }
 
 -- The stored contents and calls are the ones of the log `l`: its history leaves these contents. Each change could be made, and there is room for all
--- that may follow. It is true of every `LoggedPair`.
+-- that may follow. It is true of every `LoggedPair`. They are `media` and `sidecar`, and `calls`, which wrote `octets`.
 pub record IsLogOf (l : Logged) (media sidecar octets : Vec ℕ Global) (calls : Vec Call Global) : Type 0 where
   pub reads_media : media.items ≡ (pair_of l.history).media.reads
   pub reads_sidecar : sidecar.items ≡ (pair_of l.history).sidecar.reads

@@ -6,7 +6,7 @@ use Rattle.mkv_memory.specs.Cuts.{lines_between}
 use Rattle.mkv_memory.specs.SeenReport.{SeenReport}
 use Rattle.mkv_memory.specs.declared.mem_report.MemReport.{MemReport}
 
--- the observable state of a report in memory, `report`, which its contracts are about
+-- the observable state of a report in memory, `report`, which its contracts are about. The view of `MemReport` is it.
 abbrev pub seen : MemReport → SeenReport
 seen report = record {
   lines = lines_between (string_bytes report.text) report.cuts.items;

@@ -39,7 +39,7 @@ abbrev pub room_for : ℕ → ℕ → CallBudget
 room_for calls octets = record { calls = calls; octets = octets }
 
 -- a disk with two files without pending writes, and with room for `room` calls and bytes. No pair is open, and no call is set to fail. The contract
--- of `MemDisk::new` has it.
+-- of `MemDisk::new` has it. The two have the contents `media` and `sidecar`.
 abbrev pub fresh : List ℕ → List ℕ → CallBudget → SeenDisk
 fresh media sidecar room = record {
   logged = unchanged media sidecar room;
@@ -76,7 +76,8 @@ is_live (Some name) zero = true
 is_live (Some name) (suc zero) = true
 is_live (Some name) (suc (suc n)) = false
 
--- the content of the edited file (number 0) or of its journal (number 1), as reads return it, or None for another number. `live_in` uses it.
+-- the content of the edited file (number 0) or of its journal (number 1), as reads return it, or None for another number. `live_in` uses it. `p` is
+-- the pair of files.
 abbrev pub content_in : Pair → ℕ → Option (List ℕ)
 content_in p zero = Some p.media.reads
 content_in p (suc zero) = Some p.sidecar.reads
@@ -86,7 +87,8 @@ content_in p (suc (suc n)) = None
 abbrev pub size_in : Pair → ℕ → ℕ
 size_in p n = length (unwrap_or (content_in p n) [])
 
--- the live files of a disk with the two files `p`, which were opened under a name or not. The contracts of `MemDisk` use it. Used by `size`.
+-- the live files of a disk with the two files `p`, which were opened under a name or not. The contracts of `MemDisk` use it. Used by `size`. `opened`
+-- tells which.
 abbrev pub live_in : Option (List ℕ) → Pair → LiveFiles
 live_in opened p = record {
   live = is_live opened;
@@ -142,7 +144,7 @@ ReadsAt old file at was into (Ok _) new =
 ReadsAt old file at was into (Err _) new = (fails old ≡ true) × (into ≡ was) × (new ≡ failed_to_read old)
 
 -- A change of `file` changed the disk from `old` to `new`. It fails if and only if it can't be made, and then uses no room. Otherwise it is made. The
--- contracts of `MemDisk::write_at`, `cut` and `sync` have it.
+-- contracts of `MemDisk::write_at`, `cut` and `sync` have it. It is `change`.
 abbrev pub MakesChange : {T : Type 0} → SeenDisk → ℕ → Change → Result T Failed → SeenDisk → Type 0
 MakesChange old file change (Ok _) new = (cannot_make old change ≡ false) × (new ≡ record (called old) { logged = and_then old.logged file change })
 MakesChange old file change (Err _) new = (cannot_make old change ≡ true) × (new ≡ failed_to_write old)

@@ -51,7 +51,7 @@ with_stored old stored = record old { stored = stored }
 abbrev pub with_file : SeenFiles → List ℕ → List ℕ → SeenFiles
 with_file old name bytes = with_stored old (with_content_at old.stored name bytes)
 
--- the files `old` after one more name was opened or created. The effects of calls use it. Used by `OpensName` and `CreatesName`.
+-- the files `old` after one more name was opened or created. The effects of calls use it. Used by `OpensName` and `CreatesName`. It is `name`.
 abbrev pub with_asked : SeenFiles → Asked → SeenFiles
 with_asked old name = record old { asked = old.asked ++ name ∷ [] }
 
@@ -114,7 +114,7 @@ abbrev pub is_too_much : SeenFiles → ℕ → List ℕ → Bool
 is_too_much old file more = nat_lt LONGEST_FILE (length (file_octets old.stored file) + length more)
 
 -- the number of bytes that an append of `more` to `file` keeps if it fails. It is none if they are too many, and otherwise the number that was set,
--- but never the last byte. `AppendsTo` uses it.
+-- but never the last byte. `AppendsTo` uses it. `old` are the files before the call.
 abbrev pub kept_by : SeenFiles → ℕ → List ℕ → ℕ
 kept_by old file more = if is_too_much old file more then 0 else min (unwrap_or (old.to_fail old.calls) 0) (length more - 1)
 

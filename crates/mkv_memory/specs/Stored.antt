@@ -15,7 +15,7 @@ use Rattle.mkv_io.specs.declared.outside.TheConstants.{LONGEST_FILE}
 abbrev pub World : Type 0
 World = List ℕ → Option (List ℕ)
 
--- the content of the file `name` in a map, given by its entries, or None if no file has the name. `stored_in` uses it.
+-- the content of the file `name` in a map, given by its entries, or None if no file has the name. `stored_in` uses it. They are `entries`.
 abbrev pub content_of_name : List (String Global × List ℕ) → World
 content_of_name entries name = lookup (is_at (λ key. slice_cmp nat_cmp name (string_bytes key))) entries
 

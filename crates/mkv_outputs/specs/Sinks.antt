@@ -110,13 +110,14 @@ pub record HaveBeenGiven (old new : Names) (holder : ℕ → List ℕ) (sinks : 
   pub apart : AreApart (holders_of holder (ids_of sinks))
 
 -- A call has changed the outputs from `sinks` to `later`. Whatever bytes they were given before, these change by `more`. After a failure the files
--- have them in part. Used by the contracts of `Outputs`; `f` has the definitions of its files.
+-- have them in part. Used by the contracts of `Outputs`; `f` has the definitions of its files. `old` and `new` are the states of the files before and
+-- after.
 abbrev pub Gives : {S T E : Type 0} → writing.Ghosts S → S → S → List Sink → List Sink → (List Output → List Output) → Result T E → Type 0
 Gives f old new sinks later more (Ok _) = (since : Names) (given : List Output) → HaveBeenGiven since (f.names old) (f.holder old) sinks given → HaveBeenGiven since (f.names new) (f.holder new) later (more given)
 Gives f old new sinks later more (Err _) = (since : Names) (given : List Output) → HaveBeenGiven since (f.names old) (f.holder old) sinks given → ArePrefixes since (f.names new) (more given)
 
 -- A call has written all bytes that the outputs `sinks` were given, whatever these are. After a failure the files have them in part. Used by the
--- contract of `Outputs::flush`. `f` gives the proof's view of the files.
+-- contract of `Outputs::flush`. `f` gives the proof's view of the files. `old` and `new` are the states of the files before and after.
 abbrev pub Finishes : {S T E : Type 0} → writing.Ghosts S → S → S → List Sink → Result T E → Type 0
 Finishes f old new sinks (Ok _) = (since : Names) (given : List Output) → HaveBeenGiven since (f.names old) (f.holder old) sinks given → f.names new ≡ with_outputs since given
 Finishes f old new sinks (Err _) = (since : Names) (given : List Output) → HaveBeenGiven since (f.names old) (f.holder old) sinks given → ArePrefixes since (f.names new) given

@@ -25,11 +25,12 @@ Passes old new holder octets left (Ok _) = PassesOn old new holder octets left
 Passes old new holder octets left (Err _) = PassesSome old new holder octets
 
 -- From `old` to `new` the first of the bytes `octets` were appended to the live file `file`, and `left` wait, as `Passes` requires. Used by the
--- contracts of `flush` and `pass`, which write one output. `f` gives the proof's view of the files.
+-- contracts of `flush` and `pass`, which write one output. `f` gives the proof's view of the files. `result` is what the call returned.
 abbrev pub PassesTo : {S T E : Type 0} → Ghosts S → FileId → S → S → List ℕ → List ℕ → Result T E → Type 0
 PassesTo f file old new octets left result = Passes (f.names old) (f.names new) (f.holder old file.n) octets left result
 
 -- A call has changed the output from `sink` to `sink'`. The bytes `octets` follow the waiting ones into its file, or wait. Used by the contract of
--- `write`, for one output. `f` gives the proof's view of the files.
+-- `write`, for one output. `f` gives the proof's view of the files. `old` and `new` are the states of the files before and after, and `result` is
+-- what the call returned.
 abbrev pub PassesThrough : {S T E : Type 0} → Ghosts S → Sink → Sink → S → S → List ℕ → Result T E → Type 0
 PassesThrough f sink sink' old new octets result = PassesTo f sink.file old new (sink.waiting ++ octets) sink'.waiting result

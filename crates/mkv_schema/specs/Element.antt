@@ -104,14 +104,14 @@ abbrev pub has_unknown_size : Setting → Header → Bool
 has_unknown_size s h = is_unknown h.size && not (s.may_open h.id)
 
 -- The content of `h` passes the end of the file, which has `total` bytes. This excludes a Segment or a Cluster that may be open here, or whose parent
--- ends before the file. `e` is its parent's end. It is a check of `body_damage`.
+-- ends before the file. `e` is its parent's end. It is a check of `body_damage`. `s` is its setting.
 abbrev pub is_truncated : Setting → ℕ → ℕ → Header → Bool
 is_truncated s total e h =
     not s.read_whole && nat_lt total (stated_end h)
     && (not (may_be_open h.id) || (not (s.may_open h.id) && e == total))
 
 -- The content of `h` passes its parent's end `e`. This excludes an Element that may be open, if its parent ends with the file of `total` bytes. It is
--- the last check of `body_damage`.
+-- the last check of `body_damage`. `s` is its setting.
 abbrev pub is_too_long : Setting → ℕ → ℕ → Header → Bool
 is_too_long s total e h = nat_lt e (stated_end h) && not (s.may_open h.id && e == total)
 

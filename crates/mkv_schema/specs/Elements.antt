@@ -59,7 +59,8 @@ elements_within (suc n) s stops next bytes p e =
     else ends_at p
 
 -- the Elements of `bytes` from the offset `p` up to `e`, each after the previous one, as in `elements_within`. The bound on their number is large
--- enough, since each has at least one byte. Readers of masters promise it.
+-- enough, since each has at least one byte. Readers of masters promise it. `s` is their setting, `stops` the test for an ID that ends them, and
+-- `next` gives the end of an Element.
 unfoldable pub elements : Setting → (ℕ → Bool) → Next → List ℕ → ℕ → ℕ → Run
 elements s stops next bytes p e = elements_within (e - p) s stops next bytes p e
 

@@ -84,7 +84,7 @@ children_causes bytes children =
     []
 
 -- the possible damage of the EBML header `h` with the children `children`, in the order of the checks, each None if it passes. `ebml_header` takes
--- the first.
+-- the first. `bytes` is the content of the file.
 abbrev pub header_causes : List ℕ → Header → Run → List (Option Damage)
 header_causes bytes h children = over MAX_HEADER_LEN h ∷ children_causes bytes children
 
@@ -189,7 +189,7 @@ segment_end bytes segment run =
     else end_in (length bytes) segment
 
 -- the outline of the content `bytes` with this EBML header and Segment, whose Elements of level 1 are in `run`. It has no limits. `within_limits`
--- ends with it.
+-- ends with it. They are `ebml` and `segment`.
 abbrev pub outlined : List ℕ → Header → Header → Run → Outlined
 outlined bytes ebml segment run = record {
   ebml = ebml;
@@ -200,7 +200,7 @@ outlined bytes ebml segment run = record {
 }
 
 -- the outline of the content `bytes` with this EBML header and Segment, or the refusal of an Element of level 1 by a limit. Earlier inputs have
--- `held` bytes of limited Elements. `outline_of` ends with it.
+-- `held` bytes of limited Elements. `outline_of` ends with it. They are `ebml` and `segment`.
 abbrev pub within_limits : ℕ → List ℕ → Header → Header → Result Outlined Damage
 within_limits held bytes ebml segment =
     let run = segment_run bytes segment in

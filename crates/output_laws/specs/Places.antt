@@ -39,7 +39,8 @@ block_in_place scale place b = record {
 }
 
 -- the blocks that are read for blocks of a Cluster with the Timestamp `timestamp`. They are in sequence in the file from the offset `p` onwards;
--- `scale` is the nanoseconds per tick. Used by `cluster_blocks`, in the laws on what `merge` writes.
+-- `scale` is the nanoseconds per tick. Used by `cluster_blocks`, in the laws on what `merge` writes. The Cluster has the Timestamp `timestamp`, and
+-- its blocks begin at the offset `p`.
 abbrev pub blocks_in_place : ℕ → ℕ → ℕ → List OutputBlock → List Block
 blocks_in_place scale timestamp p [] = []
 blocks_in_place scale timestamp p (b ∷ bs) =

@@ -25,7 +25,7 @@ abbrev pub is_cue : List CueRule → OutputBlock → Bool
 is_cue rules b = is_cue_by (unwrap_or (slice_get rules (b.lane - 1)) Never) b.key
 
 -- the output of a merge or of `generate` with `front` before its Clusters, the blocks `blocks`, cue points by `rules`, and the given Chapters and
--- Tags. `limits` end its Clusters. Its Duration, if it has one, is the greatest tick at which one of its blocks ends.
+-- Tags. `limits` end its Clusters. Its Duration, if it has one, is the greatest tick at which one of its blocks ends. They are `chapters` and `tags`.
 abbrev pub document_of : ClusterLimits → List CueRule → Front → Option Node → Option Node → List OutputBlock → Document
 document_of limits rules front chapters tags blocks = record {
   front = ending_at (end_of_blocks (durations_of limits.scale front.tracks) blocks) front;

@@ -129,7 +129,7 @@ abbrev pub clusters_elements : List OutputCluster → List Element
 clusters_elements cs = map cluster_element cs
 
 -- the Elements of an output after its Clusters: Cues with the points `cues`, Chapters and Tags, each only if present. They come last because the end
--- of a part, which limits its Chapters, is known only then. Used by `AddsBack` and `back_elements`.
+-- of a part, which limits its Chapters, is known only then. Used by `AddsBack` and `back_elements`. They are `chapters` and `tags`.
 abbrev pub back_with : List CuePoint → Option Node → Option Node → List Element
 back_with cues chapters tags = cues_elements cues ++ (tree_elements chapters ++ tree_elements tags)
 
@@ -165,7 +165,7 @@ cues_for cued front cs = take MAX_CUES (points_from cued (clusters_at front) cs)
 -- ---- the file
 
 -- the content of an output: the EBML header (`webm` is true for WebM), the Segment's ID, its size with the bytes `size`, the area, and the bytes
--- `rest` after it. `layout` is the finished output, and `opened_with` one that is being written.
+-- `rest` after it. `layout` is the finished output, and `opened_with` one that is being written. The area is `area`.
 abbrev pub file_with : Bool → List ℕ → List Element → List ℕ → List ℕ
 file_with webm size area rest = octets_of (ebml_element webm) ++ (id_octets SEGMENT ++ (size ++ (joined area ++ rest)))
 

@@ -63,7 +63,7 @@ in_output lane tick b = record b { lane = lane; tick = tick }
 
 -- A block with the given parts is within the limits of the writer. It has 1 to 256 frames whose sizes its lacing `kind` can express, at most 32 MiB
 -- together. Each has a prefix of `prefix` bytes, at most 4,096. It has `references` references, at most 64, and `kept` kept bytes, at most 32 MiB.
--- Used by `IsLent` and others.
+-- Used by `IsLent` and others. Their sizes are `sizes`.
 pub record CanBeLent (kind : Lace) (prefix : ℕ) (sizes : List ℕ) (references kept : ℕ) : Type 0 where
   pub some : 1 ≤ length sizes
   pub most : length sizes ≤ 256

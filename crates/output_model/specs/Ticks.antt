@@ -18,7 +18,7 @@ abbrev pub tick_of : ℕ → ℕ → ℕ
 tick_of scale t = (t + scale / 2) / scale
 
 -- the tick nearest to the time of `t` nanoseconds, which may be before time 0, for the ReferenceBlocks of an output. A tick has `scale` nanoseconds;
--- if two are equally near, it is the later. Used by `ticks_to`.
+-- if two are equally near, it is the later. Used by `ticks_to`. `t` is a time in nanoseconds, and a tick has `scale` of them.
 abbrev pub tick_near : ℕ → ℤ → ℤ
 tick_near scale t = floor_div (t +ℤ pos (scale / 2)) scale
 

@@ -11,6 +11,6 @@ too_large id None = None
 too_large id (Some n) = if is_too_large n then Some id else None
 
 -- the ID of the first of an output's Tracks, Chapters and Tags that is too large to be read again, or None; the merge is refused for it. Used by
--- `records_refusal` of `merge_plan`.
+-- `records_refusal` of `merge_plan`. They are `tracks`, `chapters` and `tags`.
 abbrev pub first_too_large : Node → Option Node → Option Node → Option ℕ
 first_too_large tracks chapters tags = option_or (too_large TRACKS (Some tracks)) (option_or (too_large CHAPTERS chapters) (too_large TAGS tags))

@@ -20,7 +20,7 @@ abbrev pub number_of : List ℕ → List ℕ → ℕ → Option ℕ
 number_of source numbers uid = lookup (nat_eq uid) (zip source numbers)
 
 -- the output's identifiers of editions, chapters and attached files, given as three lists, as one value; for `numbers_of` and the contract of
--- `map_of`
+-- `map_of`. They are `editions`, `chapters` and `attachments`.
 abbrev pub all_uids : List ℕ → List ℕ → List ℕ → Uids
 all_uids editions chapters attachments = record { editions = editions; chapters = chapters; attachments = attachments }
 
@@ -68,7 +68,7 @@ tags_from numbers [] = []
 tags_from numbers (i ∷ inputs) = tags_in i numbers ++ tags_from (behind (uids_of i) numbers) inputs
 
 -- The Tags `new` are `old` with the kept Tags of the input `i` appended, unless the call failed. `map` has the output's identifiers for their
--- targets. It is the contract of `push_tags`.
+-- targets. It is the contract of `push_tags`. `result` is what the call returned.
 abbrev pub AddsTags : {T E : Type 0} → InputRecords → UidMap → Node → Node → Result T E → Type 0
 AddsTags i map old new result =
     (numbers : Uids) → IsMapFor i numbers map → OnOk result (new ≡ with_children old (children old ++ tags_in i numbers))

@@ -15,7 +15,8 @@ keep_all = record { tracks = true; global = true }
 abbrev pub targets_of : Node → List Node
 targets_of tags = flat_map (λ (tag : Node). flat_map targets_in (children tag)) (children tags)
 
--- The Element that the target names keeps its identifier in a second merge, whose numbers are `numbers`. It is a condition of the law `tags_stay`.
+-- The Element that the target names keeps its identifier in a second merge, whose numbers are `numbers`. It is a condition of the law `tags_stay`. It
+-- is `target`.
 abbrev pub KeepsTarget : (ℕ → ℕ → Option ℕ) → Node → Type 0
 KeepsTarget numbers target = number_of numbers target ≡ Some (integer_of target)
 

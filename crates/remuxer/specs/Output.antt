@@ -144,7 +144,8 @@ FillsOrStaysDraft r f o old new w w' b b' (Ok chapters) = FillsPart r f o old ne
 FillsOrStaysDraft r f o old new w w' b b' (Err _) = StaysDraft r f o.rules (part_in (live_files r old) b).blocks old new w
 
 -- The output was filled as `FillsOrStaysDraft` requires, if the links' files are visible to the proof. The contract of `fill` states it. `r` and `f`
--- give the proof's view of the files.
+-- give the proof's view of the files. `o` describes the output, whose blocks are left in `w` and `b`; `old` and `new` are the states of the files
+-- before and after the call, and `result` is what it returned.
 abbrev pub Fills : {S : Type 0} → Ghosts S → writing.Ghosts S → OutputSpec → S → S → BlockWriter → BlockWriter → PlacedBlocks → PlacedBlocks → Result (Option Node) RemuxEnd → Type 0
 Fills r f o old new w w' b b' result = IsTold (live_files r old) b.merge → FillsOrStaysDraft r f o old new w w' b b' result
 
@@ -162,7 +163,8 @@ pub record HasWritten (f h : LiveFiles) (o : OutputSpec) (b b' : PlacedBlocks) (
   pub over : IsOver b b'
 
 -- Unless the call failed, a part was written with the numbers in its result, as `HasWritten` requires. The contract of `write_output` states it. `r`
--- gives the proof's view of the files.
+-- gives the proof's view of the files. `o` describes the output, whose first block is in `b`; `old` and `new` are the states of the files before and
+-- after the call, and `result` is what it returned.
 abbrev pub FindsWritten : {S E : Type 0} → Ghosts S → S → S → OutputSpec → PlacedBlocks → PlacedBlocks → Result WrittenPart E → Type 0
 FindsWritten r old new o b b' result = IfOk result (HasWritten (live_files r old) (live_files r new) o b b')
 
@@ -193,12 +195,12 @@ pub record FindsPart (f h : LiveFiles) (turns : ℕ) (parts : List Part) (b b' :
   pub found : IsTold f b.merge → parts_begun h b' begun ≡ parts
 
 -- Unless the call failed, the next part was begun from `b` to `b'`, or none is left. The contract of `next_part` states it. `r` gives the proof's
--- view of the files.
+-- view of the files. `old` and `new` are the states of the files before and after the call, and `result` is what it returned.
 abbrev pub FindsBehind : {S : Type 0} → Ghosts S → S → S → PlacedBlocks → PlacedBlocks → Result Bool ReadEnd → Type 0
 FindsBehind r old new b b' result = IfOk result (FindsPart (live_files r old) (live_files r new) (turns b) (parts_left (live_files r old) b) b b')
 
 -- Unless the call failed, the first part of all was begun from `b` to `b'`, or there is none. The contract of `first_part` states it. `r` gives the
--- proof's view of the files.
+-- proof's view of the files. `old` and `new` are the states of the files before and after the call, and `result` is what it returned.
 abbrev pub FindsFirst : {S : Type 0} → Ghosts S → S → S → PlacedBlocks → PlacedBlocks → Result Bool ReadEnd → Type 0
 FindsFirst r old new b b' result =
     IfOk result (FindsPart (live_files r old) (live_files r new) (way b.merge + 1) (parts (split_in b) (left (live_files r old) b.merge)) b b')
@@ -227,7 +229,8 @@ next_name o written = own_name o (length written + 1)
 abbrev pub next_spec : OutputSpec → List Written → OutputSpec
 next_spec o written = own_spec o (length written + 1)
 
--- the output after the outputs in `written`, for the part `part`, by the contents of the files `f`. For the contract of `write_next`.
+-- the output after the outputs in `written`, for the part `part`, by the contents of the files `f`. For the contract of `write_next`. `o` describes
+-- the outputs.
 abbrev pub next_output : LiveFiles → OutputSpec → List Written → Part → PlannedOutput
 next_output f o written part = own_output f o (length written + 1) part
 
@@ -250,7 +253,8 @@ pub record HasOwn (f h : LiveFiles) (o : OutputSpec) (number : ℕ) (b b' : Plac
   pub over : IsOver b b'
 
 -- Unless the call failed, an output was written with the summary in its result, as `HasOwn` requires. The contract of `write_own` states it. `r`
--- gives the proof's view of the files.
+-- gives the proof's view of the files. `o` describes the output number `number`, whose first block is in `b`; `old` and `new` are the states of the
+-- files before and after the call, and `result` is what it returned.
 abbrev pub FindsOwn : {S E : Type 0} → Ghosts S → S → S → OutputSpec → ℕ → PlacedBlocks → PlacedBlocks → Result Written E → Type 0
 FindsOwn r old new o number b b' result = IfOk result (HasOwn (live_files r old) (live_files r new) o number b b')
 
@@ -278,7 +282,8 @@ WritesTold r f old new o b b' written written' (Err _) =
     AreWrittenInOrder (f.names old) (f.names new) (draft_of (next_name o written) (document_with (live_files r old) (next_spec o written) (part_in (live_files r old) b)) ∷ [])
 
 -- One more output was written, as `WritesTold` requires, if the links' files are visible to the proof. The contract of `write_next` states it. `r`
--- and `f` give the proof's view of the files.
+-- and `f` give the proof's view of the files. `o` describes the output, whose first block is in `b`, after the outputs `written`; `old` and `new` are
+-- the states of the files before and after the call, and `result` is what it returned.
 abbrev pub WritesNext : {S : Type 0} → Ghosts S → writing.Ghosts S → S → S → OutputSpec → PlacedBlocks → PlacedBlocks → List Written → List Written → Result Bool RemuxEnd → Type 0
 WritesNext r f old new o b b' written written' result = IsTold (live_files r old) b.merge → WritesTold r f old new o b b' written written' result
 
@@ -326,17 +331,20 @@ abbrev pub outputs_left : LiveFiles → OutputSpec → PlacedBlocks → List Pla
 outputs_left f o b = outputs_from f o 1 (parts (split_in b) (left f b.merge))
 
 -- From `old` to `new` the outputs for all parts of `b` were written, as `WritesOutputs` requires, if the links' files are visible to the proof. The
--- contract of `write_parts` states it; the last argument is its result. `r` and `f` give the proof's view of the files.
+-- contract of `write_parts` states it; the last argument is its result. `r` and `f` give the proof's view of the files. `o` describes the outputs,
+-- and `result` is what the call returned.
 abbrev pub WritesParts : {S T : Type 0} → Ghosts S → writing.Ghosts S → S → S → OutputSpec → PlacedBlocks → Result T RemuxEnd → Type 0
 WritesParts r f old new o b result = IsTold (live_files r old) b.merge → WritesOutputs (f.names old) (f.names new) (outputs_left (live_files r old) o b) result
 
 -- Unless the call failed, the result has the summaries of the outputs for all parts of `b`. It is promised if the links' files are visible to the
--- proof. `o` describes the outputs. The contract of `write_parts` states it. `r` gives the proof's view of the files.
+-- proof. `o` describes the outputs. The contract of `write_parts` states it. `r` gives the proof's view of the files. `old` is the state of the files
+-- before the call, and `result` is what it returned.
 abbrev pub SaysWritten : {S : Type 0} → Ghosts S → S → OutputSpec → PlacedBlocks → Result (List Written) RemuxEnd → Type 0
 SaysWritten r old o b result = IsTold (live_files r old) b.merge → IfOk result (λ written. written ≡ map written_of (outputs_left (live_files r old) o b))
 
 -- From `old` to `new` at most three amounts of bytes are read. They are the bytes that are due in `b`, the links' files once more, and the attached
--- files' data. The contract of `write_parts` states it, and so how much `merge` reads at most. `r` gives the proof's view of the files.
+-- files' data. The contract of `write_parts` states it, and so how much `merge` reads at most. `r` gives the proof's view of the files. `o` describes
+-- the outputs.
 abbrev pub ReadsParts : {S : Type 0} → Ghosts S → S → S → OutputSpec → PlacedBlocks → Type 0
 ReadsParts r old new o b = r.octets_read new ≤ r.octets_read old + due (live_files r old) b.merge + files_length (live_files r old) b.merge + data_of o
 

@@ -100,7 +100,7 @@ split_in b = record { spec = b.cuts.spec; size = b.cuts.size; scale = b.cuts.sca
 abbrev pub rest_of_part : LiveFiles → PlacedBlocks → List OutputBlock
 rest_of_part f b = if is_within b.ahead then lent_ahead b ++ within (split_in b) (start_of b.cuts) b.cuts.load (left f b.merge) else []
 
--- the blocks that `b` has left after the current part. `f` are the files. For the parts after it.
+-- the blocks that `b` has left after the current part. `f` are the files. For the parts after it. Used by `FindsBehind`.
 abbrev pub behind_part : LiveFiles → PlacedBlocks → List OutputBlock
 behind_part f b = if is_within b.ahead then beyond (split_in b) (start_of b.cuts) b.cuts.load (left f b.merge) else ahead_of b.merge b.ahead (left f b.merge)
 
@@ -129,7 +129,8 @@ abbrev pub turns_with : ℕ → Option Ahead → ℕ
 turns_with way None = way
 turns_with way (Some a) = way + 1
 
--- an upper bound on the blocks that `b` has left: the block ahead if any, and one for each turn of the merge. For the proof that the loops end.
+-- an upper bound on the blocks that `b` has left: the block ahead if any, and one for each turn of the merge. For the proof that the loops end. Used
+-- by the contract of `add_part`.
 abbrev pub turns : PlacedBlocks → ℕ
 turns b = turns_with (way b.merge) b.ahead
 

@@ -70,6 +70,6 @@ abbrev pub WritesPlan : {S T : Type 0} → Ghosts S → writing.Ghosts S → S �
 WritesPlan r f old new p result = IsToldPlan (live_files r old) p → WritesOutputs (f.names old) (f.names new) (outputs_in (live_files r old) p) result
 
 -- Unless the call failed, the result has the summary of the plan `p`, if the links' files are visible to the proof. The contract of `remux` states
--- it. `r` gives the proof's view of the files.
+-- it. `r` gives the proof's view of the files. `old` is the state of the files before the call, and `result` is what it returned.
 abbrev pub SumsUp : {S : Type 0} → Ghosts S → S → MergePlan → Result Summary RemuxEnd → Type 0
 SumsUp r old p result = IsToldPlan (live_files r old) p → IfOk result (IsSummary (live_files r old) p)

@@ -18,7 +18,7 @@ use Rattle.output_model.specs.declared.rule.CueRule.{CueRule}
 use Rattle.remuxer.specs.declared.counts.Counts.{Counts}
 
 -- the Clusters of the blocks in the last argument, which follow the Cluster in the buffer, the second argument, if there is one. `limits` are the
--- limits of a Cluster. They are the Clusters that are still to be written: a part of `Stands`.
+-- limits of a Cluster. They are the Clusters that are still to be written: a part of `Stands`. The blocks are `left`.
 abbrev pub cut_on : ClusterLimits → Option OutputCluster → List OutputBlock → List OutputCluster
 cut_on limits None left = clusters limits left
 cut_on limits (Some c) left = cut_from limits c left

@@ -36,6 +36,7 @@ abbrev pub numbers_of : List PlannedLane → List (List ℕ)
 numbers_of planned = map (λ (p : PlannedLane). p.inputs) planned
 
 -- The planned output tracks were started as `s`, in their order, at `scale` nanoseconds per tick. The contract of `StartedLanes::start` states it.
+-- `planned` are these output tracks.
 pub record AreStarted (scale : ℕ) (planned : List PlannedLane) (s : StartedLanes) : Type 0 where
   pub lanes : AllZip (IsStarted scale) planned s.lanes
   pub rules : s.rules ≡ rules_of planned

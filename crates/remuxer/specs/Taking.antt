@@ -86,7 +86,9 @@ TakesNext r f rules b old new w w' (Ok _) = (left : List OutputBlock) → StaysO
 TakesNext r f rules b old new w w' (Err _) = (left : List OutputBlock) → StaysDraft r f rules (b ∷ left) old new w
 
 -- The output in `w` got the last block of the output track `k`, counted from 0, in a part that starts at the tick `start`. It was the first that was
--- left, and `w'` has the others left. The contract of `add_lent` states it. `r` and `f` give the proof's view of the files.
+-- left, and `w'` has the others left. The contract of `add_lent` states it. `r` and `f` give the proof's view of the files. `rules` are those of the
+-- cue points, and `lane` is the output track; `old` and `new` are the states of the files before and after the call, and `result` is what it
+-- returned.
 abbrev pub TakesLent : {S T : Type 0} → Ghosts S → writing.Ghosts S → List CueRule → ℕ → ℕ → LaneSeen → S → S → BlockWriter → BlockWriter → Result T RemuxEnd → Type 0
 TakesLent r f rules start k lane old new w w' result = TakesNext r f rules (lent_in start k lane) old new w w' result
 
@@ -127,7 +129,8 @@ TakesTold r f rules start old new w w' b b' (Ok _) = TakesSome r f rules start o
 TakesTold r f rules start old new w w' b b' (Err _) = StaysDraft r f rules (left_of_part (live_files r old) start b) old new w
 
 -- Some blocks of the current part were written, as `TakesTold` requires, if the links' files are visible to the proof. The contract of `add_part`
--- states it. `r` and `f` give the proof's view of the files.
+-- states it. `r` and `f` give the proof's view of the files. `rules` are those of the cue points; `old` and `new` are the states of the files before
+-- and after the call, and `result` is what it returned.
 abbrev pub TakesPart : {S T : Type 0} → Ghosts S → writing.Ghosts S → List CueRule → S → S → BlockWriter → BlockWriter → PlacedBlocks → PlacedBlocks → Result T RemuxEnd → Type 0
 TakesPart r f rules old new w w' b b' result = IsTold (live_files r old) b.merge → TakesTold r f rules (start_of b.cuts) old new w w' b b' result
 
@@ -151,6 +154,7 @@ pub record GoesOn {S : Type 0} (r : Ghosts S) (more : ℕ) (old new : S) (b b' :
 
 -- The merge goes on from `b` to `b'`, as `GoesOn` requires. A call that fails may read each of the links' files once more. `more` is an upper bound
 -- on other bytes that the call reads. The contracts of the calls from `advance` to `write_own` state it. `r` gives the proof's view of the files.
+-- `old` and `new` are the states of the files before and after.
 abbrev pub Goes : {S T E : Type 0} → Ghosts S → ℕ → S → S → PlacedBlocks → PlacedBlocks → Result T E → Type 0
 Goes r more old new b b' (Ok _) = GoesOn r more old new b b'
 Goes r more old new b b' (Err _) = r.octets_read new ≤ r.octets_read old + due (live_files r old) b.merge + files_length (live_files r old) b.merge + more

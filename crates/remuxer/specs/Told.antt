@@ -13,14 +13,14 @@ told_at inputs told input = option_and_then (slice_get told) (position (λ numbe
 
 -- the damaged places of the input number `input` that a merge has reported, for the first output track with a link to it. The first argument has the
 -- input numbers of the links of each output track, and the second the damaged places that each link has reported. The contract of the function of the
--- same name states it.
+-- same name states it. They are `tolds`.
 abbrev pub told_of : List (List ℕ) → List (List ToldDamages) → ℕ → Option ToldDamages
 told_of [] tolds input = None
 told_of (inputs ∷ lanes) [] input = None
 told_of (inputs ∷ lanes) (told ∷ tolds) input = option_or (told_at inputs told input) (told_of lanes tolds input)
 
 -- the damaged places of the input number `input` that a merge has reported, which are none without a link to it. The first two arguments are as in
--- `told_of`. Used by `HasDamages`.
+-- `told_of`. Used by `HasDamages`. They are `lanes` and `tolds`.
 abbrev pub damages_told : List (List ℕ) → List (List ToldDamages) → ℕ → ToldDamages
 damages_told lanes tolds input = unwrap_or (told_of lanes tolds input) (told_damages [])
 
@@ -31,7 +31,7 @@ pub record AddsDamages (input : ℕ) (told : ToldDamages) (old new : Summary) : 
   pub more : new.more ≡ old.more ++ more_damages input told
 
 -- The summary `s` has the damaged places of the inputs with the numbers `inputs`, as a merge has reported them. The contract of `summary_of` states
--- it; the first two arguments are as in `told_of`.
+-- it; the first two arguments are as in `told_of`. They are `lanes` and `tolds`.
 pub record HasDamages (lanes : List (List ℕ)) (tolds : List (List ToldDamages)) (inputs : List ℕ) (s : Summary) : Type 0 where
   pub damages : s.damages ≡ flat_map (λ input. first_damages input (damages_told lanes tolds input)) inputs
   pub more : s.more ≡ flat_map (λ input. more_damages input (damages_told lanes tolds input)) inputs

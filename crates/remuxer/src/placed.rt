@@ -84,7 +84,8 @@ impl PlacedBlocks {
     }
 
     /// Returns the end of the current part as a tick of the whole output, or None if no block is left. It is the tick
-    /// of the block ahead, or the part's own start if that is later. For the Chapters of the part.
+    /// of the block ahead, or the part's own start if that is later. For the Chapters of the part. Used by
+    /// `write_output`.
     pub(crate) fn end_of_part(&self) -> Option<u64>
         requires { StandsAhead self.now }
         ensures { result ≡ option_map (max self.now.start) (first_tick (lent_ahead self.now)) }

@@ -10,7 +10,7 @@ ascend (t ∷ []) = true
 ascend (t ∷ u ∷ us) = nat_lt t u && ascend (u ∷ us)
 
 -- A time span with this start and end is valid in a list. Without an end it must be the `last` one; an end is above its start, and `others` holds for
--- it. Used by `follow`.
+-- it. Used by `follow`. The start is `start`.
 abbrev pub ends_before : ℕ → Option ℕ → Bool → (ℕ → Bool) → Bool
 ends_before start None last others = last
 ends_before start (Some e) last others = nat_lt start e && others e

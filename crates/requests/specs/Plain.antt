@@ -43,7 +43,8 @@ plain_file name = record {
   named = [];
 }
 
--- the request of `merge -o OUTPUT FILE ..`, or with the rule `split` for parts of `merge -o OUTPUT --split SPLIT FILE ..`; `files` are its inputs
+-- the request of `merge -o OUTPUT FILE ..`, or with the rule `split` for parts of `merge -o OUTPUT --split SPLIT FILE ..`; `files` are its inputs.
+-- OUTPUT is `output`.
 abbrev pub plain_words : List ℕ → Option SplitWords → List FileWords → MergeWords
 plain_words output split files = record {
   output = output;

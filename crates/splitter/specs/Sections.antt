@@ -116,6 +116,6 @@ abbrev pub parts_in : Split → List Section → List Part
 parts_in s [] = []
 parts_in s (x ∷ xs) = if is_written s x then part_of x (next_start xs) ∷ parts_in s xs else parts_in s xs
 
--- the parts of a merged list by the rule `s`. Each becomes an output of `merge`.
+-- the parts of a merged list by the rule `s`. Each becomes an output of `merge`. It has the blocks `blocks`.
 abbrev pub parts : Split → List OutputBlock → List Part
 parts s blocks = parts_in s (sections s blocks)

@@ -33,7 +33,7 @@ abbrev pub is_kept : CutsSeen → Bool
 is_kept c = keeps c.spec (start_of c * c.scale)
 
 -- The section with the last block is over at the tick `tick`, so that a cut is there if one is allowed. It has reached its size or its time. For
--- `is_cut`, when `merge` cuts its output.
+-- `is_cut`, when `merge` cuts its output. `c` is the section up to that block.
 abbrev pub is_over_at : CutsSeen → ℕ → Bool
 is_over_at c tick = is_full c.size c.load || is_over c.spec (start_of c * c.scale) (tick * c.scale)
 

@@ -5,7 +5,8 @@ use Rattle.text_formats.specs.declared.pieces.Piece.{Piece}
 use Rattle.text_formats.specs.declared.pieces.Piece.TheVariants.{Time}
 use Rattle.text_formats.specs.Pieces.{two_or_more, stamp}
 
--- a time of `ms` milliseconds as simple chapters write it, with a point before the last three digits. The contract of `time` in the code has it.
+-- a time of `ms` milliseconds as simple chapters write it, with a point before the last three digits. The contract of `time` in the code has it. Used
+-- by `put_pair`.
 abbrev pub time : ℕ → Piece
 time ms = Time POINT ms
 

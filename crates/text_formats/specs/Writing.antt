@@ -11,7 +11,8 @@ abbrev pub milliseconds : ℤ → ℕ
 milliseconds (pos t) = t / 1000000
 milliseconds (negsuc t) = 0
 
--- a time of `ms` milliseconds as SubRip writes it, with a comma before the last three digits. The contract of `time` in the code has it.
+-- a time of `ms` milliseconds as SubRip writes it, with a comma before the last three digits. The contract of `time` in the code has it. Used by
+-- `put_srt`.
 abbrev pub time : ℕ → Piece
 time ms = Time COMMA ms
 

@@ -70,7 +70,7 @@ impl Merge {
     }
 
     /// Returns the output track with the number `k`, counted from 0, for its block after a step, and for its damaged
-    /// places at the end.
+    /// places at the end. Used by the writer of an output.
     pub fn lane(&self, k: usize) -> &Lane
         requires { k < length self.now.queues }
         ensures { option_map (λ q. q.lane) (slice_get self.now.queues k) ≡ Some result.now }

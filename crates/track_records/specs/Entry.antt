@@ -26,7 +26,8 @@ children_set c =
     ++ given (flag_leaf FLAG_DEFAULT) c.flag_default ++ given (flag_leaf FLAG_FORCED) c.flag_forced ++ flags_set c.flags
 
 -- the IDs of the children that a TrackEntry loses in an output. ContentEncodings goes unless `stored` is true (the frames are taken as they are
--- stored), since stripped bytes are restored. LanguageBCP47 goes if a language is set, and may be set afterwards. `written_entry` uses it.
+-- stored), since stripped bytes are restored. LanguageBCP47 goes if a language is set, and may be set afterwards. `written_entry` uses it. With a new
+-- `language` the old LanguageBCP47 goes.
 abbrev pub ids_removed : Bool → Option (List ℕ) → List ℕ
 ids_removed stored language = (if stored then [] else (CONTENT_ENCODINGS ∷ [])) ++ (if is_none language then [] else (LANGUAGE_BCP47 ∷ []))
 

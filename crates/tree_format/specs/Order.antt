@@ -44,7 +44,7 @@ followed n None rest = record { trees = n ∷ rest.trees; damage = rest.damage }
 followed n (Some d) rest = record { trees = n ∷ []; damage = Some d }
 
 -- the Element at the offset `p` and the Elements after it in the rest `octets` of a master's content, or the damage there. `parent` is the master's
--- ID, and the last argument the Element's header. `elements_within` uses it.
+-- ID, and the last argument the Element's header. `elements_within` uses it. It is `listing`.
 abbrev pub listed_from : Listing → ℕ → ℕ → List ℕ → Result Header Damage → Listed
 listed_from listing parent p octets (Err d) = record { trees = []; damage = Some d }
 listed_from listing parent p octets (Ok h) =
@@ -61,7 +61,7 @@ elements_within (suc n) parent p (o ∷ octets) =
 
 -- the Elements of the content of a master with the ID `parent`, in sequence, each master with its contents, up to the first damage. The content
 -- begins at the offset `p`. Its length bounds their number, since each has at least one byte. Trees are defined by it. Used by `ElementsAreListed`,
--- `tree_in_order` and others.
+-- `tree_in_order` and others. The content is `octets`.
 unfoldable pub elements_in : Listing
 elements_in parent p octets = elements_within (length octets) parent p octets
 

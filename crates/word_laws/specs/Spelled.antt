@@ -74,6 +74,7 @@ change_word change.Add = codes "--add"
 change_word change.Delete = codes "--delete"
 
 -- the argument after that option: `NAME=VALUE`, or only the name of a deleted property. For `edit_words`, in the laws on canonical command lines.
+-- They are `name` and `value`.
 abbrev pub property_word : Change → List ℕ → List ℕ → List ℕ
 property_word change.Set name value = name ++ (codes "=" ++ value)
 property_word change.Add name value = name ++ (codes "=" ++ value)
