@@ -78,7 +78,7 @@ usable_causes entry = bad_encoding entry ∷ bad_scale entry ∷ []
 abbrev pub prefix_of : Node → List ℕ
 prefix_of entry = option_map_or settings_of (option_and_then (λ e. first_child CONTENT_ENCODING e) (first_child CONTENT_ENCODINGS entry)) []
 
--- the bytes to put back before each frame of the track with the TrackEntry `entry`, or the damage that makes its frames unusable. The contract of
--- `usable` has it.
+-- the bytes to put back before each frame of the track with the TrackEntry `entry`, or the damage that makes its frames unusable. It is what a track
+-- that isn't taken as it is stored is read by.
 abbrev pub usable_prefix : Node → Result (List ℕ) Damage
 usable_prefix entry = unless (first_damage (usable_causes entry)) (prefix_of entry)

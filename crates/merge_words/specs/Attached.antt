@@ -20,7 +20,7 @@ abbrev pub behind_last : ℕ → List ℕ → Option (List ℕ)
 behind_last mark [] = None
 behind_last mark (b ∷ bs) = option_or (behind_last mark bs) (if b == mark then Some bs else None)
 
--- the part of the file name `file` after its last `/`, or all of it. For the usual name of an attached file, and for its ending.
+-- the part of the file name `file` after its last `/`, or all of it. For the default name of an attached file, and for its ending.
 abbrev pub last_part : List ℕ → List ℕ
 last_part file = unwrap_or (behind_last (char "/") file) file
 
@@ -73,9 +73,9 @@ media_type_by (Some ending) = media_type_among media_types ending
 abbrev pub media_type_of : List ℕ → List ℕ
 media_type_of file = media_type_by (ending file)
 
--- the text that the option `about` among `items` gives, or `usual` without it. For `attached_file`.
+-- the text that the option `about` among `items` gives, or `otherwise` without it. For `attached_file`.
 abbrev pub text_or : Subject → List Item → List ℕ → List ℕ
-text_or about items usual = unwrap_or (option_and_then text_of (value_in about items)) usual
+text_or about items otherwise = unwrap_or (option_and_then text_of (value_in about items)) otherwise
 
 -- the attached file with the name in `name`, and the options in `items`, the items before it and after the previous attached file. For `attached`,
 -- when the command line of `merge` is read.

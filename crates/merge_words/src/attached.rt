@@ -61,23 +61,23 @@ fn attached_file(alloc: Global, items: &[Item], name: &Value) -> Result<Attached
     ensures { IfOk result (λ attached. attached ≡ spec.attached_file items.now name.now) }
 {
     let file = file_name(alloc, name)?;
-    let usual_name = last_part(file.as_str());
-    let usual_type = media_type_of(file.as_str());
+    let default_name = last_part(file.as_str());
+    let default_type = media_type_of(file.as_str());
     Ok(AttachedWords {
-        name: text_or(alloc, Subject::AttachedName, items, usual_name)?,
-        media_type: text_or(alloc, Subject::AttachedType, items, usual_type)?,
+        name: text_or(alloc, Subject::AttachedName, items, default_name)?,
+        media_type: text_or(alloc, Subject::AttachedType, items, default_type)?,
         description: text_or(alloc, Subject::AttachedNote, items, "")?,
         file,
     })
 }
 
-/// Returns the text that the option `subject` among `items` gives, or `usual` without it. For `attached_file`.
-fn text_or(alloc: Global, subject: Subject, items: &[Item], usual: &str) -> Result<Text, AllocError>
-    ensures { IfOk result (λ text. text ≡ spec.text_or subject items.now usual.now) }
+/// Returns the text that the option `subject` among `items` gives, or `otherwise` without it. For `attached_file`.
+fn text_or(alloc: Global, subject: Subject, items: &[Item], otherwise: &str) -> Result<Text, AllocError>
+    ensures { IfOk result (λ text. text ≡ spec.text_or subject items.now otherwise.now) }
 {
     match value_in(subject, items) {
         Some(Value::Text(text)) => name(alloc, text.as_str()),
-        _ => name(alloc, usual),
+        _ => name(alloc, otherwise),
     }
 }
 
