@@ -4,6 +4,7 @@ ghost use Rattle.std.specs.Prelude.{◌≡◌};
 ghost use Rattle.merge_inputs.specs.declared.input.InputEnd.TheVariants as input_end;
 
 use crate::taken::TakenTrack;
+use cluster_reader::Damages;
 use ebml_tree::Tree;
 use element_reader::{Outline, OutlineEnd};
 use ext_times::Times;
@@ -49,6 +50,17 @@ pub struct Input {
     pub shift: Option<u64>,
     /// Frame times from timestamp files; empty at first, since they are read separately
     pub times: List<TrackTimes>,
+    /// Places in Tracks, counted from 0, of tracks that are lost, if the file is salvaged
+    pub lost: List<u64>,
+    /// Damaged places, if the file is salvaged; otherwise they are met with its blocks
+    pub damages: Option<Damages>,
+}
+
+impl Input {
+    /// Checks whether the file has the track with the ID `number`, its place in Tracks counted from 0.
+    pub fn has_track(&self, number: u64) -> bool {
+        number < self.count as u64 && !self.lost.as_slice().contains(&number)
+    }
 }
 
 /// Frame times of a track from a timestamp file

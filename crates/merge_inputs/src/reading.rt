@@ -14,11 +14,13 @@ use crate::kept::{kept_files, kept_tags, kept_tree};
 use crate::select::{keep_of, keeps_attachments, keeps_chapters, unmoved};
 use crate::taken::{first_unusable, taken_of};
 use crate::title::title_of;
+use cluster_reader::Damages;
 use element_reader::Outline;
 use input_files::{begins_ebml, is_srt_name, read_entries, text_tracks};
 use meta_records::{Records, read_records, scale_of};
 use mkv_io::{Failed, FileId, List, Reads, Text};
 use requests::FileWords;
+use salvage::{Salvaged, read_salvaged};
 use std::alloc::Global;
 use std::rc::Rc;
 
@@ -43,16 +45,21 @@ fn read_file<R: Reads>(
     ensures cause { HasCause is_input_fault (R.reading_faults src.old) (R.reading_faults src.new) result }
     ensures octets { ReadsUpTo R.Reads src.old src.new (24 * file_size R.Reads src.old file) }
 {
-    let outline = Outline::read_after(alloc, src, file, held)?;
+    let Salvaged {
+        outline,
+        records,
+        lost,
+        damages,
+    } = read_head(alloc, words.salvage, held, src, file)?;
     let Records {
         info,
         tracks,
         attachments,
         chapters,
         tags,
-    } = read_records(alloc, &outline, src, file)?;
-    let count = tracks.len();
-    let taken = taken_of(alloc, words, tracks)?;
+    } = records;
+    let count = tracks.len() + lost.len();
+    let taken = taken_of(alloc, words, lost.as_slice(), tracks)?;
     if let Some(damage) = first_unusable(taken.as_slice()) {
         return Err(InputEnd::Refused(InputRefusal::Damaged(damage)));
     }
@@ -73,6 +80,29 @@ fn read_file<R: Reads>(
         keep: keep_of(words),
         shift: unmoved(words),
         times: List::new(alloc),
+        lost,
+        damages: if words.salvage { Some(damages) } else { None },
+    })
+}
+
+// Reads the open file `file` before its blocks: with `salvage` as far as it can be read.
+fn read_head<R: Reads>(
+    alloc: Global,
+    salvage: bool,
+    held: u64,
+    src: &mut R,
+    file: FileId,
+) -> Result<Salvaged, InputEnd> {
+    if salvage {
+        return Ok(read_salvaged(alloc, src, file, held)?);
+    }
+    let outline = Outline::read_after(alloc, src, file, held)?;
+    let records = read_records(alloc, &outline, src, file)?;
+    Ok(Salvaged {
+        outline,
+        records,
+        lost: List::new(alloc),
+        damages: Damages::new(alloc)?,
     })
 }
 
@@ -102,13 +132,15 @@ fn read_text<R: Reads>(
         blocks: Blocks::Entries { entries },
         title: Text::new(alloc),
         count: 1,
-        taken: taken_of(alloc, words, tracks)?,
+        taken: taken_of(alloc, words, &[], tracks)?,
         attachments: List::new(alloc),
         chapters: None,
         tags: None,
         keep: keep_of(words),
         shift: unmoved(words),
         times: List::new(alloc),
+        lost: List::new(alloc),
+        damages: None,
     })
 }
 

@@ -34,17 +34,22 @@ pub struct TakenTrack {
 pub fn taken_of(
     alloc: Global,
     words: &FileWords,
+    lost: &[u64],
     tracks: List<Track>,
 ) -> Result<List<TakenTrack>, AllocError>
     requires { All (λ t. IsEntry t.entry) tracks }
     ensures { IfOk result (λ taken. taken ≡ taken_from words.now 0 tracks) }
 {
     let mut taken = List::new(alloc);
-    for (k, track) in tracks.into_vec().into_iter().enumerate() {
-        let id = k as u64;
+    let mut id: u64 = 0;
+    for track in tracks.into_vec() {
+        while lost.contains(&id) {
+            id += 1;
+        }
         if is_taken(words, id, track.kind) {
             taken.push(taken_track(alloc, words, id, track)?)?;
         }
+        id += 1;
     }
     Ok(taken)
 }

@@ -77,5 +77,7 @@ pub fn attached_input<R: Reads>(
         },
         shift: None,
         times: List::new(alloc),
+        lost: List::new(alloc),
+        damages: None,
     })
 }

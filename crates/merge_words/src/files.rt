@@ -79,6 +79,7 @@ fn file(alloc: Global, items: &[Item], name: &Value) -> Result<FileWords, AllocE
         statistics: !stands(Subject::Statistics, items),
         chapters: !stands(Subject::Chapters, items),
         keep_encodings: stands(Subject::KeepEncodings, items),
+        salvage: stands(Subject::Salvage, items),
         syncs: marks.syncs,
         names: texts.names,
         languages: texts.languages,

@@ -35,6 +35,7 @@ pub enum Subject {
     Statistics,
     Chapters,
     KeepEncodings,
+    Salvage,
     Sync,
     TrackName,
     Language,
@@ -89,7 +90,7 @@ pub struct OptionRow(
 );
 
 #[rattlefmt::skip]
-static MERGE_OPTIONS: [OptionRow; 43] = [
+static MERGE_OPTIONS: [OptionRow; 44] = [
     OptionRow("-o", "--output", Subject::Output, Scope::Output, ValueForm::Name),
     OptionRow("-w", "--webm", Subject::Webm, Scope::Output, ValueForm::Flag),
     OptionRow("", "--title", Subject::Title, Scope::Output, ValueForm::Text),
@@ -119,6 +120,7 @@ static MERGE_OPTIONS: [OptionRow; 43] = [
     OptionRow("", "--no-statistics-tags", Subject::Statistics, Scope::File, ValueForm::Flag),
     OptionRow("", "--no-chapters", Subject::Chapters, Scope::File, ValueForm::Flag),
     OptionRow("", "--keep-encodings", Subject::KeepEncodings, Scope::File, ValueForm::Flag),
+    OptionRow("", "--salvage", Subject::Salvage, Scope::File, ValueForm::Flag),
     OptionRow("-y", "--sync", Subject::Sync, Scope::Track, ValueForm::TrackDelay),
     OptionRow("", "--track-name", Subject::TrackName, Scope::Track, ValueForm::TrackText),
     OptionRow("", "--language", Subject::Language, Scope::Track, ValueForm::TrackLanguage),

@@ -54,7 +54,7 @@ pub(crate) const INFO_PAGE: [&str; 11] = [
 
 /// The page of `merge`.
 #[rattlefmt::skip]
-pub(crate) const MERGE_PAGE: [&str; 105] = [
+pub(crate) const MERGE_PAGE: [&str; 107] = [
     "usage: mkvsuite merge -o OUT [OUTPUT OPTIONS] [FILE OPTIONS] FILE",
     "                      [[+] [FILE OPTIONS] FILE]..",
     "       mkvsuite merge -J FILE",
@@ -111,6 +111,8 @@ pub(crate) const MERGE_PAGE: [&str; 105] = [
     "    --no-chapters               copy no chapters",
     "    --keep-encodings            copy compressed or encrypted tracks as they are",
     "                                stored (default: refuse them)",
+    "    --salvage                   read a damaged file on after each damage, as far as",
+    "                                it can be read",
     "  track options:",
     "    -y, --sync ID:MS            delay by MS milliseconds; a negative MS makes",
     "                                the track earlier and drops blocks before 0",

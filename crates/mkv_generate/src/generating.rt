@@ -55,8 +55,8 @@ fn say_all<P: Report>(
         parts.summary.outputs.len(),
     );
     say(alloc, report, &line)?;
-    warn(alloc, &both.words, &both.summary, report)?;
-    warn(alloc, &parts.words, &parts.summary, report)
+    warn(alloc, &both.words, &[], &both.summary, report)?;
+    warn(alloc, &parts.words, &[], &parts.summary, report)
 }
 
 // Prints the line of `generate` for `n` pictures and the warnings of its two merges, `both` and `parts`. Returns the

@@ -43,6 +43,7 @@ fn plain_file(alloc: Global, name: &Text) -> Result<FileWords, AllocError>
         statistics: true,
         chapters: true,
         keep_encodings: false,
+        salvage: false,
         syncs: List::new(alloc),
         names: List::new(alloc),
         languages: List::new(alloc),

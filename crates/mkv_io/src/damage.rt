@@ -55,6 +55,8 @@ pub enum Kind {
     UnknownSize,
     /// A frame doesn't have the format of its codec.
     BadFrame,
+    /// The stated size of a Cluster or Segment isn't where it ends. Only a file that is salvaged has it.
+    WrongSize,
 }
 
 impl Kind {
@@ -91,6 +93,7 @@ impl Kind {
             Kind::TooMany => "TooMany",
             Kind::UnknownSize => "UnknownSize",
             Kind::BadFrame => "BadFrame",
+            Kind::WrongSize => "WrongSize",
         }
     }
 }

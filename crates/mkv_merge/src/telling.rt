@@ -12,6 +12,7 @@ ghost use Rattle.mkv_merge.specs.Refused.{attached_name, chapters_name, input_li
 ghost use Rattle.mkv_merge.specs.Told.{damage_warnings, more_warnings, warnings_from};
 
 use crate::refusal::Refusal;
+use cluster_reader::Damages;
 use input_files::TextRefusal;
 use merge_inputs::{Input, InputRefusal};
 use merge_plan::PlanRefusal;
@@ -153,7 +154,7 @@ pub fn refuse<P: Report>(
 fn say_absent_of<P: Report>(
     alloc: Global,
     file: &FileWords,
-    count: usize,
+    read: &Input,
     report: &mut P,
 ) -> Result<(), CommandEnd>
     ensures said { Says (P.lines report.old) (P.lines report.new) (lines_absent_of file.now count) result }
@@ -162,7 +163,7 @@ fn say_absent_of<P: Report>(
     let name = file.name.as_str();
     for number in file.named.as_slice() {
         let number = *number;
-        if number < count as u64 {
+        if read.has_track(number) {
             continue;
         }
         say(alloc, report, &Line::NoTrack { name, number })?;
@@ -173,10 +174,10 @@ fn say_absent_of<P: Report>(
 /// Checks whether `pair`, a pair of `--track-order`, names a track that the input number `input` doesn't have, and that
 /// no other option of `file` names. `count` is the number of the input's tracks. Numbers count from 0. For
 /// `say_absent_in` and `has_absent_in`.
-fn is_absent_in(pair: (u64, u64), input: usize, file: &FileWords, count: usize) -> bool
+fn is_absent_in(pair: (u64, u64), input: usize, file: &FileWords, read: &Input) -> bool
     ensures { result ≡ is_absent_in input file.now count pair }
 {
-    pair.0 == input as u64 && pair.1 >= count as u64 && !file.named.as_slice().contains(&pair.1)
+    pair.0 == input as u64 && !read.has_track(pair.1) && !file.named.as_slice().contains(&pair.1)
 }
 
 /// Warns of each track that the pairs `order` of `--track-order` name in the input number `input`, counted from 0, and
@@ -187,7 +188,7 @@ fn say_absent_in<P: Report>(
     order: &[(u64, u64)],
     input: usize,
     file: &FileWords,
-    count: usize,
+    read: &Input,
     report: &mut P,
 ) -> Result<(), CommandEnd>
     ensures said { Says (P.lines report.old) (P.lines report.new) (lines_absent_in order.now input file.now count) result }
@@ -195,7 +196,7 @@ fn say_absent_in<P: Report>(
 {
     let name = file.name.as_str();
     for pair in order {
-        if !is_absent_in(*pair, input, file, count) {
+        if !is_absent_in(*pair, input, file, read) {
             continue;
         }
         let number = pair.1;
@@ -218,32 +219,32 @@ pub fn say_absent<P: Report>(
 {
     let order = words.order.as_slice();
     for (k, file) in words.files.as_slice().iter().enumerate() {
-        let count = inputs[k].count;
-        say_absent_of(alloc, file, count, report)?;
-        say_absent_in(alloc, order, k, file, count, report)?;
+        let read = &inputs[k];
+        say_absent_of(alloc, file, read, report)?;
+        say_absent_in(alloc, order, k, file, read, report)?;
     }
     Ok(())
 }
 
 /// Checks whether an option of `file` names a track number, counted from 0, that isn't below `count`, the number of
 /// tracks of this input. Such a merge ends with the status of warnings. For `has_absent`.
-fn has_absent_of(file: &FileWords, count: usize) -> bool
+fn has_absent_of(file: &FileWords, read: &Input) -> bool
     ensures { result ≡ is_some_of (absent_of file.now count) }
 {
     file.named
         .as_slice()
         .iter()
-        .any(|number| *number >= count as u64)
+        .any(|number| !read.has_track(*number))
 }
 
 /// Checks whether the pairs `order` of `--track-order` name a track that the input number `input`, counted from 0, with
 /// `count` tracks doesn't have, and that no other option of `file` names. Such a merge ends with the status of warnings.
 /// For `has_absent`.
-fn has_absent_in(order: &[(u64, u64)], input: usize, file: &FileWords, count: usize) -> bool
+fn has_absent_in(order: &[(u64, u64)], input: usize, file: &FileWords, read: &Input) -> bool
     ensures { result ≡ is_some_of (absent_in order.now input file.now count) }
 {
     for pair in order {
-        if is_absent_in(*pair, input, file, count) {
+        if is_absent_in(*pair, input, file, read) {
             return true;
         }
     }
@@ -252,10 +253,10 @@ fn has_absent_in(order: &[(u64, u64)], input: usize, file: &FileWords, count: us
 
 /// Checks whether an option of `file`, or one of the pairs `order` of `--track-order`, names a track that the input number
 /// `input`, counted from 0, doesn't have. `count` is the number of its tracks. For `has_absent`.
-fn lacks_track(order: &[(u64, u64)], input: usize, file: &FileWords, count: usize) -> bool
+fn lacks_track(order: &[(u64, u64)], input: usize, file: &FileWords, read: &Input) -> bool
     ensures { result ≡ (is_some_of (absent_of file.now count) || is_some_of (absent_in order.now input file.now count)) }
 {
-    has_absent_of(file, count) || has_absent_in(order, input, file, count)
+    has_absent_of(file, read) || has_absent_in(order, input, file, read)
 }
 
 /// Checks whether an option of `words` names a track number, counted from 0, that its input doesn't have. `inputs` are
@@ -267,7 +268,7 @@ pub fn has_absent(words: &MergeWords, inputs: &[Input]) -> bool
 {
     let order = words.order.as_slice();
     for (k, file) in words.files.as_slice().iter().enumerate() {
-        if lacks_track(order, k, file, inputs[k].count) {
+        if lacks_track(order, k, file, &inputs[k]) {
             return true;
         }
     }
@@ -320,11 +321,38 @@ fn warn_more<P: Report>(
     Ok(())
 }
 
+/// Returns the damaged places of `input` if it is salvaged, and a track of it is copied.
+pub fn told_of(input: &Input) -> Option<&Damages> {
+    if input.taken.is_empty() {
+        return None;
+    }
+    input.damages.as_ref()
+}
+
+/// Prints the warnings about `damages`, the damaged places of the salvaged input `name`.
+fn warn_salvaged<P: Report>(
+    alloc: Global,
+    name: &str,
+    damages: &Damages,
+    report: &mut P,
+) -> Result<(), CommandEnd> {
+    for damage in damages.first() {
+        let damage = *damage;
+        say(alloc, report, &Line::Warned { name, damage })?;
+    }
+    let more = damages.more();
+    if more > 0 {
+        say(alloc, report, &Line::MoreDamages { name, more })?;
+    }
+    Ok(())
+}
+
 /// Prints the warnings about the damaged places in `summary` that were met while the outputs were written, input by
 /// input, in the order of `words`. `merge` calls it after the messages about outputs.
 pub fn warn<P: Report>(
     alloc: Global,
     words: &MergeWords,
+    inputs: &[Input],
     summary: &Summary,
     report: &mut P,
 ) -> Result<(), CommandEnd>
@@ -333,6 +361,9 @@ pub fn warn<P: Report>(
 {
     for (input, file) in words.files.as_slice().iter().enumerate() {
         let name = file.name.as_str();
+        if let Some(damages) = inputs.get(input).and_then(told_of) {
+            warn_salvaged(alloc, name, damages, report)?;
+        }
         warn_of(alloc, name, input, summary.damages.as_slice(), report)?;
         warn_more(alloc, name, input, summary.more.as_slice(), report)?;
     }

@@ -14,7 +14,8 @@ ghost use Rattle.mkv_merge.specs.Stages.{EndsShort, ReachesPlanned, ReadsPlanned
 ghost use Rattle.mkv_merge.specs.Told.{told_outputs, told_status, told_summary, wrote_lines};
 
 use crate::preparing::Prepared;
-use crate::telling::{has_absent, has_other_count, say_absent, say_uuids, warn};
+use crate::telling::{told_of, has_absent, has_other_count, say_absent, say_uuids, warn};
+use merge_inputs::Input;
 use mkv_io::{FileId, Files, Report};
 use mkv_lines::{CommandEnd, Line, Status, say, stop_of};
 use remux_plan::{Summary, Written};
@@ -44,6 +45,7 @@ fn say_wrote<P: Report>(
 fn tell_outputs<P: Report>(
     alloc: Global,
     words: &MergeWords,
+    inputs: &[Input],
     summary: &Summary,
     report: &mut P,
 ) -> Result<(), CommandEnd>
@@ -51,8 +53,15 @@ fn tell_outputs<P: Report>(
     ensures cause { HasSayCause (P.faults report.old) (P.faults report.new) result }
 {
     say_wrote(alloc, summary.outputs.as_slice(), report)?;
-    warn(alloc, words, summary, report)?;
+    warn(alloc, words, inputs, summary, report)?;
     Ok(())
+}
+
+// Checks whether one of the salvaged files among `inputs` has a damaged place that is warned of.
+fn has_told(inputs: &[Input]) -> bool {
+    inputs
+        .iter()
+        .any(|input| told_of(input).is_some_and(|damages| !damages.first().is_empty()))
 }
 
 /// Prints to `report` all messages after the outputs were written. They are one for each output, warnings of damage,
@@ -61,6 +70,7 @@ fn tell_outputs<P: Report>(
 fn tell<P: Report>(
     alloc: Global,
     words: &MergeWords,
+    inputs: &[Input],
     absent: bool,
     summary: &Summary,
     report: &mut P,
@@ -70,10 +80,10 @@ fn tell<P: Report>(
     ensures ordinary { IfOk result IsOrdinary }
     ensures cause { HasSayCause (P.faults report.old) (P.faults report.new) result }
 {
-    tell_outputs(alloc, words, summary, report)?;
+    tell_outputs(alloc, words, inputs, summary, report)?;
     let outputs = summary.outputs.len();
     say_uuids(alloc, words, outputs, report)?;
-    if absent || !summary.damages.is_empty() || has_other_count(words, outputs) {
+    if absent || !summary.damages.is_empty() || has_told(inputs) || has_other_count(words, outputs) {
         Ok(Status::Warned)
     } else {
         Ok(Status::Done)
@@ -110,5 +120,5 @@ pub fn write<F: Files, P: Report>(
         Ok(summary) => summary,
         Err(end) => return Err(stop_of(end)),
     };
-    tell(alloc, words, absent, &summary, report)
+    tell(alloc, words, inputs.as_slice(), absent, &summary, report)
 }

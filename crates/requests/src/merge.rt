@@ -57,6 +57,8 @@ pub struct FileWords {
     pub chapters: bool,
     /// Selected tracks whose ContentEncodings can't be undone are taken as they are stored
     pub keep_encodings: bool,
+    /// Reading goes on after damage, as far as it can
+    pub salvage: bool,
     /// Delays of tracks, in nanoseconds; a delay may be negative
     pub syncs: List<(u64, i64)>,
     pub names: List<(u64, Text)>,

@@ -1,0 +1,5 @@
+pub mod Front
+pub mod Marks
+pub mod Places
+pub mod Rules
+pub mod Salvaged

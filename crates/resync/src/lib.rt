@@ -1,0 +1,11 @@
+#![tactic(auto)]
+
+//! How a damaged file is read on: what is at a place of it, where the next Cluster begins, and the places of a walk over
+//! it. The rules, which higher crates follow, are definitions in `specs/`.
+
+mod front;
+mod marks;
+mod places;
+
+pub use marks::{CHECKSUM_LEN, FRONT_LEN, MAX_TIMESTAMP_LEN, POSITION, PREV_SIZE, REACH};
+pub use places::{SalvagePlace, SalvagedCluster, Within};
