@@ -13,6 +13,8 @@ use Rattle.mkv_schema.specs.declared.ids.TheConstants.{CHAPTER_DISPLAY}
 use Rattle.mkv_schema.specs.declared.element.Header.{Header}
 use Rattle.mkv_schema.specs.Element.{Setting, display_read, id_in, with_body, with_size, with_id, body_damage, element_in, element_at}
 use Rattle.mkv_schema.proofs.ElementLemmas.{element_in-take, element_at-front, take-take_min}
+use Rattle.elements.specs.Window.{ReadAhead, Holds, HasRange}
+use Rattle.elements.proofs.WindowLemmas.{octets_from-held}
 use Rattle.resync.specs.Front.{IsFront, IsNear}
 use Rattle.resync.specs.declared.marks.TheConstants.{FRONT_LEN, REACH}
 
@@ -77,3 +79,11 @@ with_id-short s octets total p e (Ok id) is =
 pub element_in-short : (s : Setting) (octets : List ℕ) (total p e : ℕ) → IfOk (element_in s octets total p e) (λ h. h.body ≤ p + 12)
 unfolding element_in
 element_in-short s octets total p e = with_id-short s octets total p e (id_in s octets) refl
+
+-- The bytes that a window holds from the offset `at` on are the file's first ones there.
+pub front-held : (octets bytes : List ℕ) (w : ReadAhead) (at total len : ℕ) → octets ≡ octets_from w.octets (at - w.at) len → Holds bytes w → HasRange w at len → total ≡ length bytes → len ≡ min (total - at) FRONT_LEN →
+    IsFront octets bytes at total
+front-held octets bytes w at total len read holds range whole few = record {
+  whole = whole;
+  read = read ∙ octets_from-held bytes w at len holds range ∙ ap (octets_from bytes at) few;
+}
