@@ -16,8 +16,6 @@ ghost use Rattle.block_format.specs.declared.limits.TheConstants.{MAX_REFERENCES
 use crate::filter::BlockFilter;
 use crate::next_step::next_step;
 use crate::place::Place;
-use crate::salvage::{SalvageStep, turn};
-use crate::salvage_place::SalvagePlace;
 use crate::step::Step;
 use crate::walk::Walk;
 use block_reader::{BlockBuffer, BlockHead, MAX_BLOCK_LEN};
@@ -30,8 +28,6 @@ use std::marker::Model;
 #[derive(Drop)]
 pub struct Cursor {
     walk: Walk,
-    /// Place of the walk, if the file is salvaged
-    salvage: Option<SalvagePlace>,
     blocks: u64,
     damages: u64,
 }
@@ -81,14 +77,8 @@ impl Cursor {
             block: BlockBuffer::new(alloc),
             stopped: false,
         };
-        let salvage = if outline.is_salvaged() {
-            Some(SalvagePlace::first(&outline.segment()))
-        } else {
-            None
-        };
         Ok(Cursor {
             walk,
-            salvage,
             blocks: 0,
             damages: 0,
         })
@@ -131,10 +121,7 @@ impl Cursor {
         ensures cause { HasCause is_read_fault (R.reading_faults src.old) (R.reading_faults src.new) result }
         ensures spends { SpendsIn R.Reads src.old src.new self.old self.new result }
     {
-        let step = match &mut self.salvage {
-            Some(place) => next_salvaged(&mut self.walk, place, src, takes)?,
-            None => next_step(&mut self.walk, src, takes)?,
-        };
+        let step = next_step(&mut self.walk, src, takes)?;
         self.count(step);
         Ok(step)
     }
@@ -219,21 +206,5 @@ impl Cursor {
         ensures { result ≡ self.now.stopped }
     {
         self.walk.stopped
-    }
-}
-
-// Advances `walk` to the next block of a file that is salvaged, or to the end of the walk. Its place is `place`.
-fn next_salvaged<R: Reads>(
-    walk: &mut Walk,
-    place: &mut SalvagePlace,
-    src: &mut R,
-    takes: BlockFilter,
-) -> Result<Step, ReadEnd> {
-    loop {
-        match turn(walk, place, src, takes)? {
-            Some(SalvageStep::Block) => return Ok(Step::Block),
-            Some(SalvageStep::End) => return Ok(Step::End),
-            _ => {}
-        }
     }
 }

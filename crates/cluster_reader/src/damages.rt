@@ -54,11 +54,6 @@ impl Damages {
         }
     }
 
-    /// Adds `count` damaged places to the number of those that aren't reported one by one.
-    pub fn add_more(&mut self, count: u64) {
-        self.more = self.more.saturating_add(count);
-    }
-
     /// Returns the first hundred damaged places, in file order, for the warnings of `merge` and `extract`.
     pub fn first(&self) -> &[Damage]
         ensures { result.now ≡ self.now.first }

@@ -7,7 +7,7 @@ ghost use Rattle.mkv_io.specs.Sources.{IfTold, IsLive, OnlyReads, file_size};
 ghost use Rattle.mkv_schema.specs.Outline.{Outlined};
 ghost use Rattle.mkv_schema.specs.Value.{first_of};
 
-use crate::collected::{Collected, first_of};
+use crate::collected::first_of;
 use crate::ebml::ebml_header;
 use crate::level::{Level, collect};
 use crate::outline_end::OutlineEnd;
@@ -28,7 +28,6 @@ pub struct Outline {
     segment: Header,
     level: Level,
     held: u64,
-    salvaged: bool,
 }
 
 impl Model for Outline {
@@ -102,36 +101,7 @@ impl Outline {
             segment,
             level,
             held,
-            salvaged: false,
         })
-    }
-
-    /// Reads the EBML header of `file` and the header of its Segment. The outline has no Element of level 1: the file is
-    /// read on after damage.
-    pub fn read_to_salvage<R: Reads>(alloc: Global, src: &mut R, file: FileId) -> Result<Outline, OutlineEnd> {
-        let total = src.size(file);
-        let mut window = Window::new(alloc)?;
-        let ebml = ebml_header(alloc, &mut window, src, file, total)??;
-        let from = ebml.body + known(ebml.size);
-        let segment = find_segment(&mut window, src, file, from, total)??;
-        let level = Level {
-            kept: Collected::new(alloc, 0),
-            damage: None,
-            end: total,
-        };
-        Ok(Outline {
-            total,
-            ebml,
-            segment,
-            level,
-            held: 0,
-            salvaged: true,
-        })
-    }
-
-    /// Returns the outline with `held` as the number of bytes of the file's Info, Tracks, Chapters and Tags.
-    pub fn with_held(self, held: u64) -> Outline {
-        Outline { held, ..self }
     }
 
     /// Returns the length of the file in bytes. Used by all readers of an outline.
@@ -242,10 +212,5 @@ impl HasSegment for Outline {
     /// Returns the length of the file in bytes, for a reader of level 1.
     fn total(&self) -> u64 {
         Outline::total(self)
-    }
-
-    /// Checks whether the file is read on after damage.
-    fn is_salvaged(&self) -> bool {
-        self.salvaged
     }
 }

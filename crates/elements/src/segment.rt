@@ -22,7 +22,4 @@ pub trait HasSegment {
     /// Segment. Used by `move_to`, `element` and others.
     fn total(&self) -> u64
         ensures { result ≡ total self.now };
-
-    /// Checks whether the file is read on after damage, as far as it can be. The reader of the blocks of a file asks it.
-    fn is_salvaged(&self) -> bool;
 }

@@ -1,7 +1,7 @@
 -- The names of the kinds of damage, as messages print them. They are this project's.
 use Rattle.std.specs.Prelude.{ℕ, List, codes}
 use Rattle.mkv_io.specs.declared.damage.Kind.{Kind}
-use Rattle.mkv_io.specs.declared.damage.Kind.TheVariants.{NotEbml, BadId, BadSize, TooLong, Truncated, DocType, ReadVersion, MaxLengths, NoSegment, NoTracks, BadValue, MissingChild, RepeatedTrack, Encoding, TrackScale, HeaderTooLarge, ShortBlock, BadLacing, BlockTooLarge, TimeTooLarge, NoTimestamp, TooMany, UnknownSize, BadFrame, WrongSize}
+use Rattle.mkv_io.specs.declared.damage.Kind.TheVariants.{NotEbml, BadId, BadSize, TooLong, Truncated, DocType, ReadVersion, MaxLengths, NoSegment, NoTracks, BadValue, MissingChild, RepeatedTrack, Encoding, TrackScale, HeaderTooLarge, ShortBlock, BadLacing, BlockTooLarge, TimeTooLarge, NoTimestamp, TooMany, UnknownSize, BadFrame}
 
 -- the name of a kind of damage, as messages print it. The contract of `Kind::name` promises it, and messages of damage contain it.
 unfoldable pub kind_name : Kind → List ℕ
@@ -29,4 +29,3 @@ kind_name NoTimestamp = codes "NoTimestamp"
 kind_name TooMany = codes "TooMany"
 kind_name UnknownSize = codes "UnknownSize"
 kind_name BadFrame = codes "BadFrame"
-kind_name WrongSize = codes "WrongSize"

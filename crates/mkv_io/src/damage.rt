@@ -55,8 +55,6 @@ pub enum Kind {
     UnknownSize,
     /// A frame doesn't have the format of its codec.
     BadFrame,
-    /// The stated size of a Cluster or Segment isn't where it ends. Only a file that is salvaged has it.
-    WrongSize,
 }
 
 impl Kind {
@@ -93,7 +91,6 @@ impl Kind {
             Kind::TooMany => "TooMany",
             Kind::UnknownSize => "UnknownSize",
             Kind::BadFrame => "BadFrame",
-            Kind::WrongSize => "WrongSize",
         }
     }
 }
