@@ -18,20 +18,20 @@ use mkv_schema::{Header, is_level0, is_level1};
 
 // Returns the header of the Element at the offset `place` of a file of `total` bytes, or its damage, if its parent
 // `parent` ends with the file. `octets` are the file's first bytes from the offset `at` on. Used for all marks.
-fn header(
-    octets: &[u8],
-    at: u64,
-    total: u64,
-    parent: Parent,
-    place: u64,
-) -> Result<Header, Damage>
+fn header(octets: &[u8], at: u64, total: u64, parent: Parent, place: u64) -> Result<Header, Damage>
     requires near { IsNear octets.now at total place }
     ensures exact { (bytes : List ℕ) → IsFront octets.now bytes at total → result ≡ element_at (setting_of parent) bytes place total }
     ensures placed { IfOk result (StandsAt place total) }
     ensures whole { IfOk result (IsWhole (setting_of parent) total) }
     ensures short { IfOk result (λ h. h.body ≤ place + 12) }
 {
-    read_header(&octets[(place - at) as usize..], parent, total, place, total)
+    read_header(
+        &octets[(place - at) as usize..],
+        parent,
+        total,
+        place,
+        total,
+    )
 }
 
 // Checks whether the Element with the header `header` fills space or protects its parent, in any master: a Void or a
@@ -47,7 +47,10 @@ fn is_global(header: &Header) -> bool
 fn is_block_or_hint(header: &Header) -> bool
     ensures { result ≡ is_block_or_hint header.now }
 {
-    header.id == SIMPLE_BLOCK || header.id == BLOCK_GROUP || header.id == POSITION || header.id == PREV_SIZE
+    header.id == SIMPLE_BLOCK
+        || header.id == BLOCK_GROUP
+        || header.id == POSITION
+        || header.id == PREV_SIZE
 }
 
 /// Checks whether the child of a Cluster with the header `header` is one that RFC 9559 has there, or may be in any master.

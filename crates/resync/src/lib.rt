@@ -8,7 +8,7 @@ mod marks;
 mod places;
 mod search;
 
-pub use marks::{CHECKSUM_LEN, FRONT_LEN, MAX_TIMESTAMP_LEN, POSITION, PREV_SIZE, REACH};
 pub use front::{is_cluster, is_expected, is_level_1, is_sound};
+pub use marks::{CHECKSUM_LEN, FRONT_LEN, MAX_TIMESTAMP_LEN, POSITION, PREV_SIZE, REACH};
 pub use places::{SalvagePlace, SalvagedCluster, Within};
 pub use search::next_cluster;

@@ -1,5 +1,9 @@
 //! Places of a walk that salvages a damaged file
 
+ghost use Rattle.std.specs.Prelude.{◌≡◌, ◌≤◌};
+ghost use Rattle.mkv_io.specs.declared.outside.TheConstants.{LONGEST_FILE};
+ghost use Rattle.resync.specs.Places.{at_child, at_segment, entered, opened};
+
 use ebml_numbers::Size;
 use elements::known;
 use mkv_schema::Header;
@@ -24,7 +28,9 @@ pub enum Within {
     },
     Cluster(SalvagedCluster),
     /// The walk is over; `sees_end` is true if the end of the file, or another EBML header or Segment, is there
-    Nothing { sees_end: bool },
+    Nothing {
+        sees_end: bool,
+    },
 }
 
 /// Cluster whose children are being read
@@ -46,12 +52,16 @@ pub struct SalvagedCluster {
 
 impl SalvagePlace {
     /// Returns the place of the first Element in `segment`, where a walk begins.
-    pub fn first(segment: &Header) -> SalvagePlace {
+    pub fn first(segment: &Header) -> SalvagePlace
+        ensures { result ≡ at_segment segment.now.body }
+    {
         SalvagePlace::at_level_1(segment.body)
     }
 
     /// Returns the place at level 1 at the offset `at`, with nothing known of the Elements before it.
-    pub fn at_level_1(at: u64) -> SalvagePlace {
+    pub fn at_level_1(at: u64) -> SalvagePlace
+        ensures { result ≡ at_segment at }
+    {
         SalvagePlace {
             at,
             within: Within::Segment {
@@ -62,7 +72,9 @@ impl SalvagePlace {
     }
 
     /// Returns the place at the offset `at` among the children of `cluster`.
-    pub fn inside(at: u64, cluster: SalvagedCluster) -> SalvagePlace {
+    pub fn inside(at: u64, cluster: SalvagedCluster) -> SalvagePlace
+        ensures { result ≡ at_child at cluster }
+    {
         SalvagePlace {
             at,
             within: Within::Cluster(cluster),
@@ -72,7 +84,10 @@ impl SalvagePlace {
 
 impl SalvagedCluster {
     /// Returns the Cluster with the header `header` before its first child, in a file of `total` bytes.
-    pub fn entered(header: &Header, total: u64) -> SalvagedCluster {
+    pub fn entered(header: &Header, total: u64) -> SalvagedCluster
+        requires { total ≤ LONGEST_FILE }
+        ensures { result ≡ entered total header.now }
+    {
         let end = header.body.saturating_add(known(header.size));
         let sized = header.size != Size::Unknown;
         let open = !sized || end > total;
@@ -87,7 +102,9 @@ impl SalvagedCluster {
     }
 
     /// Returns the Cluster with a stated size that was found to be wrong: its end isn't known, in a file of `total` bytes.
-    pub fn opened(self, total: u64) -> SalvagedCluster {
+    pub fn opened(self, total: u64) -> SalvagedCluster
+        ensures { result ≡ opened total self }
+    {
         SalvagedCluster {
             limit: total,
             unbounded: true,
