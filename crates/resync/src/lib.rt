@@ -4,11 +4,13 @@
 //! it. The rules, which higher crates follow, are definitions in `specs/`.
 
 mod front;
+mod look;
 mod marks;
 mod places;
 mod search;
 
 pub use front::{is_cluster, is_expected, is_level_1, is_sound};
+pub use look::is_sound_at;
 pub use marks::{CHECKSUM_LEN, FRONT_LEN, MAX_TIMESTAMP_LEN, POSITION, PREV_SIZE, REACH};
 pub use places::{SalvagePlace, SalvagedCluster, Within};
 pub use search::next_cluster;
