@@ -15,7 +15,7 @@ use Rattle.mkv_schema.specs.Element.{Setting, display_read, id_in, with_body, wi
 use Rattle.mkv_schema.proofs.ElementLemmas.{element_in-take, element_at-front, take-take_min}
 use Rattle.elements.specs.Window.{ReadAhead, Holds, HasRange}
 use Rattle.elements.proofs.WindowLemmas.{octets_from-held}
-use Rattle.resync.specs.Front.{IsFront, IsNear}
+use Rattle.resync.specs.Front.{IsFront}
 use Rattle.resync.specs.declared.marks.TheConstants.{FRONT_LEN, REACH}
 
 -- The bytes from `at` on, without the first `place - at`, are those from `place` on.

@@ -1,6 +1,6 @@
 -- What is at an offset of a damaged file: RFC 9559, sections 5.1 (Segment Element) and 5.1.3 (Cluster Element), and RFC 8794, section 11.3 (Global
 -- Elements). Which marks make a place sound is this project's rule.
-use Rattle.std.specs.Prelude.{ℕ, suc, zero, ◌-◌, ◌==◌, nat_le, Bool, true, false, ◌&&◌, ◌||◌, if◌then◌else◌, List, length, Option, Some, None, Result, Ok, Err}
+use Rattle.std.specs.Prelude.{ℕ, suc, zero, ◌-◌, ◌==◌, nat_le, Bool, false, ◌&&◌, ◌||◌, if◌then◌else◌, List, length, Option, Some, None, Result, Ok, Err}
 use Rattle.mkv_schema.specs.declared.ids.TheConstants.{CLUSTER, TIMESTAMP, SIMPLE_BLOCK, BLOCK_GROUP, VOID, CRC_32}
 use Rattle.mkv_schema.specs.declared.element.Header.{Header}
 use Rattle.mkv_schema.specs.Schema.{is_level0, is_level1}

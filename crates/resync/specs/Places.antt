@@ -1,11 +1,10 @@
 -- The places of a walk over a damaged file, and what it finds there.
-use Rattle.std.specs.Prelude.{ℕ, ◌+◌, nat_lt, Bool, true, false, not, ◌||◌, if◌then◌else◌, List, [], ◌∷◌, length, Option, Some, None}
+use Rattle.std.specs.Prelude.{ℕ, nat_lt, Bool, true, false, not, ◌||◌, if◌then◌else◌, List, [], ◌∷◌, Option, None}
 use Rattle.mkv_schema.specs.declared.element.Header.{Header}
 use Rattle.mkv_schema.specs.Element.{is_unknown, stated_end}
 use Rattle.mkv_io.specs.declared.damage.Damage.{Damage}
 use Rattle.block_format.specs.Block.{Block}
 use Rattle.resync.specs.declared.places.SalvagePlace.{SalvagePlace}
-use Rattle.resync.specs.declared.places.Within.{Within}
 use Rattle.resync.specs.declared.places.Within.TheVariants.{Segment, Cluster, Nothing}
 use Rattle.resync.specs.declared.places.SalvagedCluster.{SalvagedCluster}
 

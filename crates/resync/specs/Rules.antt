@@ -18,7 +18,7 @@ use Rattle.resync.specs.declared.places.Within.{Within}
 use Rattle.resync.specs.declared.places.Within.TheVariants.{Segment, Cluster, Nothing}
 use Rattle.resync.specs.declared.places.SalvagedCluster.{SalvagedCluster}
 use Rattle.resync.specs.Marks.{at_level_1, is_global, is_block_or_hint, begins_document, has_level_1, has_sound, next_cluster}
-use Rattle.resync.specs.Places.{Found, block, passed, damaged, Turn, goes_to, finds, at_segment, after_elements, at_child, at_end, entered, opened}
+use Rattle.resync.specs.Places.{block, passed, damaged, Turn, goes_to, finds, at_segment, after_elements, at_child, at_end, entered, opened}
 
 -- ---- after damage
 

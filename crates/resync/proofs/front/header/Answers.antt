@@ -1,4 +1,4 @@
-use Rattle.std.proofs.Common.{◌≡◌, IfOk, ◌∙◌, subst, sym, ◌≤◌, ◌+◌, ◌-◌, drop, take, length, ap}
+use Rattle.std.proofs.Common.{IfOk, ◌∙◌, subst, sym, ◌≤◌, ◌+◌, ◌-◌, drop, take, length, ap}
 use Rattle.mkv_schema.specs.Element.{element_in}
 use Rattle.mkv_schema.specs.declared.element.Header.{Header}
 use Rattle.elements.specs.Parent.{setting_of}

@@ -1,6 +1,5 @@
-use Rattle.std.proofs.Common.{rules, ◌≡◌, length, sym, ◌∙◌, ap, arith, min, ◌-◌}
+use Rattle.std.proofs.Common.{rules, ◌≡◌, length, sym, ◌∙◌, ap}
 use Rattle.mkv_io.specs.Contents.{octets_from}
-use Rattle.resync.specs.declared.marks.TheConstants.{FRONT_LEN}
 use Rattle.resync.proofs.look.is_sound_at.Goals as goal
 
 -- The bytes that were read are the first ones from there on.
