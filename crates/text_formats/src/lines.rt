@@ -38,8 +38,9 @@ pub fn next_line(rest: &[u8]) -> Option<(&[u8], &[u8])>
     }
 }
 
-/// Returns `line` without a CR at its end, if it has one. `next_line` calls it for a line that ended with LF.
-fn without_return(line: &[u8]) -> &[u8]
+/// Returns `line` without a CR at its end, if it has one. Readers of text files call it for a line that ended with LF.
+/// Used by `next_line` and others.
+pub fn without_return(line: &[u8]) -> &[u8]
     ensures { result.now ≡ strip_carriage_return line.now }
 {
     match line {
