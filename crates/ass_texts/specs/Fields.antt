@@ -1,5 +1,5 @@
 -- The fields of a line of a script (Matroska codec specification, SSA/ASS Subtitles).
-use Rattle.std.specs.Prelude.{ℕ, ◌+◌, ◌-◌, ◌*◌, ◌==◌, nat_le, Bool, List, length, take, drop, count_by, Option, Some}
+use Rattle.std.specs.Prelude.{ℕ, ◌+◌, ◌-◌, ◌*◌, ◌==◌, nat_le, Bool, if◌then◌else◌, List, length, take, drop, count_by, Option, Some, None}
 use Rattle.std.specs.List.{prefix_len, suffix_len}
 use Rattle.std.specs.Str.{str_eq_ignore_ascii_case}
 use Rattle.mkv_io.specs.Characters.{COLON, COMMA, POINT}
@@ -27,6 +27,10 @@ is_name word name = str_eq_ignore_ascii_case word name
 -- The line `line` begins with `name`, in any case of ASCII. Events and Format lines are recognized by it.
 unfoldable pub begins_with : List ℕ → List ℕ → Bool
 begins_with line name = is_name (take (length name) line) name
+
+-- the part of the line `line` after `front`, if it begins with `front`, in any case of ASCII; otherwise None. Used by `format_kind` and `event`.
+abbrev pub behind_front : List ℕ → List ℕ → Option (List ℕ)
+behind_front front line = if begins_with line front then Some (drop (length front) line) else None
 
 -- `word` has at least `count` commas, so it has more than `count` fields, the last with all further commas. Used by `event` and `frame`.
 unfoldable pub has_commas : ℕ → List ℕ → Bool

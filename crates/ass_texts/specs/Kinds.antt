@@ -1,11 +1,11 @@
 -- The Format line of a script (Matroska codec specification, SSA/ASS Subtitles).
-use Rattle.std.specs.Prelude.{ℕ, Bool, ◌||◌, if◌then◌else◌, List, drop, codes, Option, Some, None}
+use Rattle.std.specs.Prelude.{ℕ, Bool, ◌||◌, if◌then◌else◌, List, codes, Option, Some, None}
 use Rattle.mkv_io.specs.Characters.{COMMA}
 use Rattle.mkv_io.specs.Octets.{cut}
 use Rattle.mkv_io.specs.Optional.{◌>>=◌}
 use Rattle.ass_texts.specs.declared.kinds.ScriptKind.{ScriptKind}
 use Rattle.ass_texts.specs.declared.kinds.ScriptKind.TheVariants.{Ass, Ssa}
-use Rattle.ass_texts.specs.Fields.{begins_with, is_name, trimmed}
+use Rattle.ass_texts.specs.Fields.{begins_with, behind_front, is_name, trimmed}
 
 -- The line `line` begins with `Format:`, in any case. A line of the section `events` that does must be its Format line.
 abbrev pub is_format : List ℕ → Bool
@@ -44,9 +44,10 @@ kind_named name =
 -- the kind of a script with the Format line `line`: its names, separated by commas, are Layer or Marked, Start, End, Style, Name, MarginL, MarginR,
 -- MarginV, Effect and Text; otherwise None. Used by `kind_in` and `is_bad_format`.
 unfoldable pub format_kind : List ℕ → Option ScriptKind
-format_kind line = if is_format line then (do
-  first ← cut COMMA (drop 7 line)
+format_kind line = do
+  rest ← behind_front (codes "Format:") line
+  first ← cut COMMA rest
   kind ← kind_named first.0
   rest ← behind_names first.1
   rest ← behind_margins rest
-  if is_name (trimmed rest) (codes "Text") then Some kind else None) else None
+  if is_name (trimmed rest) (codes "Text") then Some kind else None

@@ -27,10 +27,18 @@ section_name line = do
 unfoldable pub section : List ℕ → Option Bool
 section line = option_map (λ name. is_name name (codes "events")) (section_name line)
 
+-- The byte `b` is a zero byte or a CR, which no line of a script has. `is_bad_text` uses it.
+abbrev pub is_control : ℕ → Bool
+is_control b = b == 0 || b == 13
+
+-- The line `line` begins with the byte order mark of UTF-8. `is_bad_text` uses it.
+abbrev pub begins_with_mark : List ℕ → Bool
+begins_with_mark line = bytes_eq (take 3 line) (0xEF ∷ 0xBB ∷ 0xBF ∷ [])
+
 -- The line `line` isn't UTF-8, has a zero byte or a CR, or begins with a byte order mark and is the first, after `number` lines. Used by `is_bad`.
 unfoldable pub is_bad_text : ℕ → List ℕ → Bool
 is_bad_text number line =
-    not (is_utf8 line) || (list_any (λ b. b == 0 || b == 13) line || (number == 0 && bytes_eq (take 3 line) (0xEF ∷ 0xBB ∷ 0xBF ∷ [])))
+    not (is_utf8 line) || (list_any is_control line || (number == 0 && begins_with_mark line))
 
 -- The line `line` starts a section `events`, and `had` is true: an earlier line started one. Used by `is_bad`.
 abbrev pub is_second_section : Bool → List ℕ → Bool

@@ -1,14 +1,15 @@
 -- A script read line by line, as the code reads it. It equals the definitions of `Script`, by `proofs/PlaceLemmas`.
-use Rattle.std.specs.Prelude.{◌≡◌, ℕ, ◌+◌, ◌<◌, false, if◌then◌else◌, List, [], ◌∷◌, ◌++◌, length, Option, Some, None}
+use Rattle.std.specs.Prelude.{◌≡◌, ℕ, ◌+◌, ◌*◌, ◌≤◌, false, if◌then◌else◌, List, [], ◌∷◌, ◌++◌, length, All, Option, Some, None}
 use Rattle.std.specs.List.{cons_option}
 use denote.Ref.{Bor}
 use Rattle.mkv_io.specs.declared.entry.Entry.{Entry}
+use Rattle.text_formats.specs.Reading.{IsEntryWithin}
 use Rattle.ass_texts.specs.declared.kinds.ScriptKind.{ScriptKind}
 use Rattle.ass_texts.specs.declared.places.Place.{Place}
 use Rattle.ass_texts.specs.declared.reading.Unsorted.{Unsorted}
 use Rattle.ass_texts.specs.Events.{Event}
 use Rattle.ass_texts.specs.Places.{next, is_bad_at, event_at}
-use Rattle.ass_texts.specs.Script.{numbered}
+use Rattle.ass_texts.specs.Script.{events, head, kind_in, numbered}
 
 -- the number, from 1, of the line `line` with the place `place` if it is bad. The contract of `take_line` has it.
 abbrev pub bad_line : Place → List ℕ → Option ℕ

@@ -5,7 +5,7 @@ ghost use Rattle.std.specs.Str.{is_utf8};
 ghost use Rattle.text_formats.specs.Times.{latest};
 ghost use Rattle.ass_texts.specs.Events as spec;
 
-use crate::fields::{begins_with, behind_blanks, clock, has_commas};
+use crate::fields::{begins_with, behind_blanks, behind_front, clock, has_commas};
 use crate::kinds::ScriptKind;
 use text_formats::{cut, text};
 
@@ -30,16 +30,14 @@ pub(crate) fn is_dialogue(line: &[u8]) -> bool
 /// line that isn't an event, has fewer than ten fields or a time of another form, or ends before it starts. Used by
 /// `judge`.
 #[tactic(auto, unfolding(crate::specs::Events::event))]
-pub(crate) fn event(kind: ScriptKind, line: &[u8]) -> Option<Event<'_>>
+pub(crate) fn read_event(kind: ScriptKind, line: &[u8]) -> Option<Event<'_>>
     requires { is_utf8 line.now ≡ true }
     ensures same { option_map spec.event_of result ≡ spec.event kind line.now }
     ensures ordered { IfSome result (λ e. (e.start ≤ e.end) × (e.end < latest)) }
     ensures short { IfSome result (λ e. length e.first.now + (length e.others.now + 12) ≤ length line.now) }
 {
-    if !is_dialogue(line) {
-        return None;
-    }
-    let (first, rest) = cut(behind_blanks(&line[9..]), b',')?;
+    let rest = behind_front(b"Dialogue:", line)?;
+    let (first, rest) = cut(behind_blanks(rest), b',')?;
     let (start, rest) = cut(rest, b',')?;
     let (end, others) = cut(rest, b',')?;
     let start = clock(start)?;

@@ -1,6 +1,6 @@
 //! The fields of a line of a script (Matroska codec specification, SSA/ASS Subtitles).
 
-ghost use Rattle.std.specs.Prelude.{◌≡◌, ◌<◌, ◌≤◌, length, reverse, IfSome, option_map};
+ghost use Rattle.std.specs.Prelude.{◌≡◌, ◌<◌, ◌≤◌, true, length, reverse, IfSome, option_map};
 ghost use Rattle.std.specs.List.{prefix_len, suffix_len};
 ghost use Rattle.text_formats.specs.Times.{is_blank, latest};
 ghost use Rattle.ass_texts.specs.Fields as spec;
@@ -40,6 +40,7 @@ pub(crate) fn behind_blanks(word: &[u8]) -> &[u8]
 
 /// Returns `word` without the spaces and tabs at both ends. Used for times, the names of a Format line, and section
 /// lines.
+#[tactic(auto, unfolding(crate::specs::Fields::trimmed))]
 pub(crate) fn trimmed(word: &[u8]) -> &[u8]
     ensures { result.now ≡ spec.trimmed word.now }
 {
@@ -55,8 +56,10 @@ pub(crate) fn is_name(word: &[u8], name: &[u8]) -> bool
 }
 
 /// Checks whether `line` begins with `name`, in any case of ASCII. Used for the lines of events and Format lines.
+#[tactic(auto, unfolding(crate::specs::Fields::begins_with))]
 pub(crate) fn begins_with(line: &[u8], name: &[u8]) -> bool
-    ensures { result ≡ spec.begins_with line.now name.now }
+    ensures is { result ≡ spec.begins_with line.now name.now }
+    ensures room { result ≡ true → length name.now ≤ length line.now }
 {
     if line.len() < name.len() {
         return false;
@@ -64,7 +67,20 @@ pub(crate) fn begins_with(line: &[u8], name: &[u8]) -> bool
     is_name(&line[..name.len()], name)
 }
 
+/// Returns `line` without the prefix `front`, in any case of ASCII, or None if it hasn't this prefix. Used for the lines
+/// of events and Format lines.
+pub(crate) fn behind_front<'a>(front: &[u8], line: &'a [u8]) -> Option<&'a [u8]>
+    ensures { option_map (λ p. p.now) result ≡ spec.behind_front front.now line.now }
+{
+    if begins_with(line, front) {
+        Some(&line[front.len()..])
+    } else {
+        None
+    }
+}
+
 /// Checks whether `word` has at least `count` commas. Used by `event` and `read_frame`.
+#[tactic(auto, unfolding(crate::specs::Fields::has_commas))]
 pub(crate) fn has_commas(count: usize, word: &[u8]) -> bool
     ensures { result ≡ spec.has_commas count word.now }
 {

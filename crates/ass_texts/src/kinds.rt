@@ -3,7 +3,7 @@
 ghost use Rattle.std.specs.Prelude.{◌≡◌, option_map};
 ghost use Rattle.ass_texts.specs.Kinds as spec;
 
-use crate::fields::{begins_with, is_name, trimmed};
+use crate::fields::{begins_with, behind_front, is_name, trimmed};
 use text_formats::cut;
 
 /// Kind of a script, by the first name of its Format line.
@@ -24,6 +24,7 @@ pub(crate) fn is_format(line: &[u8]) -> bool
 
 /// Returns the bytes after the first comma of `word`, if the field before it is `name`, in any case and with blanks
 /// around it allowed. Otherwise returns None. Used by `format_kind`.
+#[tactic(auto, unfolding(crate::specs::Kinds::behind_name))]
 fn behind_name<'a>(name: &[u8], word: &'a [u8]) -> Option<&'a [u8]>
     ensures { option_map (λ p. p.now) result ≡ spec.behind_name name.now word.now }
 {
@@ -37,6 +38,7 @@ fn behind_name<'a>(name: &[u8], word: &'a [u8]) -> Option<&'a [u8]>
 
 /// Returns the bytes after the names `Start`, `End`, `Style` and `Name` or `Actor` in `word`, or None if it has others.
 /// Used by `format_kind`.
+#[tactic(auto, unfolding(crate::specs::Kinds::behind_names))]
 fn behind_names(word: &[u8]) -> Option<&[u8]>
     ensures { option_map (λ p. p.now) result ≡ spec.behind_names word.now }
 {
@@ -54,6 +56,7 @@ fn behind_names(word: &[u8]) -> Option<&[u8]>
 
 /// Returns the bytes after the names of the three margins and `Effect` in `word`, or None if it has others. Used by
 /// `format_kind`.
+#[tactic(auto, unfolding(crate::specs::Kinds::behind_margins))]
 fn behind_margins(word: &[u8]) -> Option<&[u8]>
     ensures { option_map (λ p. p.now) result ≡ spec.behind_margins word.now }
 {
@@ -65,6 +68,7 @@ fn behind_margins(word: &[u8]) -> Option<&[u8]>
 
 /// Returns the kind that the first name `field` of a Format line stands for, or None for another name. Used by
 /// `format_kind`.
+#[tactic(auto, unfolding(crate::specs::Kinds::kind_named))]
 fn kind_named(field: &[u8]) -> Option<ScriptKind>
     ensures { result ≡ spec.kind_named field.now }
 {
@@ -80,13 +84,11 @@ fn kind_named(field: &[u8]) -> Option<ScriptKind>
 
 /// Reads the ten names of the Format line `line`, and returns the kind of its script. Returns None for a line that
 /// isn't one, and for other names. Used by `next_place` and `is_bad_format`.
+#[tactic(auto, unfolding(crate::specs::Kinds::format_kind))]
 pub(crate) fn format_kind(line: &[u8]) -> Option<ScriptKind>
     ensures { result ≡ spec.format_kind line.now }
 {
-    if !is_format(line) {
-        return None;
-    }
-    let (first, rest) = cut(&line[7..], b',')?;
+    let (first, rest) = cut(behind_front(b"Format:", line)?, b',')?;
     let kind = kind_named(first)?;
     let rest = behind_names(rest)?;
     let rest = behind_margins(rest)?;

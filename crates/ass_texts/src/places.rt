@@ -2,12 +2,13 @@
 //! Subtitles).
 
 ghost use Rattle.std.specs.Prelude.{◌≡◌, ◌+◌, ◌<◌, ◌≤◌, ◌^◌, true, false, length, MatchOption, IfSome, option_map};
+ghost use Rattle.std.specs.List.{list_any};
 ghost use Rattle.std.specs.Str.{is_utf8};
 ghost use Rattle.text_formats.specs.Times.{latest};
 ghost use Rattle.ass_texts.specs.Events.{event_of};
 ghost use Rattle.ass_texts.specs.Places as spec;
 
-use crate::events::{Event, event, is_dialogue};
+use crate::events::{Event, is_dialogue, read_event};
 use crate::fields::{is_name, trimmed};
 use crate::kinds::{ScriptKind, format_kind, is_format};
 use text_formats::{behind, cut, text};
@@ -41,7 +42,7 @@ fn section_name(line: &[u8]) -> Option<&[u8]>
 {
     let inner = behind(b"[", trimmed(line))?;
     let (name, rest) = cut(inner, b']')?;
-    if !name.is_empty() && rest.is_empty() && !name.contains(&b'[') {
+    if !name.is_empty() && rest.is_empty() && name.iter().all(|b| *b != b'[') {
         Some(name)
     } else {
         None
@@ -50,6 +51,7 @@ fn section_name(line: &[u8]) -> Option<&[u8]>
 
 /// Checks whether the section that `line` starts is `events`; returns None for a line that starts no section. Used by
 /// `next_place` and `is_second_section`.
+#[tactic(auto, unfolding(crate::specs::Places::section))]
 fn section(line: &[u8]) -> Option<bool>
     ensures { result ≡ spec.section line.now }
 {
@@ -58,6 +60,7 @@ fn section(line: &[u8]) -> Option<bool>
 }
 
 /// Returns the place of the line after `line`, which has the place `place`. Used by `judge`.
+#[tactic(auto, unfolding(crate::specs::Places::next))]
 fn next_place(place: Place, line: &[u8]) -> Place
     requires { place.number < 2 ^ 63 }
     ensures { result ≡ spec.next place line.now }
@@ -85,12 +88,25 @@ fn next_kind(kind: Option<ScriptKind>, in_events: bool, line: &[u8]) -> Option<S
 
 /// Checks whether `line`, which has the place `place`, is bad as a line of any section: it isn't UTF-8, has a zero byte
 /// or a CR, or is the first line and begins with a second byte order mark. Used by `judge`.
+#[tactic(auto, unfolding(crate::specs::Places::is_bad_text))]
 fn is_bad_text(place: Place, line: &[u8]) -> bool
     ensures { result ≡ spec.is_bad_text place.number line.now }
 {
-    text(line).is_none()
-        || line.iter().any(|b| *b == 0 || *b == b'\r')
-        || (place.number == 0 && line.starts_with(&[0xEF, 0xBB, 0xBF]))
+    text(line).is_none() || has_control(line) || (place.number == 0 && begins_with_mark(line))
+}
+
+/// Checks whether `line` has a zero byte or a CR. Used by `is_bad_text`.
+fn has_control(line: &[u8]) -> bool
+    ensures { result ≡ list_any spec.is_control line.now }
+{
+    line.iter().any(|b| *b == 0 || *b == b'\r')
+}
+
+/// Checks whether `line` begins with the byte order mark of UTF-8. Used by `is_bad_text`.
+fn begins_with_mark(line: &[u8]) -> bool
+    ensures { result ≡ spec.begins_with_mark line.now }
+{
+    line.starts_with(&[0xEF, 0xBB, 0xBF])
 }
 
 /// Checks whether `line`, which has the place `place`, starts a second section `events`. Used by `judge`.
@@ -116,6 +132,7 @@ pub(crate) struct Judged<'a> {
 }
 
 /// Reads `line`, which has the place `place`. Returns None if it is bad. Readers of scripts call it for each line.
+#[tactic(auto, unfolding(crate::specs::Places::is_bad_at, crate::specs::Places::event_at))]
 pub(crate) fn judge<'a>(place: Place, line: &'a [u8]) -> Option<Judged<'a>>
     requires { place.number < 2 ^ 63 }
     ensures good { MatchOption result (spec.is_bad_at place line.now ≡ true) (λ j. spec.is_bad_at place line.now ≡ false) }
@@ -136,7 +153,7 @@ pub(crate) fn judge<'a>(place: Place, line: &'a [u8]) -> Option<Judged<'a>>
     if !next.in_events {
         return None;
     }
-    let event = event(place.kind?, line)?;
+    let event = read_event(place.kind?, line)?;
     Some(Judged {
         next,
         event: Some(event),

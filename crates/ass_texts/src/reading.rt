@@ -38,7 +38,7 @@ pub(crate) struct Unsorted {
 
 /// Makes the entry of `event` with the number `number`. Used by `take_line`.
 fn entry_of(alloc: Global, number: u64, event: Event<'_>) -> Result<Entry, AllocError>
-    requires { event.entry.start ≤ event.entry.end }
+    requires { event.start ≤ event.end }
     ensures { IfOk result (λ e. e ≡ entry number (event_of event.entry)) }
 {
     let digits = number.to_string(alloc)?;
