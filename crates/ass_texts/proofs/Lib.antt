@@ -1,0 +1,4 @@
+pub mod CutLemmas
+pub mod LinesLemmas
+pub mod PlaceLemmas
+pub mod WritingLemmas

@@ -5,3 +5,5 @@ pub mod Events
 pub mod Places
 pub mod Script
 pub mod Walk
+pub mod Heads
+pub mod Writing

@@ -2,6 +2,7 @@
 
 ghost use Rattle.std.specs.Prelude.{◌≡◌, ◌<◌, ◌≤◌, true, length, reverse, IfSome, option_map};
 ghost use Rattle.std.specs.List.{prefix_len, suffix_len};
+ghost use Rattle.mkv_io.specs.Octets as octets;
 ghost use Rattle.text_formats.specs.Times.{is_blank, latest};
 ghost use Rattle.ass_texts.specs.Fields as spec;
 
@@ -77,6 +78,13 @@ pub(crate) fn behind_front<'a>(front: &[u8], line: &'a [u8]) -> Option<&'a [u8]>
     } else {
         None
     }
+}
+
+/// Checks whether the byte `octet` doesn't occur in `word`. Used for the names of sections.
+pub(crate) fn lacks(octet: u8, word: &[u8]) -> bool
+    ensures { result ≡ octets.lacks octet word.now }
+{
+    word.iter().all(|b| *b != octet)
 }
 
 /// Checks whether `word` has at least `count` commas. Used by `event` and `read_frame`.

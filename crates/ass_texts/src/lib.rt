@@ -5,10 +5,14 @@
 
 mod events;
 mod fields;
+mod heads;
 mod kinds;
 mod lines;
 mod places;
 mod reading;
+mod writing;
 
+pub use heads::{ScriptHead, read_head};
 pub use kinds::ScriptKind;
 pub use reading::{Script, read_script};
+pub use writing::{EventLine, event_line, put_script};

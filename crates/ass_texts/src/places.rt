@@ -9,7 +9,7 @@ ghost use Rattle.ass_texts.specs.Events.{event_of};
 ghost use Rattle.ass_texts.specs.Places as spec;
 
 use crate::events::{Event, is_dialogue, read_event};
-use crate::fields::{is_name, trimmed};
+use crate::fields::{is_name, lacks, trimmed};
 use crate::kinds::{ScriptKind, format_kind, is_format};
 use text_formats::{behind, cut, text};
 
@@ -42,7 +42,7 @@ fn section_name(line: &[u8]) -> Option<&[u8]>
 {
     let inner = behind(b"[", trimmed(line))?;
     let (name, rest) = cut(inner, b']')?;
-    if !name.is_empty() && rest.is_empty() && name.iter().all(|b| *b != b'[') {
+    if !name.is_empty() && rest.is_empty() && lacks(b'[', name) {
         Some(name)
     } else {
         None
@@ -62,7 +62,7 @@ fn section(line: &[u8]) -> Option<bool>
 /// Returns the place of the line after `line`, which has the place `place`. Used by `judge`.
 #[tactic(auto, unfolding(crate::specs::Places::next))]
 fn next_place(place: Place, line: &[u8]) -> Place
-    requires { place.number < 2 ^ 63 }
+    requires { place.number + 1 < 2 ^ 64 }
     ensures { result ≡ spec.next place line.now }
 {
     let section = section(line);
@@ -134,7 +134,7 @@ pub(crate) struct Judged<'a> {
 /// Reads `line`, which has the place `place`. Returns None if it is bad. Readers of scripts call it for each line.
 #[tactic(auto, unfolding(crate::specs::Places::is_bad_at, crate::specs::Places::event_at))]
 pub(crate) fn judge<'a>(place: Place, line: &'a [u8]) -> Option<Judged<'a>>
-    requires { place.number < 2 ^ 63 }
+    requires { place.number + 1 < 2 ^ 64 }
     ensures good { MatchOption result (spec.is_bad_at place line.now ≡ true) (λ j. spec.is_bad_at place line.now ≡ false) }
     ensures next { IfSome result (λ j. j.next ≡ spec.next place line.now) }
     ensures event { IfSome result (λ j. option_map event_of j.event ≡ spec.event_at place line.now) }

@@ -73,7 +73,7 @@ parts_size (x ∷ xs) = split (x == 10) (parts_size xs)
         let first = first_size x (lines_in xs) some in
         omega arith
 
-strip_size : (l : List ℕ) → length (strip_carriage_return l) ≤ length l
+pub strip_size : (l : List ℕ) → length (strip_carriage_return l) ≤ length l
 strip_size l = split (slice_index l (length l - 1) == 13)
   where
     split : (c : Bool) → length (cond c (take (length l - 1) l) l) ≤ length l

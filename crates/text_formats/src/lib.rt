@@ -19,5 +19,6 @@ pub use end::TextEnd;
 pub use fields::{behind, cut, digits, minutes_or_seconds, text};
 pub use lines::{behind_mark, next_line, without_return};
 pub use mkv_io::Entry;
+pub use pieces::{Piece, put_pieces};
 pub use reading::read_srt;
 pub use writing::put_srt;
