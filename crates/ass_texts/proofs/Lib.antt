@@ -1,4 +1,6 @@
 pub mod CutLemmas
+pub mod EventLemmas
+pub mod JudgeLemmas
 pub mod LinesLemmas
 pub mod PlaceLemmas
 pub mod WritingLemmas

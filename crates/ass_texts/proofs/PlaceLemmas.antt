@@ -8,7 +8,7 @@ use Rattle.ass_texts.specs.declared.kinds.ScriptKind.{ScriptKind}
 use Rattle.ass_texts.specs.declared.places.Place.{Place}
 use Rattle.ass_texts.specs.Events.{Event}
 use Rattle.ass_texts.specs.Kinds.{format_kind}
-use Rattle.ass_texts.specs.Places.{section, next, next_kind, is_bad_at, event_at, event_under, inside_after, is_bad_text, is_second_section, is_bad_format, is_bad_event}
+use Rattle.ass_texts.specs.Places.{section, next, next_kind, is_bad_at, is_bad_before, event_at, event_under, inside_after, is_bad_text, is_second_section, is_bad_format, is_bad_event}
 use Rattle.ass_texts.specs.Script.{Placed, placed, ends_in_events, has_events, kind_in, kind_at, is_bad, is_inside, event_in, first_bad, events, head}
 use Rattle.ass_texts.specs.Walk.{bad_from, events_from, head_from, head_part, kind_from}
 
@@ -50,7 +50,8 @@ placed_push before (m ∷ ms) l =
     let rest = placed_push (before ++ m ∷ []) ms l in
     let same = append_assoc before (m ∷ []) ms in
     let moved = rw same at rest in
-    ap (λ (ps : List Placed). ◌∷◌ {A = Placed} (record { before = before; line = m }) ps) moved
+    let here : Placed = record { before = before; line = m } in
+    ap (λ (ps : List Placed). here ∷ ps) moved
 
 kind_first : (o : Option ScriptKind) → slice_get (cons_option o []) 0 ≡ o
 kind_first None = refl
@@ -82,9 +83,9 @@ place_step before l =
 -- ---- a line
 
 bad_here : (before : List (List ℕ)) (l : List ℕ) → is_bad (record { before = before; line = l }) ≡ is_bad_at (place_of before) l
-unfolding is_bad_at
+unfolding is_bad_at is_bad_before
 bad_here before l =
-    ap (λ (inside : Bool). is_bad_text (length before) l || (is_second_section (has_events before) l || (is_bad_format (kind_in before) inside l || is_bad_event (kind_in before) inside l)))
+    ap (λ (inside : Bool). is_bad_text (length before) l || (is_second_section (has_events before) l || is_bad_format (kind_in before) inside l) || is_bad_event (kind_in before) inside l)
     (section_step before l)
 
 event_here : (before : List (List ℕ)) (l : List ℕ) → event_in (record { before = before; line = l }) ≡ event_at (place_of before) l

@@ -80,11 +80,14 @@ next place line =
       kind = next_kind place.kind (inside_after place line) line;
     }
 
+-- The line `line`, which has the place `place`, is bad, and not as an event. The contract of `is_bad_before` has it.
+unfoldable pub is_bad_before : Place → List ℕ → Bool
+is_bad_before place line =
+    is_bad_text place.number line || (is_second_section place.had_events line || is_bad_format place.kind (inside_after place line) line)
+
 -- The line `line`, which has the place `place`, is bad. The contract of `judge` has it.
 unfoldable pub is_bad_at : Place → List ℕ → Bool
-is_bad_at place line =
-    is_bad_text place.number line || (is_second_section place.had_events line ||
-    (is_bad_format place.kind (inside_after place line) line || is_bad_event place.kind (inside_after place line) line))
+is_bad_at place line = is_bad_before place line || is_bad_event place.kind (inside_after place line) line
 
 -- the event that the line `line` with the place `place` is, if it is one. The contract of `judge` has it.
 unfoldable pub event_at : Place → List ℕ → Option Event

@@ -53,8 +53,8 @@ event_in p = event_under (kind_in p.before) (is_inside p) p.line
 -- The line `p` is bad. `first_bad` uses it.
 abbrev pub is_bad : Placed → Bool
 is_bad p =
-    is_bad_text (length p.before) p.line || (is_second_section (has_events p.before) p.line ||
-    (is_bad_format (kind_in p.before) (is_inside p) p.line || is_bad_event (kind_in p.before) (is_inside p) p.line))
+    is_bad_text (length p.before) p.line || (is_second_section (has_events p.before) p.line || is_bad_format (kind_in p.before) (is_inside p) p.line) ||
+    is_bad_event (kind_in p.before) (is_inside p) p.line
 
 -- ---- a script
 

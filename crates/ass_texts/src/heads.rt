@@ -1,6 +1,7 @@
 //! The head of a script that an extraction writes (Matroska codec specification, SSA/ASS Subtitles).
 
-ghost use Rattle.std.specs.Prelude.{◌≡◌, ◌+◌, ◌<◌, ◌≤◌, ◌^◌, ◌++◌, ◌∷◌, [], length, take, drop, IfOk, OnErr, MatchOption};
+ghost use Rattle.std.specs.Prelude.{◌≡◌, ◌==◌, ◌+◌, ◌<◌, ◌≤◌, ◌^◌, ◌++◌, ◌∷◌, [], length, take, drop, IfOk, OnErr, MatchOption};
+ghost use Rattle.std.specs.List.{position_or_len};
 ghost use Rattle.ass_texts.specs.Heads as spec;
 ghost use Rattle.ass_texts.specs.Lines.{lines_after};
 
@@ -22,14 +23,19 @@ pub struct ScriptHead {
     pub filled: u64,
 }
 
+/// Returns the number of bytes of `private` before its first zero byte, or of all. Used by `before_zero`.
+fn len_before_zero(private: &[u8]) -> usize
+    ensures same { result ≡ position_or_len (λ b. b == 0) private.now }
+    ensures within { result ≤ length private.now }
+{
+    private.iter().take_while(|b| **b != 0).count()
+}
+
 /// Returns the bytes of `private` before its first zero byte, or all of them. Used by `read_head` and `put_script`.
 fn before_zero(private: &[u8]) -> &[u8]
     ensures { result.now ≡ spec.before_zero private.now }
 {
-    match private.iter().position(|b| *b == 0) {
-        Some(end) => &private[..end],
-        None => private,
-    }
+    &private[..len_before_zero(private)]
 }
 
 /// Counts of the lines of a head that were read.

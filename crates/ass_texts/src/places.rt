@@ -124,6 +124,18 @@ fn is_bad_format(kind: Option<ScriptKind>, in_events: bool, line: &[u8]) -> bool
     in_events && is_format(line) && (kind.is_some() || format_kind(line).is_none())
 }
 
+/// Checks whether `line`, which has the place `place` and is in the section `events` if `in_events` is true, is bad, but
+/// not as an event. Used by `judge`.
+#[tactic(auto, unfolding(crate::specs::Places::is_bad_before))]
+fn is_bad_before(place: Place, in_events: bool, line: &[u8]) -> bool
+    requires { in_events ≡ spec.inside_after place line.now }
+    ensures { result ≡ spec.is_bad_before place line.now }
+{
+    is_bad_text(place, line)
+        || is_second_section(place, line)
+        || is_bad_format(place.kind, in_events, line)
+}
+
 /// Line of a script that isn't bad: the place of the line after it, and its event, if it is one.
 #[derive(Clone, Copy)]
 pub(crate) struct Judged<'a> {
@@ -132,7 +144,7 @@ pub(crate) struct Judged<'a> {
 }
 
 /// Reads `line`, which has the place `place`. Returns None if it is bad. Readers of scripts call it for each line.
-#[tactic(auto, unfolding(crate::specs::Places::is_bad_at, crate::specs::Places::event_at))]
+#[tactic(auto, unfolding(crate::specs::Places::next))]
 pub(crate) fn judge<'a>(place: Place, line: &'a [u8]) -> Option<Judged<'a>>
     requires { place.number + 1 < 2 ^ 64 }
     ensures good { MatchOption result (spec.is_bad_at place line.now ≡ true) (λ j. spec.is_bad_at place line.now ≡ false) }
@@ -141,10 +153,7 @@ pub(crate) fn judge<'a>(place: Place, line: &'a [u8]) -> Option<Judged<'a>>
     ensures within { IfSome result (λ j. IfSome j.event (spec.IsEventWithin (length line.now))) }
 {
     let next = next_place(place, line);
-    if is_bad_text(place, line)
-        || is_second_section(place, line)
-        || is_bad_format(place.kind, next.in_events, line)
-    {
+    if is_bad_before(place, next.in_events, line) {
         return None;
     }
     if !is_dialogue(line) {
