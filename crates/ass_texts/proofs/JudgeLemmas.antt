@@ -1,5 +1,5 @@
 -- A line is bad or not, by its parts.
-use Rattle.std.proofs.Common.{◌≡◌, ℕ, Bool, true, false, not, ◌&&◌, ◌||◌, List, Option, Some, None, refl, ap}
+use Rattle.std.proofs.Common.{◌≡◌, ℕ, ◌+◌, Bool, true, false, not, ◌&&◌, ◌||◌, List, Option, Some, None, refl, ap}
 use Rattle.std.specs.Prelude.{if◌then◌else◌}
 use Rattle.std.specs.Option.{is_none}
 use Rattle.std.specs.List.{list_any}
@@ -65,3 +65,7 @@ module _ (place : Place) (line : List ℕ) where
   pub next-inside : (p : Place) (b : Bool) → p ≡ next place line → p.in_events ≡ b → inside_after place line ≡ b
   unfolding next
   next-inside p b is same = let e = ap (λ (q : Place). q.in_events) is in cc
+
+  pub next-number : (next place line).number ≡ place.number + 1
+  unfolding next
+  next-number = refl

@@ -3,4 +3,5 @@ pub mod EventLemmas
 pub mod JudgeLemmas
 pub mod LinesLemmas
 pub mod PlaceLemmas
+pub mod WalkLemmas
 pub mod WritingLemmas

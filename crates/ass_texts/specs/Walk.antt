@@ -56,7 +56,8 @@ left (Some rest) = 1 + length rest.now
 -- `new` has the entries `old`, and one more at most, which ends within 10,000 hours and isn't longer than a line of `most` bytes. The contract of
 -- `take_line` has it.
 abbrev pub IsAdded : ℕ → List Entry → List Entry → Type 0
-IsAdded most old new = (length new + length old ≤ 2 * length old + most) × (All (IsEntryWithin most) old → All (IsEntryWithin most) new)
+IsAdded most old new =
+    (length new ≤ length old + most) × ((bound : ℕ) → most ≤ bound → All (IsEntryWithin bound) old → All (IsEntryWithin bound) new)
 
 -- `s` has the kind, the head and the entries of a script with the lines `ls`, in file order and numbered from `first`, and the number of the lines.
 -- The contract of `read_lines` has it.

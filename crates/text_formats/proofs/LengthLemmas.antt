@@ -93,7 +93,7 @@ part_size [] = omega arith
 part_size (l ∷ []) = last_size l
 part_size (l ∷ m ∷ ms) = let more = part_size (m ∷ ms) in let first = strip_size l in omega arith
 
-mark_size : (w : List ℕ) → length (behind_mark w) ≤ length w
+pub mark_size : (w : List ℕ) → length (behind_mark w) ≤ length w
 mark_size w = split (bytes_eq (take 3 w) (239 ∷ 187 ∷ 191 ∷ []))
   where
     split : (c : Bool) → length (cond c (drop 3 w) w) ≤ length w
