@@ -1,5 +1,6 @@
 pub mod CutLemmas
 pub mod EventLemmas
+pub mod HeadLemmas
 pub mod JudgeLemmas
 pub mod LinesLemmas
 pub mod PlaceLemmas

@@ -1,12 +1,14 @@
 -- A script read line by line.
-use Rattle.std.proofs.Common.{◌≡◌, ℕ, ◌+◌, Bool, true, false, cond, List, [], ◌∷◌, ◌++◌, length, Option, Some, None, refl, ap, arith}
-use Rattle.std.specs.Prelude.{if◌then◌else◌}
+use Rattle.std.proofs.Common.{◌≡◌, ℕ, ◌+◌, Bool, true, false, cond, List, [], ◌∷◌, ◌++◌, length, Option, Some, None, refl, sym, ap, arith}
+use Rattle.std.specs.Prelude.{if◌then◌else◌, option_map}
+use Rattle.std.specs.Option.{is_some}
 use Rattle.std.specs.List.{cons_option}
 use Rattle.text_formats.specs.declared.end.TextEnd.{TextEnd}
 use Rattle.text_formats.specs.declared.end.TextEnd.TheVariants as text_end
 use Rattle.text_formats.specs.Ends.{Blames}
 use Rattle.ass_texts.specs.declared.places.Place.{Place}
-use Rattle.ass_texts.specs.Events.{Event}
+use Rattle.ass_texts.specs.declared.events.Event.{Event as CodeEvent}
+use Rattle.ass_texts.specs.Events.{Event, event_of}
 use Rattle.ass_texts.specs.Places.{next, is_bad_at, event_at}
 use Rattle.ass_texts.specs.Script.{numbered}
 use Rattle.ass_texts.specs.Walk.{bad_line, bad_from, events_from, head_from, head_part, kind_from}
@@ -15,6 +17,10 @@ module _ (place : Place) (l : List ℕ) (ls : List (List ℕ)) where
   pub bad_more : is_bad_at place l ≡ false → bad_from place (l ∷ ls) ≡ bad_from (next place l) ls
   unfolding bad_from
   bad_more good = rw good refl
+
+  pub bad_now : is_bad_at place l ≡ true → bad_from place (l ∷ ls) ≡ Some (place.number + 1)
+  unfolding bad_from
+  bad_now bad = rw bad refl
 
   blames_cases : (b : Bool) (n : ℕ) (rest : Option ℕ) → (if b then Some (place.number + 1) else None) ≡ Some n → (if b then Some (place.number + 1) else rest) ≡ Some n
   blames_cases true n rest is = is
@@ -52,6 +58,15 @@ events_end place = refl
 pub kind_end : (place : Place) → kind_from place [] ≡ place.kind
 unfolding kind_from
 kind_end place = refl
+
+-- A line that was read is an event, or none.
+pub event_read : (o : Option CodeEvent) (p : Option Event) → option_map event_of o ≡ p → is_some o ≡ true → (e : Event) × (p ≡ Some e)
+event_read None p is some = absurd (cc)
+event_read (Some e) p is some = (event_of e, sym is)
+
+pub no_event_read : (o : Option CodeEvent) (p : Option Event) → option_map event_of o ≡ p → is_some o ≡ false → p ≡ None
+no_event_read None p is none = sym is
+no_event_read (Some e) p is none = absurd (cc)
 
 -- The entries of one more event, and of the events after it.
 pub numbered_more : (n : ℕ) (o : Option Event) (es : List Event) → numbered n (cons_option o es) ≡ numbered n (cons_option o []) ++ numbered (n + length (numbered n (cons_option o []))) es

@@ -7,7 +7,9 @@ use Rattle.text_formats.specs.Lines.{behind_mark}
 use Rattle.ass_texts.specs.declared.heads.Counts.{Counts}
 use Rattle.ass_texts.specs.declared.heads.ScriptHead.{ScriptHead}
 use Rattle.ass_texts.specs.declared.kinds.ScriptKind.{ScriptKind}
+use Rattle.ass_texts.specs.declared.places.Place.{Place}
 use Rattle.ass_texts.specs.Lines.{lines_in}
+use Rattle.ass_texts.specs.Places.{inside_after, next}
 use Rattle.ass_texts.specs.Script.{Placed, events, first_bad, is_inside, kind_in, placed}
 
 -- the bytes of `private` before its first zero byte, or all of them. A text in Matroska ends there (RFC 8794, section 13, Terminating Elements).
@@ -67,3 +69,8 @@ abbrev pub count : Counts → ℕ → Bool → List ℕ → Counts
 count counts number inside line =
     if length line == 0 then counts
     else record { front = (if inside then number else counts.front); filled = number }
+
+-- the counts after the lines `ls`; before them they are `counts`, and the first line has the place that is given. The invariant of `read_head` has it.
+unfoldable pub counts_from : Place → Counts → List (List ℕ) → Counts
+counts_from place counts [] = counts
+counts_from place counts (l ∷ ls) = counts_from (next place l) (count counts (place.number + 1) (inside_after place l) l) ls
