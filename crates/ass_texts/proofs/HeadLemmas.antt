@@ -101,6 +101,17 @@ module _ (private : List ℕ) where
   unfolding head_of
   head-none none = kind_cases (has_no_event (head_lines private)) _ (rw none refl)
 
+  counts_cases_of : (b : Bool) (o : Option ScriptKind) (h : ScriptHead) → (if b then option_map (head_with (head_lines private)) o else None) ≡ Some h
+      → (h.front ≡ front_count (head_lines private)) × (h.filled ≡ filled_count (head_lines private))
+  counts_cases_of true (Some k) h is = let e : head_with (head_lines private) k ≡ h = cc in (ap (λ (x : ScriptHead). x.front) (sym e), ap (λ (x : ScriptHead). x.filled) (sym e))
+  counts_cases_of true None h is = absurd (cc)
+  counts_cases_of false o h is = absurd (cc)
+
+  -- The counts of a head.
+  pub head-counts : (h : ScriptHead) → head_of private ≡ Some h → (h.front ≡ front_count (head_lines private)) × (h.filled ≡ filled_count (head_lines private))
+  unfolding head_of
+  head-counts h is = counts_cases_of (has_no_event (head_lines private)) (kind_in (head_lines private)) h is
+
   -- A head.
   pub head-some : (kind : ScriptKind) (counts : Counts) → first_bad (head_lines private) ≡ None → events (head_lines private) ≡ [] → kind_in (head_lines private) ≡ Some kind
       → counts_of (head_lines private) ≡ counts → ◌≡◌ {A = Option ScriptHead} (head_of private) (Some (record { kind = kind; front = counts.front; filled = counts.filled }))

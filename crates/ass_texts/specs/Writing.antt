@@ -60,12 +60,15 @@ mark Ass first = []
 mark Ssa first =
     if length first == 0 then codes "Marked=0" else if bytes_eq (take 7 first) (codes "Marked=") then [] else codes "Marked="
 
+-- the line, with LF, of an event with the fields `f` in a script of the kind `kind`, from `start` to `end` hundredths of a second. `line_of` uses it.
+abbrev pub line_text : ScriptKind → ℕ → ℕ → Fields → List ℕ
+line_text kind start end f =
+    codes "Dialogue: " ++ (mark kind f.first ++ (f.first ++ (COMMA ∷ (stamp start ++ (stamp end ++ (f.others ++ LINE_FEED ∷ []))))))
+
 -- the line, with LF, of an event with the fields `f` in a script of the kind `kind`, from `start`, with a duration of `duration`, both in nanoseconds.
 -- `event_line` uses it.
 abbrev pub line_of : ScriptKind → ℤ → ℕ → Fields → List ℕ
-line_of kind start duration f =
-    codes "Dialogue: " ++ (mark kind f.first ++ (f.first ++ (COMMA ∷ (stamp (hundredths start) ++ (stamp (hundredths (start +ℤ pos duration)) ++
-    (f.others ++ LINE_FEED ∷ []))))))
+line_of kind start duration f = line_text kind (hundredths start) (hundredths (start +ℤ pos duration)) f
 
 -- the line of the event whose frame is `frame`, or None if it is bad; its times are in nanoseconds. The contract of `event_line` in the code has it.
 unfoldable pub event_line : ScriptKind → ℤ → ℕ → List ℕ → Option EventLine

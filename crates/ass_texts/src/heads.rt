@@ -112,8 +112,10 @@ pub(crate) fn put_lines<'a>(
     ensures err { OnErr result (take (length out.old) out.new ≡ out.old) }
 {
     let mut next = text;
-    for _ in 0..count {
+    let mut left = count;
+    while left > 0 {
         next = put_line(next, out)?;
+        left -= 1;
     }
     Ok(next)
 }

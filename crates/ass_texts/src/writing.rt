@@ -109,6 +109,30 @@ fn put_stamp(time: u64, line: &mut Bytes) -> Result<(), AllocError>
     put_pieces(&pieces, line)
 }
 
+/// Appends the line of an event with the fields `fields` in a script of the kind `kind` to `line`, from `start` to `end`
+/// hundredths of a second. Used by `event_line`. On failure a part may be appended.
+#[tactic(auto, using(crate::proofs::WritingLemmas::pieces))]
+fn put_fields(
+    kind: ScriptKind,
+    start: u64,
+    end: u64,
+    fields: Fields<'_>,
+    line: &mut Bytes,
+) -> Result<(), AllocError>
+    ensures { OnOk result (line.new ≡ line.old ++ spec.line_text kind start end (spec.seen fields.entry)) }
+{
+    let front = [
+        Piece::Octets(b"Dialogue: "),
+        Piece::Octets(mark(kind, fields.first)),
+        Piece::Octets(fields.first),
+        Piece::Octets(b","),
+    ];
+    put_pieces(&front, line)?;
+    put_stamp(start, line)?;
+    put_stamp(end, line)?;
+    put_pieces(&[Piece::Octets(fields.others), Piece::Octets(b"\n")], line)
+}
+
 /// Makes the line of the event in a script of the kind `kind` whose frame is `frame`, from `start` for `duration`
 /// nanoseconds; a time before 0 is written as 0. Returns None for a bad frame. `extract` calls it for each frame, and
 /// keeps the lines until `put_script`.
@@ -128,14 +152,7 @@ pub fn event_line(
     let first = hundredths(i128::from(start));
     let last = hundredths(i128::from(start) + i128::from(duration));
     let mut line = Bytes::new(alloc);
-    line.append(b"Dialogue: ")?;
-    line.append(mark(kind, fields.first))?;
-    line.append(fields.first)?;
-    line.append(b",")?;
-    put_stamp(first, &mut line)?;
-    put_stamp(last, &mut line)?;
-    line.append(fields.others)?;
-    line.append(b"\n")?;
+    put_fields(kind, first, last, fields, &mut line)?;
     Ok(Some(EventLine {
         order: fields.order,
         line,
@@ -158,9 +175,7 @@ pub fn put_script(
     let text = Some(head_text(private));
     let rest = put_lines(text, head.front, out)?;
     put_events(events, out)?;
-    if head.filled > head.front {
-        put_lines(rest, head.filled - head.front, out)?;
-    }
+    put_lines(rest, head.filled.saturating_sub(head.front), out)?;
     Ok(())
 }
 
@@ -171,10 +186,19 @@ fn put_events(events: List<EventLine>, out: &mut Bytes) -> Result<(), AllocError
     ensures err { OnErr result (take (length out.old) out.new ≡ out.old) }
 {
     let mut list = events.into_vec();
-    if list.sort_by_key(|event| event.order).is_err() {
-        return Err(AllocError);
+    match list.sort_by_key(|event| event.order) {
+        Err(_) => Err(AllocError),
+        Ok(()) => put_each(list.as_slice(), out),
     }
-    for event in &list {
+}
+
+/// Appends the lines of `events` to `out`, in the order that they have. Used by `put_events`. On failure a part may be
+/// appended.
+fn put_each(events: &[EventLine], out: &mut Bytes) -> Result<(), AllocError>
+    ensures ok { OnOk result (out.new ≡ out.old ++ spec.lines_of events.now) }
+    ensures err { OnErr result (take (length out.old) out.new ≡ out.old) }
+{
+    for event in events {
         out.append(event.line.as_slice())?;
     }
     Ok(())
