@@ -1,5 +1,5 @@
 -- A text that is divided at its first byte of a kind.
-use Rattle.std.proofs.Common.{◌≡◌, ℕ, ◌+◌, ◌-◌, ◌<◌, ◌≤◌, Bool, true, false, cond, nat_lt, List, [], ◌∷◌, ◌++◌, length, take, drop, map, get_or, Option, Some, None, refl, ap, subst, sym, arith, eqb-true, length-take, length-drop}
+use Rattle.std.proofs.Common.{◌≡◌, ℕ, ◌+◌, ◌<◌, Bool, true, false, cond, nat_lt, List, [], ◌∷◌, length, take, drop, map, get_or, Option, Some, None, refl, ap, subst, sym, arith, eqb-true, length-take, length-drop}
 use Rattle.std.proofs.lemmas.Grind.{common_steps}
 use Rattle.std.proofs.lemmas.Bool.Decides.{nat_tests}
 use Rattle.std.proofs.lemmas.List.Sums.{passes_at_first}
@@ -58,8 +58,7 @@ pub cut-utf8 : (c : ℕ) (w a b : List ℕ) → c < 128 → is_utf8 w ≡ true �
 cut-utf8 c w a b ascii good e =
     let h = cut-is c w a b e in
     let is = IsUtf8-from_is_utf8 w good in
-    let small : get_or w h.at 0 < 128 = (let same = h.byte in omega arith) in
-    (
+    let small : get_or w h.at 0 < 128 = (let same = h.byte in omega arith) in (
       subst (λ (x : List ℕ). is_utf8 x ≡ true) (sym h.front) (is_utf8-from_IsUtf8 _ (IsUtf8-take w h.at is (IsCharBoundary-before_ascii w h.at h.below small))),
       subst (λ (x : List ℕ). is_utf8 x ≡ true) (sym h.back) (is_utf8-from_IsUtf8 _ (IsUtf8-drop w (h.at + 1) is (IsCharBoundary-after_ascii w h.at is h.below small))),
     )

@@ -1,11 +1,11 @@
 -- The counts of the lines of a head.
-use Rattle.std.proofs.Common.{◌≡◌, ℕ, suc, ◌+◌, ◌-◌, ◌≤◌, Bool, true, false, not, ◌&&◌, cond, List, [], ◌∷◌, ◌++◌, length, Option, Some, None, refl, ap, sym, ◌∙◌, subst, arith, append-nil, append_assoc, length-append}
+use Rattle.std.proofs.Common.{◌≡◌, ℕ, suc, ◌+◌, ◌-◌, ◌≤◌, Bool, true, false, not, ◌&&◌, cond, List, [], ◌∷◌, ◌++◌, length, Option, Some, None, refl, ap, sym, arith, append-nil, append_assoc, length-append}
 use Rattle.std.proofs.lemmas.Bool.Decides.{nat_tests}
 use Rattle.std.proofs.lemmas.List.{reverse-append}
 use Rattle.std.proofs.lemmas.List.Sums.{suffix_len-le-length}
-use Rattle.std.specs.Prelude.{◌==◌, if◌then◌else◌, option_map, reverse}
+use Rattle.std.specs.Prelude.{◌==◌, if◌then◌else◌, option_map}
 use Rattle.std.specs.Option.{is_none}
-use Rattle.std.specs.List.{prefix_len, suffix_len}
+use Rattle.std.specs.List.{suffix_len}
 use Rattle.ass_texts.specs.declared.heads.Counts.{Counts}
 use Rattle.ass_texts.specs.declared.heads.ScriptHead.{ScriptHead}
 use Rattle.ass_texts.specs.declared.kinds.ScriptKind.{ScriptKind}
@@ -13,7 +13,7 @@ use Rattle.ass_texts.specs.declared.places.Place.{Place}
 use Rattle.ass_texts.specs.Events.{Event}
 use Rattle.ass_texts.specs.Heads.{count, counts_from, count_through, filled_count, front_count, has_no_event, head_lines, head_of, head_with, is_filled, is_filled_inside}
 use Rattle.ass_texts.specs.Places.{next, inside_after}
-use Rattle.ass_texts.specs.Script.{Placed, events, first_bad, is_inside, kind_in, placed}
+use Rattle.ass_texts.specs.Script.{Placed, events, first_bad, kind_in, placed}
 use Rattle.ass_texts.proofs.PlaceLemmas.{place_of, place_step, placed_push, section_step}
 
 suffix_push : {X : Type 0} (test : X → Bool) (xs : List X) (x : X) → suffix_len test (xs ++ x ∷ []) ≡ cond (test x) (1 + suffix_len test xs) 0

@@ -1,14 +1,10 @@
 -- A line is bad or not, by its parts.
-use Rattle.std.proofs.Common.{◌≡◌, ℕ, ◌+◌, Bool, true, false, not, ◌&&◌, ◌||◌, List, Option, Some, None, refl, ap}
-use Rattle.std.specs.Prelude.{if◌then◌else◌}
-use Rattle.std.specs.Option.{is_none}
-use Rattle.std.specs.List.{list_any}
+use Rattle.std.proofs.Common.{◌≡◌, ℕ, ◌+◌, Bool, true, false, not, ◌||◌, List, Option, Some, None, refl, ap}
 use Rattle.std.specs.Str.{is_utf8}
 use Rattle.ass_texts.specs.declared.kinds.ScriptKind.{ScriptKind}
 use Rattle.ass_texts.specs.declared.places.Place.{Place}
 use Rattle.ass_texts.specs.Events.{Event, event, is_dialogue}
-use Rattle.ass_texts.specs.Fields.{behind_front}
-use Rattle.ass_texts.specs.Places.{is_bad_at, is_bad_before, is_bad_text, is_bad_event, event_at, event_under, inside_after, next}
+use Rattle.ass_texts.specs.Places.{is_bad_at, is_bad_before, is_bad_text, event_at, event_under, inside_after, next}
 
 module _ (place : Place) (line : List ℕ) where
   pub bad-before : is_bad_before place line ≡ true → is_bad_at place line ≡ true

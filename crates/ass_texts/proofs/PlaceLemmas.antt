@@ -1,5 +1,5 @@
 -- What the lines before a line say of it, and the lines that follow.
-use Rattle.std.proofs.Common.{◌≡◌, ℕ, ◌+◌, Bool, true, false, not, ◌||◌, cond, List, [], ◌∷◌, ◌++◌, length, Option, Some, None, refl, ap, sym, ◌∙◌, arith, append-nil, append_assoc, length-append}
+use Rattle.std.proofs.Common.{◌≡◌, ℕ, ◌+◌, Bool, true, false, not, ◌||◌, cond, List, [], ◌∷◌, ◌++◌, length, Option, Some, None, refl, ap, ◌∙◌, append-nil, append_assoc, length-append}
 use Rattle.std.proofs.lemmas.List.Folds.{list_any-append}
 use Rattle.std.specs.Prelude.{if◌then◌else◌, slice_get, option_map}
 use Rattle.std.specs.Option.{is_some, unwrap_or}
@@ -8,8 +8,8 @@ use Rattle.ass_texts.specs.declared.kinds.ScriptKind.{ScriptKind}
 use Rattle.ass_texts.specs.declared.places.Place.{Place}
 use Rattle.ass_texts.specs.Events.{Event}
 use Rattle.ass_texts.specs.Kinds.{format_kind}
-use Rattle.ass_texts.specs.Places.{section, next, next_kind, is_bad_at, is_bad_before, event_at, event_under, inside_after, is_bad_text, is_second_section, is_bad_format, is_bad_event}
-use Rattle.ass_texts.specs.Script.{Placed, placed, ends_in_events, has_events, kind_in, kind_at, is_bad, is_inside, event_in, first_bad, events, head}
+use Rattle.ass_texts.specs.Places.{section, next, next_kind, is_bad_at, is_bad_before, event_at, event_under, is_bad_text, is_second_section, is_bad_format, is_bad_event}
+use Rattle.ass_texts.specs.Script.{Placed, placed, ends_in_events, has_events, kind_in, kind_at, is_bad, event_in, first_bad, events, head}
 use Rattle.ass_texts.specs.Walk.{bad_from, events_from, head_from, head_part, kind_from}
 
 pub filter_map-append : {X Y : Type 0} (f : X → Option Y) (xs ys : List X) → filter_map f (xs ++ ys) ≡ filter_map f xs ++ filter_map f ys

@@ -1,5 +1,5 @@
 -- The head of a script that an extraction writes (Matroska codec specification, SSA/ASS Subtitles), over the whole list of its lines.
-use Rattle.std.specs.Prelude.{ℕ, ◌+◌, ◌-◌, ◌*◌, ◌==◌, Bool, not, ◌&&◌, if◌then◌else◌, List, [], ◌∷◌, ◌++◌, length, take, drop, Option, Some, None, option_map}
+use Rattle.std.specs.Prelude.{ℕ, ◌+◌, ◌-◌, ◌==◌, Bool, not, ◌&&◌, if◌then◌else◌, List, [], ◌∷◌, ◌++◌, length, Option, None, option_map}
 use Rattle.std.specs.Option.{is_none}
 use Rattle.std.specs.List.{before_first, flat_map, suffix_len}
 use Rattle.mkv_io.specs.Characters.{LINE_FEED}

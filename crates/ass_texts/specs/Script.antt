@@ -1,5 +1,5 @@
 -- Scripts of ASS and SSA (Matroska codec specification, SSA/ASS Subtitles), over the whole list of their lines.
-use Rattle.std.specs.Prelude.{ℕ, ◌+◌, Bool, false, not, ◌||◌, if◌then◌else◌, List, [], ◌∷◌, ◌++◌, length, map, slice_get, Option, Some, None, option_map, Result, Ok, ok_or}
+use Rattle.std.specs.Prelude.{ℕ, ◌+◌, Bool, false, not, ◌||◌, if◌then◌else◌, List, [], ◌∷◌, ◌++◌, length, map, slice_get, Option, None, option_map, Result, Ok, ok_or}
 use Rattle.std.specs.Option.{is_some, unwrap_or}
 use Rattle.std.specs.List.{enumerate_from, filter, filter_map, find, flat_map, last_or, list_any}
 use Rattle.mkv_io.specs.declared.entry.Entry.{Entry}

@@ -1,5 +1,5 @@
 -- A script read line by line, as the code reads it. It equals the definitions of `Script`, by `proofs/PlaceLemmas`.
-use Rattle.std.specs.Prelude.{◌≡◌, ℕ, ◌+◌, ◌*◌, ◌≤◌, false, if◌then◌else◌, List, [], ◌∷◌, ◌++◌, length, All, Option, Some, None}
+use Rattle.std.specs.Prelude.{◌≡◌, ℕ, ◌+◌, ◌≤◌, false, if◌then◌else◌, List, [], ◌∷◌, ◌++◌, length, All, Option, Some, None}
 use Rattle.std.specs.List.{cons_option}
 use denote.Ref.{Bor}
 use Rattle.mkv_io.specs.declared.entry.Entry.{Entry}

@@ -45,7 +45,12 @@ pub(crate) fn read_event(kind: ScriptKind, line: &[u8]) -> Option<Event<'_>>
     let first = text(shown(kind, first))?;
     let others = text(others)?;
     if start <= end && has_commas(6, others.as_bytes()) {
-        Some(Event { start, end, first, others })
+        Some(Event {
+            start,
+            end,
+            first,
+            others,
+        })
     } else {
         None
     }

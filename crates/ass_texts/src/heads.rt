@@ -65,7 +65,10 @@ pub fn read_head(private: &[u8]) -> Option<ScriptHead>
     ensures { result ≡ spec.head_of private.now }
 {
     let mut place = START;
-    let mut counts = Counts { front: 0, filled: 0 };
+    let mut counts = Counts {
+        front: 0,
+        filled: 0,
+    };
     let mut next = Some(head_text(private));
     while let Some(rest) = next {
         let (line, after) = next_line(rest);

@@ -1,9 +1,8 @@
-use Rattle.std.proofs.Common.{arith, ◌≡◌, ◌≤◌, ◌+◌, ℕ, List, Some, None, true, false, sym, refl, length}
+use Rattle.std.proofs.Common.{arith, ◌≡◌, Some, false, sym, refl}
 use Rattle.std.specs.Prelude.{codes}
 use Rattle.std.specs.Str.{is_utf8}
 use Rattle.mkv_io.specs.Octets.{cut}
 use Rattle.ass_texts.specs.Fields.{behind_blanks}
-use Rattle.ass_texts.specs.Events.{shown}
 use Rattle.ass_texts.proofs.CutLemmas.{behind-front, blanks-utf8, cut-utf8, cut-length}
 use Rattle.ass_texts.proofs.EventLemmas.{shown-utf8, shown-length, blanks-length}
 use Rattle.ass_texts.proofs.events.read_event.Goals as goal

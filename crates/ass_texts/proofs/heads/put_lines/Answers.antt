@@ -1,4 +1,4 @@
-use Rattle.std.proofs.Common.{◌≡◌, ◌++◌, ◌<◌, ◌-◌, ◌∙◌, ap, sym, take, drop, length, arith, append_assoc}
+use Rattle.std.proofs.Common.{◌<◌, ◌-◌, take, drop, arith, append_assoc}
 use Rattle.ass_texts.specs.Heads.{with_feeds}
 use Rattle.ass_texts.specs.Lines.{lines_after}
 use Rattle.ass_texts.proofs.WritingLemmas.{begun_more, feeds_more, rest_more}

@@ -1,4 +1,4 @@
-use Rattle.std.proofs.Common.{◌≡◌, ◌+◌, ◌-◌, ◌≤◌, ◌<◌, ◌∷◌, ℕ, true, false, List, [], length, take, arith, Option, Some, None, subst, sym, refl, ap, ◌∙◌, length-take, MatchOption}
+use Rattle.std.proofs.Common.{◌≡◌, ◌+◌, ◌≤◌, ◌<◌, ◌∷◌, ℕ, true, false, List, [], length, arith, Option, Some, None, sym, refl, ap, ◌∙◌, length-take, MatchOption}
 use Rattle.std.specs.Prelude.{◌==◌}
 use Rattle.std.specs.Option.{is_some}
 use Rattle.std.specs.List.{position_or_len}
@@ -7,7 +7,6 @@ use Rattle.text_formats.proofs.LengthLemmas.{mark_size}
 use Rattle.ass_texts.specs.Heads.{before_zero, head_lines}
 use Rattle.ass_texts.specs.Lines.{lines_after}
 use Rattle.ass_texts.specs.Places.{next, event_at}
-use Rattle.ass_texts.specs.Script.{events, first_bad, kind_in}
 use Rattle.ass_texts.specs.Walk.{events_from, left}
 use Rattle.ass_texts.specs.declared.places.Place.{Place}
 use Rattle.ass_texts.proofs.HeadLemmas.{counts_are, counts_end, counts_more, head-bad, head-event, head-none, head-some}

@@ -1,6 +1,5 @@
-use Rattle.std.proofs.Common.{arith, ◌≡◌, ◌≤◌, Some, None, sym, ap, length}
+use Rattle.std.proofs.Common.{arith, ◌≡◌, Some, None, sym}
 use Rattle.mkv_io.specs.Octets.{cut}
-use Rattle.std.specs.Str.Lines.{strip_carriage_return}
 use Rattle.text_formats.proofs.LengthLemmas.{strip_size}
 use Rattle.ass_texts.proofs.CutLemmas.{cut-length}
 use Rattle.ass_texts.proofs.LinesLemmas.{lines_first, lines_last}

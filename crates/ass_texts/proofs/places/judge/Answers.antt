@@ -1,6 +1,6 @@
-use Rattle.std.proofs.Common.{◌≡◌, true, false, Some, None, sym}
-use Rattle.ass_texts.specs.Events.{event, event_of, is_dialogue}
-use Rattle.ass_texts.specs.Places.{is_bad_before, inside_after}
+use Rattle.std.proofs.Common.{◌≡◌, true, false, sym}
+use Rattle.ass_texts.specs.Events.{event_of, is_dialogue}
+use Rattle.ass_texts.specs.Places.{is_bad_before}
 use Rattle.ass_texts.proofs.JudgeLemmas.{bad-before, good-plain, bad-outside, bad-early, bad-fields, good-event, event-some, event-none, plain-utf8, next-inside}
 use Rattle.ass_texts.proofs.places.judge.Goals as goal
 

@@ -1,17 +1,16 @@
-use Rattle.std.proofs.Common.{◌≡◌, ◌+◌, ◌-◌, ◌≤◌, ◌<◌, ◌++◌, ◌∷◌, ℕ, List, [], length, arith, All, Option, Some, None, subst, sym, refl, append_assoc, append-nil, length-append, ap, ◌∙◌, MatchOption}
+use Rattle.std.proofs.Common.{◌≡◌, ◌+◌, ◌-◌, ◌≤◌, ◌<◌, ◌∷◌, ℕ, List, [], length, arith, Option, Some, None, subst, sym, refl, append_assoc, append-nil, length-append, ap, ◌∙◌, MatchOption}
 use Rattle.std.proofs.lemmas.List.Elements.{All-nil}
 use Rattle.std.specs.List.{cons_option}
 use denote.Ref.{Bor}
 use Rattle.text_formats.specs.Ends.{Blames}
 use Rattle.text_formats.specs.Reading.{IsEntryWithin}
-use Rattle.text_formats.specs.Lines.{behind_mark}
 use Rattle.text_formats.proofs.LengthLemmas.{mark_size}
 use Rattle.ass_texts.specs.Lines.{lines_of, lines_after}
 use Rattle.ass_texts.specs.declared.places.Place.{Place}
 use Rattle.ass_texts.proofs.JudgeLemmas.{next-number}
 use Rattle.ass_texts.specs.Places.{next, event_at}
-use Rattle.ass_texts.specs.Script.{events, first_bad, numbered}
-use Rattle.ass_texts.specs.Walk.{Takes, bad_from, events_from, head_from, head_part, left}
+use Rattle.ass_texts.specs.Script.{numbered}
+use Rattle.ass_texts.specs.Walk.{events_from, head_from, head_part, left}
 use Rattle.ass_texts.proofs.PlaceLemmas.{bad_is, events_are, head_is, kind_is}
 use Rattle.ass_texts.proofs.WalkLemmas.{bad_more, blames_now, head_more, events_more, kind_more, bad_end, head_end, events_end, kind_end, numbered_more}
 use Rattle.ass_texts.proofs.reading.read_lines.Goals as goal

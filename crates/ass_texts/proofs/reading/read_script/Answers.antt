@@ -1,4 +1,4 @@
-use Rattle.std.proofs.Common.{arith, ◌≡◌, ℕ, List, [], Option, Some, None, Result, Ok, Err, All, length, rules, refl, subst, sym, ◌≤◌}
+use Rattle.std.proofs.Common.{arith, ◌≡◌, ℕ, List, [], Some, None, Result, Ok, Err, All, length, rules, refl, subst, sym, ◌≤◌}
 use Rattle.std.proofs.lemmas.List.Sorted.{answers_always, IsNonDecreasingBy-from_sort_by_key, All-permutation}
 use Rattle.mkv_io.specs.declared.entry.Entry.{Entry}
 use Rattle.mkv_io.specs.Sorted.{sorted_by}

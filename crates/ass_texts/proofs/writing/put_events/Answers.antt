@@ -1,4 +1,4 @@
-use Rattle.std.proofs.Common.{arith, ◌≡◌, ◌++◌, ℕ, List, [], OnOk, rules, refl, subst, ap, ◌∙◌}
+use Rattle.std.proofs.Common.{◌≡◌, ◌++◌, ℕ, List, [], OnOk, rules, refl, subst, ap, ◌∙◌}
 use Rattle.std.proofs.lemmas.List.Sorted.{answers_always, IsNonDecreasingBy-from_sort_by_key}
 use Rattle.mkv_io.specs.Sorted.{sorted_by}
 use Rattle.text_formats.proofs.SortLemmas.{stable_sorted}

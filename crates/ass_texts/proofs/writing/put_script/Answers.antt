@@ -1,6 +1,5 @@
-use Rattle.std.proofs.Common.{◌≡◌, ◌++◌, ◌-◌, ℕ, List, ap, sym, ◌∙◌, take, drop, append_assoc}
+use Rattle.std.proofs.Common.{◌++◌, ◌-◌, ◌∙◌, take, drop, append_assoc}
 use Rattle.ass_texts.specs.Heads.{filled_count, front_count, head_lines, with_feeds}
-use Rattle.ass_texts.specs.Lines.{lines_after}
 use Rattle.ass_texts.specs.Writing.{by_order, lines_of, script_text}
 use Rattle.ass_texts.proofs.HeadLemmas.{head-counts}
 use Rattle.ass_texts.proofs.WritingLemmas.{drop_taken}
